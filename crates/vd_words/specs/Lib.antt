@@ -1,0 +1,4 @@
+pub mod Plain
+pub mod Step
+pub mod Model
+pub mod Own
