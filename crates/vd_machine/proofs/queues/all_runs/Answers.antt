@@ -1,0 +1,8 @@
+use Rattle.std.proofs.Common.{refl}
+use Rattle.toml.specs.View.{view}
+use Rattle.vd_machine.specs.Queues.{run_of}
+use Rattle.vd_machine.proofs.Collect.{read_start}
+use Rattle.vd_machine.proofs.queues.all_runs.Goals as goal
+
+pub loop-value-init : goal.loop-value-init
+loop-value-init c = rw c.in_ok-found.ensures.items (record { value = read_start run_of view c.args.values.now; lawful = refl })

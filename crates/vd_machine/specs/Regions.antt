@@ -1,0 +1,30 @@
+-- The regions of the guest's memory.
+use Rattle.std.specs.Prelude.{ℕ, ◌+◌, Bool, ◌&&◌, ◌==◌, nat_le, if◌then◌else◌, List, length, map, codes, Option, Some, None, option_and_then}
+use Rattle.std.specs.List.{list_all}
+use Rattle.toml.specs.Data.{Data, Members, as_table}
+use Rattle.vd_machine.specs.Lookup.{natural_at, items_at, all_some}
+use Rattle.vd_machine.specs.declared.regions.Region.{Region}
+
+-- at least one byte, and an end of at most 2 ^ 63
+abbrev pub is_region : Region → Bool
+is_region r = nat_le 1 r.size && nat_le (r.addr + r.size) 0x8000_0000_0000_0000
+
+-- there is one region, and it is lawful
+abbrev pub are_regions : List Region → Bool
+are_regions rs = (length rs == 1) && list_all is_region rs
+
+abbrev pub region_at : Option ℕ → Option ℕ → Option Region
+region_at None size = None
+region_at (Some a) None = None
+region_at (Some a) (Some n) = Some (record { addr = a; size = n })
+
+-- the region that a table writes, where its address and its size are not negative
+abbrev pub region_of : Data → Option Region
+region_of d = option_and_then (λ t. region_at (natural_at (codes "addr") t) (natural_at (codes "size") t)) (as_table d)
+
+abbrev pub if_regions : List Region → Option (List Region)
+if_regions rs = if are_regions rs then Some rs else None
+
+-- the regions in file order, where they are lawful
+unfoldable pub regions_of : Members → Option (List Region)
+regions_of ms = option_and_then if_regions (all_some (map region_of (items_at (codes "regions") ms)))
