@@ -1,1 +1,6 @@
 pub mod Shown
+pub mod Single
+pub mod Runs
+pub mod Events
+pub mod Lines
+pub mod Midway

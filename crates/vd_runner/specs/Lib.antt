@@ -1,1 +1,6 @@
 pub mod Ring
+pub mod Quiet
+pub mod Journal
+pub mod Bench
+pub mod Report
+pub mod Command

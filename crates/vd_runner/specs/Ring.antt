@@ -30,27 +30,27 @@ pub record IsImage (ws : List ℕ) (from : ℕ) (image : List ℕ) : Type 0 wher
   pub same : (i : ℕ) → i < length image → slice_index ws (from + i) ≡ slice_index image i
 
 -- the driver's image with entry and idx stored
-abbrev pub offered_image : List ℕ → ℕ → ℕ → List ℕ
+unfoldable pub offered_image : List ℕ → ℕ → ℕ → List ℕ
 offered_image a p k =
     let b : List ℕ = slice_set a ((p + 2) / 4) (set_lane16 (slice_index a ((p + 2) / 4)) ((p + 2) % 4) p) in
     slice_set b 0 (set_lane16 (slice_index b 0) 1 ((k + 1) % 65536))
 
 -- the words after an offer of chain k at place p
-abbrev pub offered_words : ℕ → List ℕ → List ℕ → ℕ → ℕ → Piece → List ℕ
+unfoldable pub offered_words : ℕ → List ℕ → List ℕ → ℕ → ℕ → Piece → List ℕ
 offered_words n ws a p k x =
     let w : ℕ = set_lane16 (slice_index a ((p + 2) / 4)) ((p + 2) % 4) p in
     let b : List ℕ = slice_set a ((p + 2) / 4) w in
     slice_set (slice_set (slice_set (slice_set ws (2 * p) x.addr) (2 * p + 1) (second x)) (avail_from n + (p + 2) / 4) w) (avail_from n + 0) (set_lane16 (slice_index b 0) 1 ((k + 1) % 65536))
 
 -- the device's image with the entry's id and length and idx stored
-abbrev pub given_image : List ℕ → ℕ → ℕ → ℕ → ℕ → List ℕ
+unfoldable pub given_image : List ℕ → ℕ → ℕ → ℕ → ℕ → List ℕ
 given_image u p k head len =
     let a : List ℕ = slice_set u p (set_lane32 (slice_index u p) 1 head) in
     let b : List ℕ = slice_set a (p + 1) (set_lane32 (slice_index a (p + 1)) 0 len) in
     slice_set b 0 (set_lane16 (slice_index b 0) 1 ((k + 1) % 65536))
 
 -- the words after a give, the k-th, in the entry's place p
-abbrev pub given_words : ℕ → List ℕ → List ℕ → ℕ → ℕ → ℕ → ℕ → List ℕ
+unfoldable pub given_words : ℕ → List ℕ → List ℕ → ℕ → ℕ → ℕ → ℕ → List ℕ
 given_words n ws u p k head len =
     let a : List ℕ = slice_set u p (set_lane32 (slice_index u p) 1 head) in
     let b : List ℕ = slice_set a (p + 1) (set_lane32 (slice_index a (p + 1)) 0 len) in
@@ -65,11 +65,11 @@ abbrev pub entry_at : ℕ → List ℕ → ℕ → ℕ
 entry_at n ws p = lane16 (slice_index ws (avail_from n + (p + 2) / 4)) ((p + 2) % 4)
 
 -- what a take finds after k chains
-abbrev pub taken_from : ℕ → List ℕ → ℕ → ℕ → Option (ℕ × Piece)
+unfoldable pub taken_from : ℕ → List ℕ → ℕ → ℕ → Option (ℕ × Piece)
 taken_from n ws p k = if lane16 (slice_index ws (avail_from n)) 1 == k % 65536 then None
     else Some (entry_at n ws p, piece_of (slice_index ws (2 * entry_at n ws p)) (slice_index ws (2 * entry_at n ws p + 1)))
 
 -- what a collect finds after k entries: id and length
-abbrev pub collected_from : ℕ → List ℕ → ℕ → ℕ → Option (ℕ × ℕ)
+unfoldable pub collected_from : ℕ → List ℕ → ℕ → ℕ → Option (ℕ × ℕ)
 collected_from n ws p k = if lane16 (slice_index ws (used_from n)) 1 == k % 65536 then None
     else Some (lane32 (slice_index ws (used_from n + p)) 1, lane32 (slice_index ws (used_from n + p + 1)) 0)

@@ -1,8 +1,9 @@
 //! The device's end of a split ring, for chains of one piece, one at a time.
-ghost use Rattle.std.specs.Prelude.{◌≡◌, ◌+◌, ◌<◌, ◌≤◌, length};
+ghost use Rattle.std.specs.Prelude.{IfOk, ◌≡◌, ◌+◌, ◌<◌, ◌≤◌, length};
 ghost use Rattle.vd_runner.specs.Ring.{width, entry_at, taken_from, given_image, given_words, next_place, piece_of};
 
 use crate::ring::{avail_from, load, next_place, put, used_from};
+use std::alloc::{AllocError, Global};
 use vd_bits::{lane16, set_lane16, set_lane32};
 use vd_model::Piece;
 use vd_words::{Op, PlainWords};
@@ -31,6 +32,21 @@ fn piece_of(address: u64, second: u64) -> Piece
 }
 
 impl FirstDevice {
+    /// The end of a fresh ring.
+    pub fn new(alloc: Global, size: u32) -> Result<FirstDevice, AllocError>
+        requires { (0 < size) × (size ≤ 1024) }
+        ensures { IfOk result (λ d. (d.size ≡ size) × (d.taken ≡ 0) × (d.place ≡ 0)) }
+    {
+        let area = Vec::from_elem(alloc, 0u64, size as usize + 1)?;
+        Ok(FirstDevice {
+            size,
+            taken: 0,
+            place: 0,
+            area,
+        })
+    }
+
+    #[tactic(auto, unfolding(crate::specs::Ring::taken_from))]
     /// Takes the next chain, where the driver's index shows one: its head and its piece.
     pub fn take(&self, words: &mut PlainWords) -> Option<(u32, Piece)>
         requires wide { length words.old.words ≡ width self.now.size }
@@ -50,6 +66,7 @@ impl FirstDevice {
         Some((head, piece_of(address, second)))
     }
 
+    #[tactic(auto, unfolding(crate::specs::Ring::given_words, crate::specs::Ring::given_image))]
     /// Gives the chain with this head back: the id and the length of its entry, and then the index, by which the driver
     /// may see it.
     pub fn give(&mut self, words: &mut PlainWords, head: u32, len: u32)

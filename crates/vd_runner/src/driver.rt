@@ -1,8 +1,9 @@
 //! The driver's end of a split ring, for chains of one piece, one at a time.
-ghost use Rattle.std.specs.Prelude.{◌≡◌, ◌+◌, ◌-◌, ◌<◌, ◌≤◌, length};
+ghost use Rattle.std.specs.Prelude.{IfOk, ◌≡◌, ◌+◌, ◌-◌, ◌<◌, ◌≤◌, length};
 ghost use Rattle.vd_runner.specs.Ring.{avail_count, width, next_place, second, offered_image, offered_words, collected_from};
 
 use crate::ring::{avail_from, load, next_place, put, store, used_from};
+use std::alloc::{AllocError, Global};
 use vd_bits::{lane16, lane32, set_lane16};
 use vd_model::Piece;
 use vd_words::{Op, PlainWords};
@@ -27,6 +28,21 @@ fn second(piece: &Piece) -> u64
 }
 
 impl FirstDriver {
+    /// The end of a fresh ring.
+    pub fn new(alloc: Global, size: u32) -> Result<FirstDriver, AllocError>
+        requires { (0 < size) × (size ≤ 1024) }
+        ensures { IfOk result (λ d. (d.size ≡ size) × (d.offered ≡ 0) × (d.place ≡ 0)) }
+    {
+        let area = Vec::from_elem(alloc, 0u64, (size as usize + 6) / 4)?;
+        Ok(FirstDriver {
+            size,
+            offered: 0,
+            place: 0,
+            area,
+        })
+    }
+
+    #[tactic(auto, unfolding(crate::specs::Ring::offered_words, crate::specs::Ring::offered_image))]
     /// Offers a chain of this piece: its descriptor, its entry, and then the index, by which the device may see it.
     pub fn offer(&mut self, words: &mut PlainWords, piece: &Piece)
         requires wide { length words.old.words ≡ width self.old.size }
@@ -51,6 +67,7 @@ impl FirstDriver {
         self.offered += 1;
     }
 
+    #[tactic(auto, unfolding(crate::specs::Ring::collected_from))]
     /// Collects the entry that the device's index shows, where it shows one: its id and length.
     pub fn collect(&mut self, words: &mut PlainWords) -> Option<(u32, u32)>
         requires wide { length words.old.words ≡ width self.old.size }
