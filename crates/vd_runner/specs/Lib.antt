@@ -4,3 +4,4 @@ pub mod Journal
 pub mod Bench
 pub mod Report
 pub mod Command
+pub mod Answers
