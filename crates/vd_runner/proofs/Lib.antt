@@ -4,3 +4,5 @@ pub mod Runs
 pub mod Events
 pub mod Lines
 pub mod Midway
+pub mod Outcome
+pub mod Queue

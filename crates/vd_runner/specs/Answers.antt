@@ -1,7 +1,7 @@
 -- What each answer of the top call says.
-use Rattle.std.specs.Prelude.{◌≡◌, ◌⊎◌, ℕ, Bool, List, [], map, length, nat_lt, if◌then◌else◌, Option, Some, None, true, false, slice_index_or}
+use Rattle.std.specs.Prelude.{◌≡◌, ◌⊎◌, ℕ, Bool, List, [], map, length, nat_lt, if◌then◌else◌, Option, Some, None, true, false, slice_index_or, ⊤}
 use Rattle.std.specs.Io.KnownBytes.{Consumes, Appends}
-use Rattle.vd_stream.specs.Causes.{ReadsWhole}
+use Rattle.vd_stream.specs.Causes.{ReadsWhole, Rose}
 use Rattle.vd_stream.specs.Sinks.{AppendsFront}
 use Rattle.vd_model.specs.declared.chain.Piece.{Piece}
 use Rattle.vd_model.specs.declared.record.Script.{Script}
@@ -32,6 +32,14 @@ pub record ReadsMachine (left rest : Option (List ℕ)) (plan : Plan) : Type 0 w
   pub read : ReadsWhole left rest bytes
   pub unbroken : first bytes ≡ None
   pub means : means bytes ≡ Some plan
+
+-- why no machine was read: by the bytes read, or where a fault came
+abbrev pub RefusesToRead : Option (List ℕ) → Option (List ℕ) → ℕ → ℕ → Status → Type 0
+RefusesToRead left rest before now (status.Machine rule) = BreaksFirst left rest rule
+RefusesToRead left rest before now (status.TooLarge n) = (n ≡ 1048577) × ReadsTooMuch left rest
+RefusesToRead left rest before now status.ReadFault = Rose before now
+RefusesToRead left rest before now status.Memory = ⊤
+RefusesToRead left rest before now _ = ⊥
 
 abbrev pub no_script : Script
 no_script = record { runs = []; commands = [] }

@@ -1,10 +1,13 @@
 //! The top call.
-ghost use Rattle.std.specs.Prelude.{◌≡◌, ℕ, List, Some, true, false, map};
+ghost use Rattle.std.specs.Prelude.{◌≡◌, ℕ, List, Some, true, false, map, IfOk, IfErr, slice_index_or, length, ◌≤◌};
+ghost use Rattle.std.specs.List.{list_all};
+ghost use Rattle.vd_machine.specs.Queues.{is_run};
+ghost use Rattle.vd_machine.specs.File.{view};
 ghost use Rattle.vd_machine.specs.declared.machine.MachineFault.{MachineFault};
 ghost use Rattle.vd_stream.specs.Causes.{Rose};
 ghost use Rattle.vd_runner.specs.Bench.{IsEmpty};
 ghost use Rattle.vd_runner.specs.Command.{is_play};
-ghost use Rattle.vd_runner.specs.Answers.{BreaksFirst, ReadsTooMuch, EndsWell, BreaksOff, has_played, expected, IsOrMemory};
+ghost use Rattle.vd_runner.specs.Answers.{RefusesToRead, ReadsMachine, BreaksFirst, ReadsTooMuch, EndsWell, BreaksOff, has_played, expected, IsOrMemory, no_script};
 
 use crate::bench::FirstBench;
 use crate::command::is_play;
@@ -35,7 +38,10 @@ pub enum Status {
 }
 
 /// The machine that the source's bytes mean, or how the command ends.
-fn read_machine<S: Source>(alloc: Global, source: &mut S) -> Result<Machine, Status> {
+fn read_machine<S: Source>(alloc: Global, source: &mut S) -> Result<Machine, Status>
+    ensures ok { IfOk result (λ m. ReadsMachine (S.left source.old) (S.left source.new) (view m)) }
+    ensures err { IfErr result (RefusesToRead (S.left source.old) (S.left source.new) (S.faults source.old) (S.faults source.new)) }
+{
     let bytes = match read_whole(alloc, source) {
         Ok(bytes) => bytes,
         Err(ReadFault::Failed) => return Err(Status::ReadFault),
@@ -47,6 +53,15 @@ fn read_machine<S: Source>(alloc: Global, source: &mut S) -> Result<Machine, Sta
         Err(ReadRefusal::Fault(rule)) => Err(Status::Machine(rule)),
         Err(ReadRefusal::Memory) => Err(Status::Memory),
     }
+}
+
+/// What the guest offers on the machine's one queue.
+fn runs_of(machine: &Machine) -> &[Run]
+    ensures value { result.now ≡ (slice_index_or machine.now.queues 0 no_script).runs }
+    ensures single { list_all is_run result.now ≡ true }
+    ensures few { length result.now ≤ 200000 }
+{
+    machine.queues.as_slice()[0].runs.as_slice()
 }
 
 /// The whole of a command: reads a machine file from the source, plays it and writes the report to the sink. The bench
@@ -83,7 +98,7 @@ pub fn vdpa<S: Source, K: Sink>(
         Ok(machine) => machine,
         Err(status) => return status,
     };
-    let runs = machine.queues.as_slice()[0].runs.as_slice();
+    let runs = runs_of(&machine);
     let Ok(mut floor) = prepare(alloc, machine.size, runs.len(), bench) else {
         return Status::Memory;
     };

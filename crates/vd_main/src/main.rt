@@ -1,0 +1,64 @@
+//! The program `vdpa`: reads a machine file from standard input, plays it and writes its report to standard output.
+#![tactic(auto)]
+
+use std::alloc::{AllocError, Global};
+use std::process::ExitCode;
+use std::{env, io};
+use vd_machine::MachineFault;
+use vd_runner::{FirstBench, Status, vdpa};
+use vd_stream::{ReadSource, WriteSink};
+
+/// The status with which the process ends.
+fn number(status: Status) -> u8 {
+    match status {
+        Status::Ok => 0,
+        Status::Usage => 1,
+        Status::Machine(_) => 2,
+        Status::ReadFault => 3,
+        Status::WriteFault => 4,
+        Status::TooLarge(_) => 6,
+        Status::Memory => 8,
+    }
+}
+
+/// Writes the text of a status that isn't Ok to standard error.
+fn explain(rt: &HostRuntime, status: Status) -> io::Result<()> {
+    match status {
+        Status::Ok => Ok(()),
+        Status::Usage => eprintln!(rt; "vdpa: usage: vdpa play"),
+        Status::Machine(MachineFault::M0) => eprintln!(rt; "vdpa: machine file breaks rule M0"),
+        Status::ReadFault => eprintln!(rt; "vdpa: read fault"),
+        Status::WriteFault => eprintln!(rt; "vdpa: write fault"),
+        Status::TooLarge(_) => eprintln!(rt; "vdpa: machine file is larger than 1048576 bytes"),
+        Status::Memory => eprintln!(rt; "vdpa: out of memory"),
+    }
+}
+
+/// Runs the command that the words mean on standard input and output.
+fn run(rt: &HostRuntime, alloc: Global) -> Result<Status, AllocError> {
+    let Ok(args) = env::args(rt) else {
+        return Ok(Status::Usage);
+    };
+    let mut texts = Vec::new(alloc);
+    for arg in args.skip(1) {
+        texts.push(arg)?;
+    }
+    let mut words = Vec::new(alloc);
+    for text in &texts {
+        words.push(text.as_str())?;
+    }
+    let mut bench = FirstBench {
+        events: Vec::new(alloc),
+        begun: Vec::new(alloc),
+        returned: Vec::new(alloc),
+    };
+    let mut source = ReadSource::new(rt.stdin());
+    let mut sink = WriteSink::new(rt.stdout());
+    Ok(vdpa(alloc, &words, &mut source, &mut sink, &mut bench))
+}
+
+fn main(rt: HostRuntime) -> ExitCode {
+    let status = run(&rt, rt.alloc()).unwrap_or(Status::Memory);
+    let _ = explain(&rt, status);
+    ExitCode::from(number(status))
+}
