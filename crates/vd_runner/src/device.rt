@@ -73,6 +73,7 @@ impl FirstDevice {
         requires wide { length words.old.words ≡ width self.old.size }
         requires few { self.old.taken + 1 < 4294967296 }
         ensures words { words.new.words ≡ given_words self.old.size words.old.words self.old.area.items self.old.place self.old.taken head len }
+        ensures kept { length words.new.words ≡ length words.old.words }
         ensures area { self.new.area.items ≡ given_image self.old.area.items self.old.place self.old.taken head len }
         ensures counts { (self.new.size ≡ self.old.size) × (self.new.taken ≡ self.old.taken + 1) × (self.new.place ≡ next_place self.old.size self.old.place) }
     {

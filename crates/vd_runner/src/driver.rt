@@ -1,6 +1,7 @@
 //! The driver's end of a split ring, for chains of one piece, one at a time.
-ghost use Rattle.std.specs.Prelude.{IfOk, ◌≡◌, ◌+◌, ◌-◌, ◌<◌, ◌≤◌, length};
-ghost use Rattle.vd_runner.specs.Ring.{avail_count, width, next_place, second, offered_image, offered_words, collected_from};
+ghost use Rattle.std.specs.Prelude.{IfOk, ◌≡◌, ◌+◌, ◌-◌, ◌*◌, ◌%◌, ◌<◌, ◌≤◌, length, slice_index, slice_set};
+ghost use Rattle.vd_bits.specs.Lanes.{set_lane16};
+ghost use Rattle.vd_runner.specs.Ring.{avail_from, avail_count, width, next_place, second, offered_image, offered_words, collected_from};
 
 use crate::ring::{avail_from, load, next_place, put, store, used_from};
 use std::alloc::{AllocError, Global};
@@ -48,6 +49,7 @@ impl FirstDriver {
         requires wide { length words.old.words ≡ width self.old.size }
         requires few { self.old.offered + 1 < 4294967296 }
         ensures words { words.new.words ≡ offered_words self.old.size words.old.words self.old.area.items self.old.place self.old.offered piece.now }
+        ensures kept { length words.new.words ≡ length words.old.words }
         ensures area { self.new.area.items ≡ offered_image self.old.area.items self.old.place self.old.offered }
         ensures counts { (self.new.size ≡ self.old.size) × (self.new.offered ≡ self.old.offered + 1) × (self.new.place ≡ self.old.place) }
     {
@@ -61,9 +63,30 @@ impl FirstDriver {
         );
         let from = avail_from(self.size);
         put(words, Op::Offer, from, &mut self.area, index, entry);
+        self.publish(words, piece);
+    }
+
+    /// Stores the index, by which the device may see the chain: all its words stand already.
+    fn publish(&mut self, words: &mut PlainWords, piece: &Piece)
+        requires wide { length words.old.words ≡ width self.old.size }
+        requires few { self.old.offered + 1 < 4294967296 }
+        requires address { slice_index words.old.words (2 * self.old.place) ≡ piece.now.addr }
+        requires second { slice_index words.old.words (2 * self.old.place + 1) ≡ second piece.now }
+        ensures words { words.new.words ≡ slice_set words.old.words (avail_from self.old.size + 0) (set_lane16 (slice_index self.old.area.items 0) 1 ((self.old.offered + 1) % 65536)) }
+        ensures area { self.new.area.items ≡ slice_set self.old.area.items 0 (set_lane16 (slice_index self.old.area.items 0) 1 ((self.old.offered + 1) % 65536)) }
+        ensures counts { (self.new.size ≡ self.old.size) × (self.new.offered ≡ self.old.offered + 1) × (self.new.place ≡ self.old.place) }
+    {
+        let _ = piece;
         let next = ((self.offered + 1) % 65536) as u16;
         let head = set_lane16(self.area[0], 1, next);
-        put(words, Op::Offer, from, &mut self.area, 0, head);
+        put(
+            words,
+            Op::Offer,
+            avail_from(self.size),
+            &mut self.area,
+            0,
+            head,
+        );
         self.offered += 1;
     }
 

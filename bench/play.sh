@@ -1,0 +1,39 @@
+#!/bin/sh
+# Times `vdpa play` on machine files with many chains, beside a plain Rust program that moves as many chains over the same
+# words, one access a step (baseline.rs, row `stepped plain split`). Medians of five runs, interleaved. It tests nothing.
+#
+# usage: bench/play.sh        (after `rt run` or `rt ci` has left the proved program)
+set -eu
+cd "$(dirname "$0")"
+program=../crates/vd_main/out/vd_main
+[ -x "$program" ] || { echo "bench/play.sh: run 'rt run' in crates/vd_main first" >&2; exit 1; }
+work=$(mktemp -d)
+trap 'rm -rf "$work"' EXIT
+rustc -O baseline.rs -o "$work/baseline" 2>"$work/rustc" || { cat "$work/rustc" >&2; exit 1; }
+
+# A machine file of so many chains of one piece; a chain's text takes seven bytes.
+write_file() {
+    printf 'layout = "split"\nsize = 256\nregions = [{ addr = 0, size = 4096 }]\nqueues = [['
+    awk -v n="$1" 'BEGIN { for (i = 0; i < n; i++) printf "%s\"r%d+1\"", (i ? "," : ""), i % 10 }'
+    printf ']]\n'
+}
+
+now() { date +%s%N; }
+median() { sort -n | sed -n 3p; }
+
+echo "# $(uname -m), $(grep -m 1 'model name' /proc/cpuinfo | cut -d: -f2-), load $(cut -d' ' -f1-3 /proc/loadavg), $(date -u +%Y-%m-%d)"
+for chains in 50000 100000 149780; do
+    write_file "$chains" >"$work/file"
+    : >"$work/play"
+    : >"$work/base"
+    for round in 1 2 3 4 5; do
+        from=$(now)
+        "$program" play <"$work/file" >/dev/null
+        to=$(now)
+        echo $(((to - from) / chains)) >>"$work/play"
+        "$work/baseline" stepped plain split journal=1 chains="$chains" runs=1 window=1 size=256 |
+            sed -n 's/.*(\([0-9.]*\) ns a chain.*/\1/p' >>"$work/base"
+    done
+    bytes=$(wc -c <"$work/file")
+    echo "$chains chains ($bytes bytes): play $(median <"$work/play") ns a chain, baseline $(median <"$work/base") ns a chain"
+done
