@@ -22,6 +22,7 @@ same_lap n k l a o h b low high = elim (cases_lt k l) [
   ]
 ]
 
+-- or stand a lap apart
 next_lap : (n k l a o : ℕ) → a < n → o < a → l * n + a ≤ k * n + o → k * n + o < l * n + a + n → k ≡ suc l
 next_lap n k l a o h b low high = elim (cases_lt k (suc l)) [
   | inl less ↦ absurd (let m : suc k * n ≤ suc l * n = mul-le-mul_right n less in omega arith)
@@ -31,6 +32,7 @@ next_lap n k l a o h b low high = elim (cases_lt k (suc l)) [
   ]
 ]
 
+-- the wrap turns from lap to lap
 even-suc : (l : ℕ) → is_even (suc l) ≡ not (is_even l)
 even-suc l = grind (arith, nat_tests)
 
@@ -44,6 +46,7 @@ here n old new o w h b d e =
     let s = split n old in
     (old / n * n + o, omega arith, omega arith, mod-mul-add (old / n) n o h, ap is_even (div-mul-add (old / n) n o h) ∙ sym e)
 
+-- and it is the only one
 pub only_here : (n old new o : ℕ) (w : Bool) → o < n → old % n ≤ o → old < new → new - old ≤ n → HasPlace n old new o w
     → (o - old % n < new - old) × (w ≡ is_even (old / n))
 only_here n old new o w h b some near f =
@@ -53,7 +56,7 @@ only_here n old new o w h b some near f =
     let m : f.0 / n * n ≡ old / n * n = ap (λ (x : ℕ). x * n) k in
     (omega (arith, f.1, f.2), sym f.4 ∙ ap is_even k)
 
--- or in the next lap
+-- or it is in the next lap, whose wrap is the other
 pub next : (n old new o : ℕ) (w : Bool) → o < n → o < old % n → old % n < n → n - old % n + o < new - old → w ≡ not (is_even (old / n)) → HasPlace n old new o w
 next n old new o w h b a d e =
     let s = split n old in (
@@ -64,6 +67,7 @@ next n old new o w h b a d e =
       ap is_even (div-mul-add (suc (old / n)) n o h) ∙ even-suc (old / n) ∙ sym e,
     )
 
+-- and it is the only one
 pub only_next : (n old new o : ℕ) (w : Bool) → o < n → o < old % n → old % n < n → old < new → new - old ≤ n → HasPlace n old new o w
     → (n - old % n + o < new - old) × (w ≡ not (is_even (old / n)))
 only_next n old new o w h b a some near f =
@@ -73,7 +77,7 @@ only_next n old new o w h b a some near f =
     let m : f.0 / n * n ≡ suc (old / n) * n = ap (λ (x : ℕ). x * n) k in
     (omega (arith, f.1, f.2), sym f.4 ∙ ap is_even k ∙ even-suc (old / n))
 
--- a position that no word can tell from another of the range is in it, or two laps away
+-- a position outside the range and less than two laps away has not the place and wrap of one in it
 pub apart : (n old new s : ℕ) → 0 < n → new ≤ s + 2 * n → s < old + 2 * n → (s < old) ⊎ (new ≤ s) → HasPlace n old new (s % n) (is_even (s / n)) → ⊥
 apart n old new s z low high side f =
     let t = split n s in

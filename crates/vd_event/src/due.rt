@@ -11,12 +11,14 @@ use vd_bits::{need_event, place, wrap};
 /// Whether the bell is to be rung.
 #[derive(Copy, Clone, Debug, PartialEq, Eq)]
 pub enum Answer {
+    /// The other side wants a signal for a position of the range.
     Ring,
+    /// It wants none.
     Quiet,
 }
 
 /// The published range `old` to `new - 1`, of entries in a split ring and of descriptors in a packed ring, not yet checked. It can't be
-/// dropped: whoever publishes has to check.
+/// dropped or copied: whoever publishes has to check, once.
 pub struct Due {
     rule: EventRule,
     old: u64,
@@ -36,7 +38,8 @@ impl Model for Due {
 }
 
 impl Due {
-    /// The range `old` to `new - 1`.
+    /// The range `old` to `new - 1`, in positions since the ring was made.
+    #[inline]
     pub fn new(rule: EventRule, old: u64, new: u64) -> Due
         requires some { old < new }
         requires near { new - old ≤ reach rule }
@@ -45,7 +48,9 @@ impl Due {
         Due { rule, old, new }
     }
 
-    /// Whether the other side, which left this event word, wants a signal for the range.
+    /// Whether the other side, which left this event word, wants a signal for the range (VIRTIO 1.2, 2.7.7, 2.7.10 and 2.8.14). Bits that
+    /// the rule doesn't name are ignored.
+    #[inline]
     pub fn check(self, word: u32) -> Answer
         ensures ring { (result ≡ Ring) ↔ Rings self.rule self.old self.new word }
         ensures quiet { (result ≡ Quiet) ↔ ¬ Rings self.rule self.old self.new word }
@@ -92,18 +97,18 @@ fn rings(rule: EventRule, old: u64, new: u64, word: u32) -> bool
 
 /// Whether a position of the range has this place and wrap. The range is at most one lap, so only the first position from `old` on
 /// that has the place can be it: in the lap of `old`, or in the next one, where the wrap is the other.
-fn has_place(size: u32, old: u64, new: u64, offset: u32, lap: bool) -> bool
+fn has_place(size: u32, old: u64, new: u64, offset: u32, wrap_bit: bool) -> bool
     requires some { old < new }
     requires near { new - old ≤ size }
-    ensures { IsTrue result ↔ HasPlace size old new offset lap }
+    ensures { IsTrue result ↔ HasPlace size old new offset wrap_bit }
 {
     if size <= offset {
         return false;
     }
     let first = place(old, size);
     if first <= offset {
-        lap == wrap(old, size) && u64::from(offset - first) < new - old
+        wrap_bit == wrap(old, size) && u64::from(offset - first) < new - old
     } else {
-        lap != wrap(old, size) && u64::from(size - first + offset) < new - old
+        wrap_bit != wrap(old, size) && u64::from(size - first + offset) < new - old
     }
 }
