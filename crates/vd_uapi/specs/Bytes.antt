@@ -5,7 +5,7 @@ use Rattle.vd_uapi.specs.declared.vring_state.VringState.{VringState}
 use Rattle.vd_uapi.specs.declared.vring_addr.VringAddr.{VringAddr}
 use Rattle.vd_uapi.specs.declared.message.Msg.{Msg}
 
--- the n bytes of a number
+-- the n bytes of a number, lowest first
 unfoldable pub bytes_of : ℕ → ℕ → List ℕ
 bytes_of n x = little_bytes n x
 

@@ -8,7 +8,7 @@ use Rattle.vd_uapi.specs.declared.fault.UapiFault.TheVariants.{Short, BadVersion
 abbrev pub short_fault : ℕ → List ℕ → Option UapiFault
 short_fault need bytes = if nat_lt (length bytes) need then Some (Short (length bytes) need) else None
 
--- the two byte fields of a message, and whether they are known values
+-- the permission and the kind stand at bytes 32 and 33 of a message; which values of them are known
 abbrev pub perm_in : List ℕ → ℕ
 perm_in bytes = slice_index bytes 32
 

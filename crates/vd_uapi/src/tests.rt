@@ -1,5 +1,28 @@
+ghost use Rattle.std.specs.Prelude.{◌≡◌, ◌≤◌};
+
 use super::*;
 use std::test::*;
+
+// A caller learns from the two contracts that what was written is read again.
+fn state_again(state: VringState) -> Result<VringState, UapiFault>
+    ensures { result ≡ Ok state }
+{
+    VringState::read(&state.write())
+}
+
+fn addr_again(addr: VringAddr) -> Result<VringAddr, UapiFault>
+    ensures { result ≡ Ok addr }
+{
+    VringAddr::read(&addr.write())
+}
+
+fn message_again(message: Msg) -> Result<Msg, UapiFault>
+    requires kind { (1 ≤ message.kind) × (message.kind ≤ 6) }
+    requires update { message.kind ≡ 2 → (1 ≤ message.perm) × (message.perm ≤ 3) }
+    ensures { result ≡ Ok message }
+{
+    Msg::read(&message.write())
+}
 
 /// An update that maps 8,192 bytes from 0x1000 to 0x10000, for reading and writing, without the zeros behind its fields.
 const UPDATE: [u8; 34] = [
@@ -38,6 +61,7 @@ fn a_ring_number_is_eight_bytes(rt: HostRuntime) -> Result<(), Fail> {
     assert_eq!(rt; state.write().as_slice(), &bytes[..8]);
     assert_eq!(rt; VringState::read(&bytes[..8])?, state);
     assert_eq!(rt; VringState::read(&bytes)?, state, "nine bytes");
+    assert_eq!(rt; state_again(state)?, state);
     for have in 0..8u32 {
         let short = VringState::read(&bytes[..have as usize]);
         assert_eq!(rt; short, Err(UapiFault::Short { have, need: 8 }));
@@ -61,6 +85,7 @@ fn ring_addresses_are_forty_bytes(rt: HostRuntime) -> Result<(), Fail> {
     ];
     assert_eq!(rt; addr.write().as_slice(), bytes.as_slice());
     assert_eq!(rt; VringAddr::read(&bytes)?, addr);
+    assert_eq!(rt; addr_again(addr)?, addr);
     assert_eq!(rt;
         VringAddr::read(&bytes[..39]),
         Err(UapiFault::Short { have: 39, need: 40 })
@@ -79,6 +104,20 @@ fn a_message_is_its_fields_and_zeros(rt: HostRuntime) -> Result<(), Fail> {
         update(),
         "ones behind the fields"
     );
+    Ok(())
+}
+
+#[test]
+fn a_message_without_permission_is_read_again(rt: HostRuntime) -> Result<(), Fail> {
+    let invalidate = Msg {
+        asid: 0,
+        iova: u64::MAX,
+        size: 0,
+        uaddr: 0,
+        perm: 0,
+        kind: 3,
+    };
+    assert_eq!(rt; message_again(invalidate)?, invalidate);
     Ok(())
 }
 
