@@ -1,0 +1,15 @@
+use Rattle.std.proofs.Common.{ℕ, ◌<◌, ◌≤◌, ◌-◌, subst}
+use Rattle.vd_event.specs.Words.{reach}
+use Rattle.vd_event.specs.Rings.{Rings, Published}
+use Rattle.vd_event.proofs.SignalLaws.{quiet_apart}
+use Rattle.vd_event.proofs.due.Due.check.Goals as goal
+
+pub returns-then-rings-clause-apart : goal.returns-then-rings-clause-apart
+returns-then-rings-clause-apart c s armed low high side =
+    let d = c.args.self in
+    let Lawful : Published → Type 0 = λ q. (q.old < q.new) × (q.new - q.old ≤ reach q.rule) in
+    let lawful = subst Lawful c.self.view_is c.self.invariant in
+    let OfRange : Published → Type 0 = λ q. Rings q.rule q.old q.new c.args.word in
+    let OfWord : ℕ → Type 0 = λ w. Rings d.rule d.old d.new w in
+    let rings = subst OfWord armed.1 (subst OfRange c.self.view_is (c.rings.ensures.0 c.if-rings.true)) in
+    absurd (quiet_apart d.rule d.old d.new s armed.0 lawful.0 lawful.1 low high side rings)

@@ -1,0 +1,4 @@
+pub mod ByteLaws
+pub mod FaultLaws
+pub mod Inverses
+pub mod MessageLaws
