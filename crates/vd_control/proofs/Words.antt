@@ -54,25 +54,25 @@ words_written words vlan w p is low small here beside elsewhere =
     let known = is.many in
     let long = length-set words at w in
     words_of_same (set words at w) p
-        (record {
-          many = omega arith;
-          small = λ k h. elim (cases_eq k at) [
-            | inl e ↦ subst (λ (j : ℕ). get_or (set words at w) j 0 < 2 ^ 64) (sym e) (rw (get_or-set_same words at w 0 (omega arith)) small)
-            | inr ne ↦ rw (get_or-set_other words at k w 0 ne) (is.small k h)
-          ];
-        })
-        (λ v h. elim (cases_eq (v / 64) at) [
-          | inl e ↦ (let got : get_or (set words at w) (v / 64) 0 ≡ w = ap (λ (j : ℕ). get_or (set words at w) j 0) e ∙ get_or-set_same words at w 0 (omega arith) in
-            elim (cases_eq (v % 64) (vlan % 64)) [
-              | inl r ↦ (let same : v ≡ vlan = omega arith in
+    (record {
+      many = omega arith;
+      small = λ k h. elim (cases_eq k at) [
+        | inl e ↦ subst (λ (j : ℕ). get_or (set words at w) j 0 < 2 ^ 64) (sym e) (rw (get_or-set_same words at w 0 (omega arith)) small)
+        | inr ne ↦ rw (get_or-set_other words at k w 0 ne) (is.small k h)
+      ];
+    })
+    (λ v h. elim (cases_eq (v / 64) at) [
+      | inl e ↦ (let got : get_or (set words at w) (v / 64) 0 ≡ w = ap (λ (j : ℕ). get_or (set words at w) j 0) e ∙ get_or-set_same words at w 0 (omega arith) in
+          elim (cases_eq (v % 64) (vlan % 64)) [
+            | inl r ↦ (let same : v ≡ vlan = omega arith in
                 ap (λ (x : ℕ). has_bit x (v % 64)) got ∙ ap (λ (j : ℕ). has_bit w j) r ∙ here ∙ ap p (sym same))
-              | inr ne ↦ (let other : v ≢ vlan = λ q. ne (ap (λ (x : ℕ). x % 64) q) in
+            | inr ne ↦ (let other : v ≢ vlan = λ q. ne (ap (λ (x : ℕ). x % 64) q) in
                 ap (λ (x : ℕ). has_bit x (v % 64)) got ∙ beside (v % 64) (omega arith) ne
                 ∙ ap (λ (j : ℕ). has_bit (get_or words j 0) (v % 64)) (sym e) ∙ elsewhere v other)
-            ])
-          | inr ne ↦ (let other : v ≢ vlan = λ q. ne (ap (λ (x : ℕ). x / 64) q) in
-            ap (λ (x : ℕ). has_bit x (v % 64)) (get_or-set_other words at (v / 64) w 0 ne) ∙ elsewhere v other)
-        ])
+          ])
+      | inr ne ↦ (let other : v ≢ vlan = λ q. ne (ap (λ (x : ℕ). x / 64) q) in
+          ap (λ (x : ℕ). has_bit x (v % 64)) (get_or-set_other words at (v / 64) w 0 ne) ∙ elsewhere v other)
+    ])
 
 -- the mask of a VLAN's bit
 abbrev pub mask : ℕ → ℕ
@@ -83,10 +83,10 @@ pub words_with : (words : List ℕ) (vlan : ℕ) → IsWords words → vlan < 40
 words_with words vlan is h small =
     let old = get_or words (vlan / 64) 0 in
     words_written words vlan (bit_or old (mask vlan)) (λ v. (v == vlan) || has_vlan words v) is h
-        (or_lt 64 old (mask vlan) (is.small (vlan / 64) (omega arith)) small)
-        (ap (λ (x : ℕ). x == 1) (bit_at_set_same w64 old (vlan % 64) (omega arith)) ∙ sym (ap (λ (b : Bool). b || has_vlan words vlan) (eq-eqb vlan vlan refl)))
-        (λ i low ne. ap (λ (x : ℕ). x == 1) (bit_at_set_other w64 old (vlan % 64) (omega arith) i ne))
-        (λ v ne. sym (ap (λ (b : Bool). b || has_vlan words v) (ne_eqb v vlan ne)))
+    (or_lt 64 old (mask vlan) (is.small (vlan / 64) (omega arith)) small)
+    (ap (λ (x : ℕ). x == 1) (bit_at_set_same w64 old (vlan % 64) (omega arith)) ∙ sym (ap (λ (b : Bool). b || has_vlan words vlan) (eq-eqb vlan vlan refl)))
+    (λ i low ne. ap (λ (x : ℕ). x == 1) (bit_at_set_other w64 old (vlan % 64) (omega arith) i ne))
+    (λ v ne. sym (ap (λ (b : Bool). b || has_vlan words v) (ne_eqb v vlan ne)))
 
 pub words_without : (words : List ℕ) (vlan : ℕ) → IsWords words → vlan < 4096
     → set words (vlan / 64) (bit_and (get_or words (vlan / 64) 0) (18446744073709551615 - mask vlan)) ≡ words_of (λ v. not (v == vlan) && has_vlan words v)
@@ -95,7 +95,7 @@ words_without words vlan is h =
     let small = is.small (vlan / 64) (omega arith) in
     let less = and_le_l old (18446744073709551615 - mask vlan) in
     words_written words vlan (bit_and old (18446744073709551615 - mask vlan)) (λ v. not (v == vlan) && has_vlan words v) is h
-        (omega arith)
-        (ap (λ (x : ℕ). x == 1) (bit_at_clear_same w64 old (vlan % 64) (omega arith)) ∙ sym (ap (λ (b : Bool). not b && has_vlan words vlan) (eq-eqb vlan vlan refl)))
-        (λ i low ne. ap (λ (x : ℕ). x == 1) (bit_at_clear_other w64 old (vlan % 64) (omega arith) i low ne))
-        (λ v ne. sym (ap (λ (b : Bool). not b && has_vlan words v) (ne_eqb v vlan ne)))
+    (omega arith)
+    (ap (λ (x : ℕ). x == 1) (bit_at_clear_same w64 old (vlan % 64) (omega arith)) ∙ sym (ap (λ (b : Bool). not b && has_vlan words vlan) (eq-eqb vlan vlan refl)))
+    (λ i low ne. ap (λ (x : ℕ). x == 1) (bit_at_clear_other w64 old (vlan % 64) (omega arith) i low ne))
+    (λ v ne. sym (ap (λ (b : Bool). not b && has_vlan words v) (ne_eqb v vlan ne)))

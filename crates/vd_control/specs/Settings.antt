@@ -49,23 +49,28 @@ after commands = fold applied default commands
 abbrev pub folded : List (List ℕ) → Settings
 folded strings = after (filter_map command strings)
 
--- the VLANs below `end`, ascending
-unfoldable pub vlans_below : ℕ → List ℕ → List ℕ
-vlans_below end words = filter (has_vlan words) (range_with_len 0 end)
+-- the numbers below `end` that pass, ascending
+unfoldable pub passing : (ℕ → Bool) → ℕ → List ℕ
+passing passes end = filter passes (range_with_len 0 end)
 
--- the receive flags that are on, ascending
-unfoldable pub flags_on : List Bool → List ℕ
-flags_on flags = filter (λ flag. slice_index_or flags flag false) (range_with_len 0 6)
+-- receive flag `flag` is on
+abbrev pub has_flag : List Bool → ℕ → Bool
+has_flag flags flag = slice_index_or flags flag false
 
--- the commands that set the settings from the default: each flag that is on, the address where it isn't zeros, each
--- VLAN, the pairs where not 1, the offloads where not 0
+-- the command alone, or none where the test holds
+abbrev pub unless : Bool → Command → List Command
+unless true c = []
+unless false c = c ∷ []
+
+-- the commands that set the settings again: each flag that is on, the address unless it is zeros, each VLAN
+-- ascending, the pairs unless 1, the offloads unless 0
 unfoldable pub replay : Settings → List Command
 replay s =
-    map (λ flag. Rx flag true) (flags_on s.rx)
-    ++ (if is_zeros s.mac then [] else Mac s.mac ∷ [])
-    ++ map VlanAdd (vlans_below 4096 s.vlans)
-    ++ (if s.pairs == 1 then [] else Pairs s.pairs ∷ [])
-    ++ (if s.offloads == 0 then [] else Offloads s.offloads ∷ [])
+    map (λ flag. Rx flag true) (passing (has_flag s.rx) 6)
+    ++ (unless (is_zeros s.mac) (Mac s.mac)
+    ++ (map VlanAdd (passing (has_vlan s.vlans) 4096)
+    ++ (unless (s.pairs == 1) (Pairs s.pairs)
+    ++ unless (s.offloads == 0) (Offloads s.offloads))))
 
 -- the number of pairs is one that a command can set
 abbrev pub HasPairs : Settings → Type 0

@@ -2,8 +2,11 @@
 #![tactic(auto)]
 
 mod command;
+mod flags;
+mod replay;
 mod settings;
 mod vlans;
 
 pub use command::Command;
+pub use replay::{replay_at, replay_len};
 pub use settings::Settings;
