@@ -1,5 +1,7 @@
 pub mod Bits
 pub mod Bytes
+pub mod ComesBack
+pub mod Lawful
 pub mod Ones
 pub mod Passing
 pub mod Places

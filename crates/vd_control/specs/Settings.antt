@@ -76,11 +76,8 @@ replay s =
 abbrev pub HasPairs : Settings → Type 0
 HasPairs s = (1 ≤ s.pairs) × (s.pairs ≤ 32768)
 
--- settings that commands can leave
-pub record IsSettings (s : Settings) : Type 0 where
-  pub flags : length s.rx ≡ 6
-  pub mac : length s.mac ≡ 6
-  pub words : length s.vlans ≡ 64
-  pub vlans : All (λ word. word < 2 ^ 64) s.vlans
-  pub pairs : HasPairs s
-  pub offloads : s.offloads < 2 ^ 64
+-- what a fold gives comes back: writing its replay list and folding that gives the same settings
+abbrev pub FoldsComeBack : Type 0
+FoldsComeBack =
+    (strings : List (List ℕ)) → All (All (λ byte. byte < 256)) strings
+    → HasPairs (folded strings) × (folded (map spelled (replay (folded strings))) ≡ folded strings)

@@ -8,5 +8,5 @@ mod settings;
 mod vlans;
 
 pub use command::Command;
-pub use replay::{replay_at, replay_len};
+pub use replay::{replay_at, replay_comes_back, replay_len};
 pub use settings::Settings;

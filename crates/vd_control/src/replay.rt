@@ -1,7 +1,7 @@
 //! The list of commands that sets settings again.
-ghost use Rattle.std.specs.Prelude.{◌≡◌, ◌<◌, ◌≤◌, length, slice_get, Some};
-ghost use Rattle.vd_control.specs.Commands.{IsCommand};
-ghost use Rattle.vd_control.specs.Settings.{HasPairs, is_zeros, replay};
+ghost use Rattle.std.specs.Prelude.{◌≡◌, ◌<◌, ◌≤◌, length, map, slice_get, Some};
+ghost use Rattle.vd_control.specs.Commands.{IsCommand, spelled};
+ghost use Rattle.vd_control.specs.Settings.{FoldsComeBack, HasPairs, after, folded, is_zeros, replay};
 
 use crate::{Command, Settings, flags, vlans};
 
@@ -50,4 +50,16 @@ fn is_zeros(mac: &[u8; 6]) -> bool
     ensures { result ≡ is_zeros mac.now }
 {
     mac.iter().all(|byte| *byte == 0)
+}
+
+/// The law of the replay list: it sets from the default what `s` holds, as commands and as their bytes; and so for
+/// whatever settings a list of byte strings leaves. It does nothing when it runs.
+pub fn replay_comes_back(s: &Settings)
+    requires { HasPairs s.now }
+    ensures commands { after (replay s.now) ≡ s.now }
+    ensures bytes { folded (map spelled (replay s.now)) ≡ s.now }
+    ensures folds { FoldsComeBack }
+{
+    let _offloads = s.offloads;
+    vlans::words_come_back(&s.vlans);
 }

@@ -59,6 +59,13 @@ fn nth_bit(mut word: u64, nth: u32) -> u16
     word.trailing_zeros() as u16
 }
 
+/// The words are those of their set. It does nothing when it runs.
+pub fn words_come_back(words: &[u64; 64])
+    ensures { words_of (has_vlan words.now) ≡ words.now }
+{
+    let _words = words.iter();
+}
+
 /// The word of a VLAN.
 fn word_of(vlan: u16) -> usize
     ensures { result ≡ vlan / 64 }
