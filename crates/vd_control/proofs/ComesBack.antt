@@ -1,19 +1,19 @@
 -- The replay list sets again what settings hold.
-use Rattle.std.proofs.Common.{◌≡◌, ℕ, zero, suc, ◌+◌, ◌-◌, ◌/◌, ◌%◌, ◌<◌, ◌≤◌, ◌^◌, ◌==◌, nat_eq, nat_lt, List, [], ◌∷◌, ◌++◌, length, map, fold, refl, Bool, true, false, not, ◌&&◌, ◌||◌, cond, ap, sym, ◌∙◌, Option, Some, arith, All, get_or, set, slice_set, replicate, inl, inr, subst, add-one, length-set, get_or-set_same, get_or-set_other}
-use Rattle.std.specs.List.{filter_map, list_all, cons_option}
-use Rattle.std.proofs.lemmas.List.{get_or-replicate, length-replicate, ext_get_or}
+use Rattle.std.proofs.Common.{◌≡◌, ℕ, zero, suc, ◌/◌, ◌%◌, ◌<◌, ◌≤◌, ◌==◌, nat_lt, List, [], ◌∷◌, ◌++◌, length, map, fold, refl, Bool, true, false, ◌&&◌, ◌||◌, ap, sym, ◌∙◌, Option, arith, All, get_or, set, slice_set, replicate, inl, inr, subst, add-one, length-set, get_or-set_same, get_or-set_other}
+use Rattle.std.specs.List.{filter_map, cons_option}
+use Rattle.std.proofs.lemmas.List.{get_or-replicate, ext_get_or}
 use Rattle.std.proofs.lemmas.Nat.Bits.{bit_at-zero}
 use Rattle.std.proofs.lemmas.List.Sums.{fold-append}
 use Rattle.std.proofs.lemmas.List.Elements.{All-head, All-tail, All-append, All-cons, All-nil, All-map, All-weaker}
-use Rattle.std.proofs.lemmas.Bool.{and_parts, eqb-true, lt-ltb, le-ltb, cases_lt, cases_eq, cases_Bool, eq-eqb, ne_eqb}
+use Rattle.std.proofs.lemmas.Bool.{and_parts, eqb-true, lt-ltb, le-ltb, cases_lt, cases_eq, eq-eqb, ne_eqb}
 use Rattle.vd_control.specs.declared.command.Command.{Command}
-use Rattle.vd_control.specs.declared.command.Command.TheVariants.{Rx, Mac, VlanAdd, VlanDel, Pairs, Offloads}
+use Rattle.vd_control.specs.declared.command.Command.TheVariants.{Rx, Mac, VlanAdd, Pairs, Offloads}
 use Rattle.vd_control.specs.declared.settings.Settings.{Settings}
 use Rattle.vd_control.specs.Commands.{IsCommand, command, spelled}
-use Rattle.vd_control.specs.Settings.{HasPairs, FoldsComeBack, after, applied, default, folded, has_bit, has_flag, has_vlan, is_zeros, number_of, passing, replay, unless, words_of}
+use Rattle.vd_control.specs.Settings.{FoldsComeBack, after, applied, default, folded, has_bit, has_flag, has_vlan, is_zeros, passing, replay, unless, words_of}
 use Rattle.vd_control.proofs.Bytes.{read_back}
-use Rattle.vd_control.proofs.Lawful.{IsSettings, IsWords-words_of, IsWords-zeros, words_of_agree, folded_lawful}
-use Rattle.vd_control.proofs.Passing.{kept, passing-none, passing-more, length-passing}
+use Rattle.vd_control.proofs.Lawful.{IsSettings, IsWords-zeros, words_of_agree, folded_lawful}
+use Rattle.vd_control.proofs.Passing.{kept, passing-none, passing-more}
 use Rattle.vd_control.proofs.Words.{IsWords, words_of_same, has_vlan-words_of}
 
 -- ---- what passes below one more
@@ -33,7 +33,7 @@ and-true false = refl
 pub one_more : (p : ℕ → Bool) (n v : ℕ) → (nat_lt v (suc n) && p v) ≡ (((v == n) && p n) || (nat_lt v n && p v))
 one_more p n v = elim (cases_eq v n) [
   | inl e ↦ ap (λ (b : Bool). b && p v) (lt-ltb v (suc n) (omega arith)) ∙ ap p e ∙ sym (or-false (p n))
-    ∙ sym (ap (λ (b : Bool). (b && p n) || false) (eq-eqb v n e)) ∙ sym (ap (λ (b : Bool). ((v == n) && p n) || (b && p v)) (le-ltb v n (omega arith)))
+      ∙ sym (ap (λ (b : Bool). (b && p n) || false) (eq-eqb v n e)) ∙ sym (ap (λ (b : Bool). ((v == n) && p n) || (b && p v)) (le-ltb v n (omega arith)))
   | inr ne ↦ ap (λ (b : Bool). b && p v) (same ne) ∙ sym (ap (λ (b : Bool). (b && p n) || (nat_lt v n && p v)) (ne_eqb v n ne))
 ]
   where
@@ -70,7 +70,7 @@ flags_at p (suc n) k h below =
     let old = with_flags (replicate 6 false) (passing p n) in
     let long : length old ≡ 6 = length-with_flags (replicate 6 false) (passing p n) in
     let step : with_flags (replicate 6 false) (passing p (suc n)) ≡ with_flags old (kept (p n) n) =
-        ap (with_flags (replicate 6 false)) (sym (ap (passing p) (add-one n)) ∙ passing-more p n) ∙ fold-append (λ r flag. slice_set r flag true) (replicate 6 false) (passing p n) (kept (p n) n) in
+    ap (with_flags (replicate 6 false)) (sym (ap (passing p) (add-one n)) ∙ passing-more p n) ∙ fold-append (λ r flag. slice_set r flag true) (replicate 6 false) (passing p n) (kept (p n) n) in
     ap (λ (r : List Bool). get_or r k false) step ∙ one_flag (p n) old n k (omega arith)
     ∙ ap (λ (b : Bool). ((k == n) && p n) || b) (flags_at p n k (omega arith) below) ∙ sym (one_more p n k)
 
@@ -152,14 +152,14 @@ from_made s is =
     let second = unless (is_zeros s.mac) (Mac s.mac) ++ third in
     let none : List ℕ = replicate 64 0 in
     both_parts (made (replicate 6 false) (replicate 6 0) none 1 0) (made s.rx (replicate 6 0) none 1 0) s (map (λ flag. Rx flag true) on) second
-        (after_flags (made (replicate 6 false) (replicate 6 0) none 1 0) on ∙ ap (λ (r : List Bool). made r (replicate 6 0) none 1 0) (flags_back s.rx is.flags))
-        (both_parts (made s.rx (replicate 6 0) none 1 0) (made s.rx s.mac none 1 0) s (unless (is_zeros s.mac) (Mac s.mac)) third
-            (address_back (is_zeros s.mac) s.rx s.mac (replicate 6 0) none 1 0 (λ e. ap (λ (n : ℕ). replicate n 0) (sym is.mac) ∙ sym (zeros_are s.mac e)))
-            (both_parts (made s.rx s.mac none 1 0) (made s.rx s.mac s.vlans 1 0) s (map VlanAdd vlans) fourth
-                (after_vlans (made s.rx s.mac none 1 0) vlans ∙ ap (λ (ws : List ℕ). made s.rx s.mac ws 1 0) (vlans_back s.vlans is.vlans))
-                (both_parts (made s.rx s.mac s.vlans 1 0) (made s.rx s.mac s.vlans s.pairs 0) s (unless (s.pairs == 1) (Pairs s.pairs)) last
-                    (pairs_back (s.pairs == 1) s.rx s.mac s.vlans s.pairs 1 0 (λ e. sym (eqb-true s.pairs 1 e)))
-                    (offloads_back (s.offloads == 0) s.rx s.mac s.vlans s.pairs s.offloads 0 (λ e. sym (eqb-true s.offloads 0 e))))))
+    (after_flags (made (replicate 6 false) (replicate 6 0) none 1 0) on ∙ ap (λ (r : List Bool). made r (replicate 6 0) none 1 0) (flags_back s.rx is.flags))
+    (both_parts (made s.rx (replicate 6 0) none 1 0) (made s.rx s.mac none 1 0) s (unless (is_zeros s.mac) (Mac s.mac)) third
+    (address_back (is_zeros s.mac) s.rx s.mac (replicate 6 0) none 1 0 (λ e. ap (λ (n : ℕ). replicate n 0) (sym is.mac) ∙ sym (zeros_are s.mac e)))
+    (both_parts (made s.rx s.mac none 1 0) (made s.rx s.mac s.vlans 1 0) s (map VlanAdd vlans) fourth
+    (after_vlans (made s.rx s.mac none 1 0) vlans ∙ ap (λ (ws : List ℕ). made s.rx s.mac ws 1 0) (vlans_back s.vlans is.vlans))
+    (both_parts (made s.rx s.mac s.vlans 1 0) (made s.rx s.mac s.vlans s.pairs 0) s (unless (s.pairs == 1) (Pairs s.pairs)) last
+    (pairs_back (s.pairs == 1) s.rx s.mac s.vlans s.pairs 1 0 (λ e. sym (eqb-true s.pairs 1 e)))
+    (offloads_back (s.offloads == 0) s.rx s.mac s.vlans s.pairs s.offloads 0 (λ e. sym (eqb-true s.offloads 0 e))))))
 
 -- the replay list of lawful settings sets them from the default
 pub commands_come_back : (s : Settings) → IsSettings s → after (replay s) ≡ s

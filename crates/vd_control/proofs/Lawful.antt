@@ -1,5 +1,5 @@
 -- Settings that commands can leave, and commands that bytes can spell.
-use Rattle.std.proofs.Common.{◌≡◌, ℕ, ◌+◌, ◌*◌, ◌<◌, ◌≤◌, ◌^◌, ◌==◌, nat_eq, nat_lt, nat_le, List, [], ◌∷◌, ◌++◌, length, drop, map, fold, refl, Bool, true, false, not, ◌&&◌, ◌||◌, cond, ap, sym, ◌∙◌, Option, Some, None, arith, All, get_or, slice_set, slice_index, replicate, length-set, length-drop, IfSome, inl, inr, if◌then◌else◌}
+use Rattle.std.proofs.Common.{◌≡◌, ℕ, ◌+◌, ◌*◌, ◌<◌, ◌^◌, ◌==◌, nat_lt, nat_le, List, [], ◌∷◌, length, drop, fold, refl, Bool, true, false, not, ◌&&◌, ◌||◌, ◌∙◌, Option, Some, None, arith, All, get_or, slice_index, replicate, length-set, length-drop, IfSome, inl, inr, if◌then◌else◌}
 use Rattle.std.specs.List.{filter_map, cons_option}
 use Rattle.std.proofs.lemmas.List.{length-replicate, get_or-replicate, get_or-drop, get_or_past}
 use Rattle.std.proofs.lemmas.List.Elements.{All-head, All-tail}
@@ -8,7 +8,7 @@ use Rattle.vd_control.specs.declared.command.Command.{Command}
 use Rattle.vd_control.specs.declared.command.Command.TheVariants.{Rx, Mac, VlanAdd, VlanDel, Pairs, Offloads}
 use Rattle.vd_control.specs.declared.settings.Settings.{Settings}
 use Rattle.vd_control.specs.Commands.{IsCommand, command, is_row, le16, le64}
-use Rattle.vd_control.specs.Settings.{HasPairs, applied, default, folded, has_vlan, number_of, words_of}
+use Rattle.vd_control.specs.Settings.{HasPairs, applied, default, folded, has_vlan, words_of}
 use Rattle.vd_control.proofs.Bits.{number_of-small}
 use Rattle.vd_control.proofs.Words.{IsWords, get_or-words_of, length-words_of, words_of_same, has_vlan-words_of}
 
@@ -88,8 +88,8 @@ command_lawful bytes small =
     (choice (is_row bytes 2 0 2 && nat_le short 4095) (VlanAdd short) fourth (λ e. leb-true short 4095 (and_parts (is_row bytes 2 0 2) (nat_le short 4095) e).1)
     (choice (is_row bytes 2 1 2 && nat_le short 4095) (VlanDel short) fifth (λ e. leb-true short 4095 (and_parts (is_row bytes 2 1 2) (nat_le short 4095) e).1)
     (choice (is_row bytes 4 0 2 && nat_le 1 short && nat_le short 32768) (Pairs short) last
-        (λ e. (let both = and_parts (is_row bytes 4 0 2 && nat_le 1 short) (nat_le short 32768) e in
-        (leb-true 1 short (and_parts (is_row bytes 4 0 2) (nat_le 1 short) both.0).1, leb-true short 32768 both.1)))
+    (λ e. (let both = and_parts (is_row bytes 4 0 2 && nat_le 1 short) (nat_le short 32768) e in
+    (leb-true 1 short (and_parts (is_row bytes 4 0 2) (nat_le 1 short) both.0).1, leb-true short 32768 both.1)))
     (choice (is_row bytes 5 0 8) (Offloads (le64 bytes)) None (λ e. le64-small bytes small) tt)))))
 
 step_lawful : (o : Option Command) (s : Settings) (rest : List Command) → ((t : Settings) → IsSettings t → IsSettings (fold applied t rest)) → IsSettings s → IfSome o IsCommand → IsSettings (fold applied s (cons_option o rest))
@@ -100,9 +100,9 @@ steps_lawful : (strings : List (List ℕ)) (s : Settings) → IsSettings s → A
 steps_lawful [] s is small = is
 steps_lawful (bytes ∷ strings) s is small =
     step_lawful (command bytes) s (filter_map command strings)
-        (λ t lawful. steps_lawful strings t lawful (All-tail (All (λ byte. byte < 256)) bytes strings small))
-        is
-        (command_lawful bytes (All-head (All (λ byte. byte < 256)) bytes strings small))
+    (λ t lawful. steps_lawful strings t lawful (All-tail (All (λ byte. byte < 256)) bytes strings small))
+    is
+    (command_lawful bytes (All-head (All (λ byte. byte < 256)) bytes strings small))
 
 -- settings that a fold gives are lawful
 pub folded_lawful : (strings : List (List ℕ)) → All (All (λ byte. byte < 256)) strings → IsSettings (folded strings)

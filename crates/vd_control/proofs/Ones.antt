@@ -1,14 +1,14 @@
 -- The bits of a number that are set, counted and from the lowest on.
-use Rattle.std.proofs.Common.{◌≡◌, ◌≢◌, ℕ, zero, suc, ◌+◌, ◌-◌, ◌*◌, ◌/◌, ◌%◌, ◌<◌, ◌≤◌, ◌^◌, ◌==◌, List, [], ◌∷◌, ◌++◌, length, map, arith, refl, Bool, true, false, ap, sym, ◌∙◌, subst, inl, inr, slice_index_or, get_or, drop, count_ones, bit_and, slice_get, Some, if◌then◌else◌}
-use Rattle.std.specs.Int.{bit_at, w64, bit_not, trailing_zeros}
-use Rattle.std.proofs.lemmas.Nat.Bits.{bit_at_lowest, bit_at-suc, bit_at-zero, bit_at-trailing_zeros, bit_at_clear_same, bit_at_clear_other}
+use Rattle.std.proofs.Common.{◌≡◌, ◌≢◌, ℕ, zero, suc, ◌+◌, ◌-◌, ◌*◌, ◌/◌, ◌%◌, ◌<◌, ◌^◌, ◌==◌, List, ◌∷◌, length, arith, refl, Bool, true, false, ap, sym, ◌∙◌, get_or, drop, count_ones, bit_and, slice_get, Some}
+use Rattle.std.specs.Int.{w64, trailing_zeros}
+use Rattle.std.proofs.lemmas.Nat.Bits.{bit_at_lowest, bit_at-suc, bit_at-trailing_zeros, bit_at_clear_same, bit_at_clear_other}
 use Rattle.std.proofs.Math.Nat.{pow-suc}
 use Rattle.std.specs.Int.Count.{ones_step, ones-le}
 use Rattle.std.proofs.lemmas.List.{length-drop, drop-drop}
 use Rattle.vd_control.specs.Settings.{has_bit, has_vlan, passing}
 use Rattle.vd_control.proofs.Bits.{digit, digit_has}
 use Rattle.vd_control.proofs.Passing.{kept, passing_same, passing_first, passing_within, passing_one, passing-none, length-passing-add, slice_get-drop}
-use Rattle.vd_control.proofs.Words.{IsWords, bit_is_vlan}
+use Rattle.vd_control.proofs.Words.{bit_is_vlan}
 
 length-kept-digit : (b : Bool) (n : ℕ) → length (kept b n) ≡ digit b
 length-kept-digit true n = refl

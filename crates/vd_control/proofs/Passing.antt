@@ -1,7 +1,7 @@
 -- The numbers below an end that pass.
-use Rattle.std.proofs.Common.{◌≡◌, ◌≢◌, ℕ, zero, suc, ◌+◌, ◌-◌, ◌*◌, ◌/◌, ◌%◌, ◌<◌, ◌≤◌, ◌^◌, ◌==◌, nat_eq, List, [], ◌∷◌, ◌++◌, length, map, filter, drop, arith, rules, refl, Bool, true, false, cond, ap, sym, ◌∙◌, subst, inl, inr, add-one, add-zero, append_assoc, length-append, Option, Some, slice_get, option_map, zero-add, suc-add}
+use Rattle.std.proofs.Common.{◌≡◌, ℕ, zero, suc, ◌+◌, ◌-◌, ◌<◌, ◌≤◌, List, [], ◌∷◌, ◌++◌, length, map, filter, drop, arith, refl, Bool, true, false, cond, ap, sym, ◌∙◌, add-one, add-zero, append_assoc, length-append, Some, slice_get, option_map, zero-add, suc-add}
 use Rattle.std.specs.Int.{from_bool}
-use Rattle.std.specs.List.{range_with_len, All}
+use Rattle.std.specs.List.{range_with_len}
 use Rattle.std.proofs.lemmas.List.{map-append, map-id, append-nil, length-map}
 use Rattle.std.proofs.lemmas.Option.{slice_get-map}
 use Rattle.std.proofs.lemmas.List.Elements.{filter-append}

@@ -1,9 +1,9 @@
 -- Where each command stands in the list that sets settings again.
-use Rattle.std.proofs.Common.{◌≡◌, ℕ, ◌+◌, ◌<◌, ◌==◌, nat_eq, List, [], ◌∷◌, ◌++◌, length, map, refl, Bool, true, false, not, ap, sym, ◌∙◌, Some, slice_get, length-append, arith, ◌≤◌}
+use Rattle.std.proofs.Common.{◌≡◌, ℕ, ◌+◌, ◌<◌, ◌==◌, List, ◌++◌, length, map, refl, Bool, true, false, not, ap, sym, ◌∙◌, Some, slice_get, length-append, arith, ◌≤◌}
 use Rattle.std.specs.Int.{from_bool}
 use Rattle.std.proofs.lemmas.List.{length-map}
 use Rattle.vd_control.specs.declared.command.Command.{Command}
-use Rattle.vd_control.specs.declared.command.Command.TheVariants.{Rx, Mac, VlanAdd, VlanDel, Pairs, Offloads}
+use Rattle.vd_control.specs.declared.command.Command.TheVariants.{Rx, Mac, VlanAdd, Pairs, Offloads}
 use Rattle.vd_control.specs.declared.settings.Settings.{Settings}
 use Rattle.vd_control.specs.Settings.{has_flag, has_vlan, is_zeros, passing, replay, unless}
 use Rattle.vd_control.proofs.Passing.{get_left, get_right, get_map}

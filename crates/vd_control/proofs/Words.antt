@@ -1,7 +1,6 @@
 -- A set of VLANs and its words.
-use Rattle.std.proofs.Common.{◌≡◌, ◌≢◌, ℕ, zero, suc, ◌+◌, ◌-◌, ◌*◌, ◌/◌, ◌%◌, ◌<◌, ◌≤◌, ◌^◌, ◌==◌, nat_eq, List, length, map, slice_index_or, slice_set, arith, rules, refl, Bool, true, false, not, ◌&&◌, ◌||◌, cond, ap, sym, ◌∙◌, subst, inl, inr, get_or, set, get_or-set_same, get_or-set_other, bit_or, bit_and, length-set}
-use Rattle.std.specs.List.{range_with_len}
-use Rattle.std.specs.Int.{bit_at, w64, bit_not}
+use Rattle.std.proofs.Common.{◌≡◌, ◌≢◌, ℕ, ◌+◌, ◌-◌, ◌*◌, ◌/◌, ◌%◌, ◌<◌, ◌^◌, ◌==◌, List, length, arith, refl, Bool, not, ◌&&◌, ◌||◌, ap, sym, ◌∙◌, subst, inl, inr, get_or, set, get_or-set_same, get_or-set_other, bit_or, bit_and, length-set}
+use Rattle.std.specs.Int.{w64}
 use Rattle.std.proofs.lemmas.List.FromFn.{length-map-range_with_len, get_or-map-range_with_len, fill_by_all}
 use Rattle.std.proofs.lemmas.Nat.{or_lt, and_le_l}
 use Rattle.std.proofs.lemmas.Nat.Bits.{bit_at_set_same, bit_at_set_other, bit_at_clear_same, bit_at_clear_other}

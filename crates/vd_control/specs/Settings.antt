@@ -1,5 +1,5 @@
 -- What the commands of a control queue set, and the list of commands that sets it again.
-use Rattle.std.specs.Prelude.{◌≡◌, ℕ, zero, suc, ◌+◌, ◌*◌, ◌/◌, ◌%◌, ◌<◌, ◌≤◌, ◌^◌, ◌==◌, not, ◌&&◌, ◌||◌, Bool, true, false, List, [], ◌∷◌, ◌++◌, length, replicate, slice_index, slice_index_or, slice_set, map, filter, fold, All, Option, if◌then◌else◌}
+use Rattle.std.specs.Prelude.{◌≡◌, ℕ, zero, suc, ◌+◌, ◌*◌, ◌/◌, ◌%◌, ◌<◌, ◌≤◌, ◌==◌, not, ◌&&◌, ◌||◌, Bool, true, false, List, [], ◌∷◌, ◌++◌, replicate, slice_index, slice_index_or, slice_set, map, filter, fold, All, if◌then◌else◌}
 use Rattle.std.specs.List.{range_with_len, filter_map, list_all}
 use Rattle.std.specs.Int.{bit_at}
 use Rattle.vd_control.specs.declared.command.Command.{Command}

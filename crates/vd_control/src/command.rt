@@ -23,8 +23,8 @@ pub enum Command {
 }
 
 impl Command {
-    #[tactic(auto, unfolding(crate::specs::Commands::command))]
     /// The command that these bytes spell, with nothing after it; None where they spell none.
+    #[tactic(auto, unfolding(crate::specs::Commands::command))]
     pub fn read(bytes: &[u8]) -> Option<Command>
         ensures value { result ≡ command bytes.now }
         ensures lawful { IfSome result IsCommand }

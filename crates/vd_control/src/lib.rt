@@ -10,3 +10,6 @@ mod vlans;
 pub use command::Command;
 pub use replay::{replay_at, replay_comes_back, replay_len};
 pub use settings::Settings;
+
+#[cfg(test)]
+mod tests;

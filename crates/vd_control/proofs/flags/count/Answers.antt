@@ -1,5 +1,5 @@
 use Rattle.std.proofs.Common.{◌+◌, arith, ap, length, sym}
-use Rattle.vd_control.specs.Settings.{has_flag, passing}
+use Rattle.vd_control.specs.Settings.{has_flag}
 use Rattle.vd_control.proofs.Passing.{passing-none, length-passing, length-passing-more}
 use Rattle.vd_control.proofs.flags.count.Goals as goal
 

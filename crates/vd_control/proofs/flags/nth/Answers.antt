@@ -1,4 +1,4 @@
-use Rattle.std.proofs.Common.{◌≡◌, ◌≤◌, arith, ap, length, ◌∙◌, slice_get, subst, ℕ, Some}
+use Rattle.std.proofs.Common.{◌≡◌, ◌≤◌, arith, ap, length, ◌∙◌, slice_get}
 use Rattle.std.specs.Int.{from_bool}
 use Rattle.std.proofs.lemmas.Bool.{both_ways}
 use Rattle.vd_control.specs.Settings.{has_flag, passing}

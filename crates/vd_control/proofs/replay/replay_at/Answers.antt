@@ -1,5 +1,5 @@
 -- The part that holds place i is told by the lengths of the parts before it.
-use Rattle.std.proofs.Common.{◌≡◌, ◌<◌, ◌-◌, ◌==◌, Bool, not, ap, ◌∙◌, arith}
+use Rattle.std.proofs.Common.{◌≡◌, ◌-◌, ◌==◌, Bool, not, ap, ◌∙◌, arith}
 use Rattle.std.specs.Int.{from_bool}
 use Rattle.vd_control.specs.Settings.{is_zeros}
 use Rattle.vd_control.proofs.Places.{length-replay, at_flag, at_address, at_vlan, at_pairs, at_offloads, counts, from_bool-le}

@@ -1,5 +1,5 @@
 use Rattle.std.proofs.Common.{◌+◌, ◌*◌, arith, ap, length, sym}
-use Rattle.vd_control.specs.Settings.{has_vlan, passing}
+use Rattle.vd_control.specs.Settings.{has_vlan}
 use Rattle.vd_control.proofs.Passing.{passing-none, length-passing}
 use Rattle.vd_control.proofs.Ones.{length-words-more}
 use Rattle.vd_control.proofs.vlans.count.Goals as goal

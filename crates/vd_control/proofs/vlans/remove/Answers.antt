@@ -1,4 +1,4 @@
-use Rattle.std.proofs.Common.{ℕ, ◌<◌, ◌^◌, arith, subst}
+use Rattle.std.proofs.Common.{arith}
 use Rattle.vd_control.proofs.Words.{IsWords, words_without}
 use Rattle.vd_control.proofs.vlans.remove.Goals as goal
 

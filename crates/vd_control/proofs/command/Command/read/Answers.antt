@@ -1,5 +1,5 @@
 -- the payload of eight bytes is the six from the third on
-use Rattle.std.proofs.Common.{◌≡◌, ℕ, List, [], ◌∷◌, length, drop, slice_index_or, ◌∙◌, ap, sym, rules, arith}
+use Rattle.std.proofs.Common.{◌≡◌, ℕ, List, [], ◌∷◌, length, drop, slice_index_or, rules, arith}
 use Rattle.std.proofs.lemmas.List.{drop_more, drop_all}
 use Rattle.vd_control.specs.Commands.{command}
 use Rattle.vd_control.proofs.command.Command.read.Goals as goal
