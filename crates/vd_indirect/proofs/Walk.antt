@@ -1,9 +1,9 @@
 -- The walk through a table, a place at a time.
-use Rattle.std.proofs.Common.{◌≡◌, ◌≢◌, ℕ, zero, suc, ◌+◌, ◌-◌, ◌*◌, ◌/◌, ◌<◌, ◌≤◌, nat_lt, nat_le, Bool, true, false, not, ◌&&◌, ◌||◌, List, [], ◌∷◌, ◌++◌, length, map, refl, ap, sym, ◌∙◌, subst, arith, Result, Ok, Err, Option, Some, None, is_err, inl, inr, add-one, add-zero, zero-add, cond, if◌then◌else◌, slice_index_or, get_or, ◌==◌}
+use Rattle.std.proofs.Common.{◌≡◌, ◌≢◌, ℕ, zero, suc, ◌+◌, ◌-◌, ◌*◌, ◌/◌, ◌<◌, ◌≤◌, nat_lt, nat_le, Bool, true, false, not, ◌&&◌, ◌||◌, List, [], ◌∷◌, ◌++◌, length, map, refl, ap, sym, ◌∙◌, subst, arith, Result, Ok, Err, Option, Some, None, is_err, inl, inr, add-one, add-zero, zero-add, cond, if◌then◌else◌, slice_index_or, get_or, ◌==◌, ◌%◌}
 use Rattle.std.specs.List.{range_with_len, position_or_len, prefix_len}
 use Rattle.std.proofs.lemmas.List.{length-map, get_or-map}
 use Rattle.std.proofs.lemmas.List.FromFn.{map-range_with_len_more, length-range_with_len, get_or-range_with_len, length-map-range_with_len, get_or-map-range_with_len}
-use Rattle.std.proofs.lemmas.Bool.{cases_lt, and_left, or_parts, eqb-false, ltb-true}
+use Rattle.std.proofs.lemmas.Bool.{cases_lt, and_left, or_parts, or_from, eqb-false, ltb-true, ne_eqb, eq-eqb, le-ltb}
 use Rattle.vd_model.specs.declared.chain.Piece.{Piece}
 use Rattle.vd_model.specs.Chains.{ends_writable, blank}
 use Rattle.vd_indirect.specs.declared.descriptor.TableKind.{TableKind}
@@ -51,7 +51,7 @@ follow_some true true fault next n e = absurd cc
 follow_some true false fault next n e = (refl, refl, cc)
 follow_some false u fault next n e = absurd cc
 
-abbrev judge : {X : Type 0} → Bool → Bool → TableFault → TableFault → Result X TableFault → Result X TableFault
+abbrev pub judge : {X : Type 0} → Bool → Bool → TableFault → TableFault → Result X TableFault → Result X TableFault
 judge nested misplaced f g r = if nested then Err f else (if misplaced then Err g else r)
 
 judge_ok : {X : Type 0} (n m : Bool) (f g : TableFault) (r : Result X TableFault) (x : X) → judge n m f g r ≡ Ok x → (n ≡ false) × (m ≡ false)
@@ -65,7 +65,7 @@ judge_err true m f g fault x r e = cc
 judge_err false true f g fault x r e = cc
 judge_err false false f g fault x r e = absurd cc
 
-judge_passes : {X : Type 0} (n m : Bool) (f g : TableFault) (r : Result X TableFault) → n ≡ false → m ≡ false → judge n m f g r ≡ r
+pub judge_passes : {X : Type 0} (n m : Bool) (f g : TableFault) (r : Result X TableFault) → n ≡ false → m ≡ false → judge n m f g r ≡ r
 judge_passes n m f g r a b = ap (λ (x : Bool). judge x m f g r) a ∙ ap (λ (x : Bool). judge false x f g r) b
 
 -- ---- the state of a walk
@@ -126,7 +126,7 @@ first_taken kind words places x some e =
 
 -- ---- the outcome at a place
 
-abbrev linked : TableKind → List ℕ → ℕ → ℕ → Bool → Result (List Piece) TableFault
+abbrev pub linked : TableKind → List ℕ → ℕ → ℕ → Bool → Result (List Piece) TableFault
 linked kind words places count unlinked = if unlinked then Err (Link (visited kind words count)) else Ok (pieces_of kind words (count + 1))
 
 plain_outcome : (kind : TableKind) (words : List ℕ) (places count place : ℕ) (taken : List Piece) (unlinked : Bool) → IsWalking kind words places count place taken → is_unlinked kind words places count ≡ unlinked
@@ -245,3 +245,12 @@ appended kind words places count place next taken w g low e =
 -- how many pieces are taken
 pub length-taken : (kind : TableKind) (words : List ℕ) (places count place : ℕ) (taken : List Piece) → IsWalking kind words places count place taken → length taken ≡ count + 1
 length-taken kind words places count place taken w = ap length w.chain ∙ length-map-range_with_len (λ n. piece_at kind words (visited kind words n)) 0 (count + 1)
+
+-- ---- the length
+
+pub length_passes : (len : ℕ) (r : Result (List Piece) TableFault) → 0 < len → len % 16 ≡ 0 → len ≤ 256
+    → (if (len == 0) || not (len % 16 == 0) then Err (Length len) else (if nat_lt 256 len then Err (TooMany len) else r)) ≡ r
+length_passes len r some whole few =
+    ap (λ (b : Bool). if b then Err (Length len) else (if nat_lt 256 len then Err (TooMany len) else r))
+        (or_from (len == 0) (not (len % 16 == 0)) (ne_eqb len 0 (λ e. absurd (omega arith))) (ap not (eq-eqb (len % 16) 0 whole)))
+    ∙ ap (λ (b : Bool). if b then Err (TooMany len) else r) (le-ltb 256 len few)
