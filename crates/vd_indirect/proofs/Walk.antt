@@ -1,8 +1,7 @@
 -- The walk through a table, a place at a time.
-use Rattle.std.proofs.Common.{◌≡◌, ◌≢◌, ℕ, zero, suc, ◌+◌, ◌-◌, ◌*◌, ◌/◌, ◌<◌, ◌≤◌, nat_lt, nat_le, Bool, true, false, not, ◌&&◌, ◌||◌, List, [], ◌∷◌, ◌++◌, length, map, refl, ap, sym, ◌∙◌, subst, arith, Result, Ok, Err, Option, Some, None, is_err, inl, inr, add-one, add-zero, zero-add, cond, if◌then◌else◌, slice_index_or, get_or, ◌==◌, ◌%◌}
+use Rattle.std.proofs.Common.{◌≡◌, ℕ, zero, suc, ◌+◌, ◌-◌, ◌<◌, ◌≤◌, nat_lt, nat_le, Bool, true, false, not, ◌&&◌, ◌||◌, List, [], ◌∷◌, ◌++◌, length, refl, ap, sym, ◌∙◌, subst, arith, Result, Ok, Err, Option, Some, None, is_err, inl, inr, add-one, add-zero, zero-add, cond, if◌then◌else◌, ◌==◌, ◌%◌}
 use Rattle.std.specs.List.{range_with_len, position_or_len, prefix_len}
-use Rattle.std.proofs.lemmas.List.{length-map, get_or-map}
-use Rattle.std.proofs.lemmas.List.FromFn.{map-range_with_len_more, length-range_with_len, get_or-range_with_len, length-map-range_with_len, get_or-map-range_with_len}
+use Rattle.std.proofs.lemmas.List.FromFn.{map-range_with_len_more, length-map-range_with_len, get_or-map-range_with_len}
 use Rattle.std.proofs.lemmas.Bool.{cases_lt, and_left, or_parts, or_from, eqb-false, ltb-true, ne_eqb, eq-eqb, le-ltb}
 use Rattle.vd_model.specs.declared.chain.Piece.{Piece}
 use Rattle.vd_model.specs.Chains.{ends_writable, blank}
@@ -10,7 +9,8 @@ use Rattle.vd_indirect.specs.declared.descriptor.TableKind.{TableKind}
 use Rattle.vd_indirect.specs.declared.descriptor.TableKind.TheVariants.{Split, Packed}
 use Rattle.vd_indirect.specs.declared.read.TableFault.{TableFault}
 use Rattle.vd_indirect.specs.declared.read.TableFault.TheVariants.{Length, TooMany, Link, Nested, Order}
-use Rattle.vd_indirect.specs.Tables.{appending, before_end, following, ends, flags_of, goes_on, has, is_misplaced, is_nested, is_unlinked, next_of, outcome, piece_at, pieces_of, visited, walked}
+use Rattle.vd_indirect.specs.Steps.{appending, following}
+use Rattle.vd_indirect.specs.Tables.{before_end, ends, flags_of, goes_on, has, is_misplaced, is_nested, is_unlinked, next_of, outcome, piece_at, pieces_of, visited, walked}
 
 -- the first number from a on that passes
 first_from : (p : ℕ → Bool) (a n k : ℕ) → k < n → ((j : ℕ) → j < k → p (a + j) ≡ false) → p (a + k) ≡ true → position_or_len p (range_with_len a n) ≡ k
@@ -143,7 +143,7 @@ goes_within : (kind : TableKind) (words : List ℕ) (places count : ℕ) → cou
 goes_within Split words places count h g u =
     let both : (goes_on Split words places count && (nat_le places (next_of words (visited Split words count)) || (count + 1 == places))) ≡ false = u in
     let tests : (nat_le places (next_of words (visited Split words count)) || (count + 1 == places)) ≡ false =
-        sym (ap (λ (b : Bool). b && (nat_le places (next_of words (visited Split words count)) || (count + 1 == places))) g) ∙ both in
+    sym (ap (λ (b : Bool). b && (nat_le places (next_of words (visited Split words count)) || (count + 1 == places))) g) ∙ both in
     let other : count + 1 ≡ places → ⊥ = eqb-false (count + 1) places (or_parts (nat_le places (next_of words (visited Split words count))) (count + 1 == places) tests).1 in
     omega arith
 goes_within Packed words places count h g u = (let below = ltb-true (count + 1) places g in omega arith)
@@ -157,7 +157,7 @@ ended kind words places count place taken w h e =
     let g = follow_none (goes_on kind words places count) (is_unlinked kind words places count) (Link (visited kind words count)) (visited kind words (suc count)) e in
     let gives = plain_outcome kind words places count place taken false w (unlinked_goes kind words places count g) in
     walk_ends kind words places count h w.before
-        (ap (λ (r : Result (List Piece) TableFault). is_err r || not (goes_on kind words places count)) gives ∙ ap not g)
+    (ap (λ (r : Result (List Piece) TableFault). is_err r || not (goes_on kind words places count)) gives ∙ ap not g)
     ∙ gives ∙ ap (λ (xs : List Piece). Ok xs) (sym w.chain)
 
 -- it ends here, since the place names no next one that it may visit
@@ -213,11 +213,11 @@ pub refused : (kind : TableKind) (words : List ℕ) (places count place next : �
     → appending kind words next (ends_writable taken) ≡ Err fault → walked kind words places ≡ Err fault
 refused kind words places count place next taken fault w g e =
     let gives : outcome kind words places (suc count) ≡ Err fault =
-        judge_err (is_nested kind words (suc count)) (is_misplaced kind words (suc count)) (Nested (visited kind words (suc count))) (Order (visited kind words (suc count))) fault tt
-            (linked kind words places (suc count) (is_unlinked kind words places (suc count)))
-            (sym (judged kind words places count place next taken w g) ∙ e) in
+    judge_err (is_nested kind words (suc count)) (is_misplaced kind words (suc count)) (Nested (visited kind words (suc count))) (Order (visited kind words (suc count))) fault tt
+    (linked kind words places (suc count) (is_unlinked kind words places (suc count)))
+    (sym (judged kind words places count place next taken w g) ∙ e) in
     walk_ends kind words places (suc count) g.within (before_next kind words places count place next taken w g)
-        (ap (λ (r : Result (List Piece) TableFault). is_err r || not (goes_on kind words places (suc count))) gives)
+    (ap (λ (r : Result (List Piece) TableFault). is_err r || not (goes_on kind words places (suc count))) gives)
     ∙ gives
 
 pieces_of-more : (kind : TableKind) (words : List ℕ) (count : ℕ) → pieces_of kind words (count + 1) ≡ pieces_of kind words count ++ piece_at kind words (visited kind words count) ∷ []
@@ -228,7 +228,7 @@ pub appended : (kind : TableKind) (words : List ℕ) (places count place next : 
     → appending kind words next (ends_writable taken) ≡ Ok tt → IsWalking kind words places (count + 1) next (taken ++ piece_at kind words next ∷ [])
 appended kind words places count place next taken w g low e =
     let fine = judge_ok (is_nested kind words (suc count)) (is_misplaced kind words (suc count)) (Nested (visited kind words (suc count))) (Order (visited kind words (suc count))) (Ok tt) tt
-        (sym (judged kind words places count place next taken w g) ∙ e) in
+    (sym (judged kind words places count place next taken w g) ∙ e) in
     subst (λ (n : ℕ). IsWalking kind words places n next (taken ++ piece_at kind words next ∷ [])) (sym (add-one count)) (record {
       at = g.at;
       low = low;
@@ -252,5 +252,5 @@ pub length_passes : (len : ℕ) (r : Result (List Piece) TableFault) → 0 < len
     → (if (len == 0) || not (len % 16 == 0) then Err (Length len) else (if nat_lt 256 len then Err (TooMany len) else r)) ≡ r
 length_passes len r some whole few =
     ap (λ (b : Bool). if b then Err (Length len) else (if nat_lt 256 len then Err (TooMany len) else r))
-        (or_from (len == 0) (not (len % 16 == 0)) (ne_eqb len 0 (λ e. absurd (omega arith))) (ap not (eq-eqb (len % 16) 0 whole)))
+    (or_from (len == 0) (not (len % 16 == 0)) (ne_eqb len 0 (λ e. absurd (omega arith))) (ap not (eq-eqb (len % 16) 0 whole)))
     ∙ ap (λ (b : Bool). if b then Err (TooMany len) else r) (le-ltb 256 len few)

@@ -1,19 +1,17 @@
 -- The words of a chain's table are read as the chain.
-use Rattle.std.proofs.Common.{◌≡◌, ◌≢◌, ℕ, zero, suc, ◌+◌, ◌-◌, ◌*◌, ◌/◌, ◌%◌, ◌^◌, ◌<◌, ◌≤◌, ◌==◌, nat_lt, nat_le, Bool, true, false, not, ◌&&◌, ◌||◌, List, [], ◌∷◌, ◌++◌, length, map, drop, refl, ap, sym, ◌∙◌, subst, arith, Result, Ok, Err, is_err, inl, inr, add-one, add-zero, zero-add, if◌then◌else◌, get_or}
-use Rattle.std.specs.List.{range_with_len, All}
-use Rattle.std.specs.Int.{bit_at}
+use Rattle.std.proofs.Common.{◌≡◌, ℕ, zero, suc, ◌+◌, ◌-◌, ◌*◌, ◌/◌, ◌^◌, ◌<◌, ◌≤◌, ◌==◌, nat_lt, nat_le, Bool, true, false, not, ◌&&◌, ◌||◌, List, [], ◌∷◌, ◌++◌, length, drop, refl, ap, sym, ◌∙◌, arith, Result, Ok, is_err, inl, inr, add-one, add-zero, zero-add, get_or}
 use Rattle.std.proofs.lemmas.List.{append-nil, at_drop_all}
 use Rattle.std.proofs.lemmas.List.FromFn.{fill_by_all}
-use Rattle.std.proofs.lemmas.Bool.{cases_lt, cases_Bool, lt-ltb, le-ltb, lt-leb, ne_eqb, and_left, and_right, or_from, true≢false, not_from_true}
+use Rattle.std.proofs.lemmas.Bool.{cases_lt, lt-ltb, le-ltb, lt-leb, ne_eqb, and_left, and_right, or_from}
 use Rattle.vd_bits.specs.Lanes.{lane16, lane32}
 use Rattle.vd_model.specs.declared.chain.Piece.{Piece}
-use Rattle.vd_model.specs.Chains.{IsChain, IsPiece, IsReadableFirst, blank}
+use Rattle.vd_model.specs.Chains.{IsChain, blank}
 use Rattle.vd_indirect.specs.declared.descriptor.TableKind.{TableKind}
 use Rattle.vd_indirect.specs.declared.descriptor.TableKind.TheVariants.{Split, Packed}
 use Rattle.vd_indirect.specs.declared.read.TableFault.{TableFault}
-use Rattle.vd_indirect.specs.declared.read.TableFault.TheVariants.{Link, Nested, Order}
+use Rattle.vd_indirect.specs.declared.read.TableFault.TheVariants.{Nested, Order}
 use Rattle.vd_indirect.specs.Tables.{ends, flag, flags_of, goes_on, has, is_misplaced, is_more, is_nested, is_unlinked, next_of, outcome, piece_at, pieces_of, read, second_at, second_word, table_words, visited, walked, words_from}
-use Rattle.vd_indirect.proofs.Walk.{judge_passes, length_passes, linked, visited-zero, walk_ends}
+use Rattle.vd_indirect.proofs.Walk.{judge_passes, length_passes, linked, walk_ends}
 
 -- ---- the words in their places
 
@@ -171,12 +169,12 @@ all_linked Split c chain i h =
     let at = visited_in_order Split c chain i h in
     elim (cases_lt (i + 1) (length c)) [
       | inl below ↦ (let next : next_of words (visited Split words i) ≡ i + 1 = ap (next_of words) at ∙ next_is c chain i below in
-        and_right (goes_on Split words (length c) i) (nat_le (length c) (next_of words (visited Split words i)) || (i + 1 == length c))
-            (or_from (nat_le (length c) (next_of words (visited Split words i))) (i + 1 == length c)
-                (ap (nat_le (length c)) next ∙ lt-leb (length c) (i + 1) below)
-                (ne_eqb (i + 1) (length c) (λ e. absurd (omega arith)))))
+          and_right (goes_on Split words (length c) i) (nat_le (length c) (next_of words (visited Split words i)) || (i + 1 == length c))
+          (or_from (nat_le (length c) (next_of words (visited Split words i))) (i + 1 == length c)
+          (ap (nat_le (length c)) next ∙ lt-leb (length c) (i + 1) below)
+          (ne_eqb (i + 1) (length c) (λ e. absurd (omega arith)))))
       | inr above ↦ and_left (goes_on Split words (length c) i) (nat_le (length c) (next_of words (visited Split words i)) || (i + 1 == length c))
-            (on_to_next Split c chain i h ∙ le-ltb (i + 1) (length c) above)
+          (on_to_next Split c chain i h ∙ le-ltb (i + 1) (length c) above)
     ]
 
 ordered : (a b : Bool) → (a ≡ true → b ≡ true) → (a && not b) ≡ false
@@ -199,7 +197,7 @@ good : (kind : TableKind) (c : List Piece) → IsChain c → (i : ℕ) → i < l
 good kind c chain i h =
     let words = table_words kind c in
     judge_passes (is_nested kind words i) (is_misplaced kind words i) (Nested (visited kind words i)) (Order (visited kind words i)) (linked kind words (length c) i (is_unlinked kind words (length c) i))
-        (not_nested kind c chain i h) (in_order kind c chain i h)
+    (not_nested kind c chain i h) (in_order kind c chain i h)
     ∙ ap (linked kind words (length c) i) (all_linked kind c chain i h)
 
 ends_is : (kind : TableKind) (c : List Piece) → IsChain c → (i : ℕ) → i < length c → ends kind (table_words kind c) (length c) i ≡ not (nat_lt (i + 1) (length c))
@@ -214,8 +212,8 @@ walked_back kind c chain =
     let last : ℕ = length c - 1 in
     let whole : last + 1 ≡ length c = omega arith in
     walk_ends kind words (length c) last (omega arith)
-        (λ j h. ends_is kind c chain j (omega arith) ∙ ap not (lt-ltb (j + 1) (length c) (omega arith)))
-        (ends_is kind c chain last (omega arith) ∙ ap not (le-ltb (last + 1) (length c) (omega arith)))
+    (λ j h. ends_is kind c chain j (omega arith) ∙ ap not (lt-ltb (j + 1) (length c) (omega arith)))
+    (ends_is kind c chain last (omega arith) ∙ ap not (le-ltb (last + 1) (length c) (omega arith)))
     ∙ good kind c chain last (omega arith)
     ∙ ap (λ (n : ℕ). Ok (pieces_of kind words n)) whole
     ∙ ap (λ (xs : List Piece). Ok xs) (sym (fill_by_all (λ n. piece_at kind words (visited kind words n)) c (length c) blank refl (λ k h. sym (spelled kind c chain k h))))

@@ -1,5 +1,5 @@
 -- The words of an indirect table, and the chain that a walk through them gives (VIRTIO 1.2, 2.7.5.3 and 2.8.7).
-use Rattle.std.specs.Prelude.{◌≡◌, ℕ, zero, suc, ◌+◌, ◌*◌, ◌/◌, ◌%◌, ◌<◌, ◌≤◌, ◌^◌, ◌==◌, nat_lt, nat_le, not, ◌&&◌, ◌||◌, Bool, true, false, List, [], ◌∷◌, length, map, slice_index, Option, Some, None, Result, Ok, Err, is_err, if◌then◌else◌}
+use Rattle.std.specs.Prelude.{ℕ, zero, suc, ◌+◌, ◌*◌, ◌/◌, ◌%◌, ◌^◌, ◌==◌, nat_lt, nat_le, not, ◌&&◌, ◌||◌, Bool, true, false, List, [], ◌∷◌, map, slice_index, Result, Ok, Err, is_err, if◌then◌else◌}
 use Rattle.std.specs.List.{range_with_len, position_or_len}
 use Rattle.std.specs.Int.{bit_at}
 use Rattle.vd_bits.specs.Lanes.{lane16, lane32}
@@ -124,19 +124,3 @@ read kind words len =
     if (len == 0) || not (len % 16 == 0) then Err (Length len)
     else (if nat_lt 256 len then Err (TooMany len)
     else walked kind words (len / 16))
-
--- ---- the walk by one place
-
--- where the walk goes on from the place visited after `count` others, if it does
-abbrev pub following : TableKind → List ℕ → ℕ → ℕ → Result (Option ℕ) TableFault
-following kind words places count =
-    if not (goes_on kind words places count) then Ok None
-    else (if is_unlinked kind words places count then Err (Link (visited kind words count))
-    else Ok (Some (visited kind words (suc count))))
-
--- what is wrong with a place, after a piece that is writable or not
-abbrev pub appending : TableKind → List ℕ → ℕ → Bool → Result (Unit {0}) TableFault
-appending kind words place writable =
-    if has (flags_of kind words place) 2 then Err (Nested place)
-    else (if writable && not (piece_at kind words place).write then Err (Order place)
-    else Ok tt)

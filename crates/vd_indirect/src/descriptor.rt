@@ -16,7 +16,9 @@ pub enum TableKind {
 
 /// The bits of a descriptor's flags (VIRTIO 1.2, 2.7.5 and 2.8.1).
 const NEXT: u32 = 0;
+
 const WRITE: u32 = 1;
+
 const INDIRECT: u32 = 2;
 
 /// The second word of the descriptor of a piece in a place; `more` where another descriptor follows in the next place.

@@ -9,3 +9,6 @@ mod write;
 pub use descriptor::TableKind;
 pub use read::{TableFault, read_table};
 pub use write::write_plan;
+
+#[cfg(test)]
+mod tests;

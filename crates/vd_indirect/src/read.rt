@@ -1,6 +1,7 @@
 //! A chain from the words of a table.
 ghost use Rattle.std.specs.Prelude.{◌≡◌, ◌≤◌, ◌<◌, ◌/◌, ◌+◌, ◌*◌, ◌++◌, ◌∷◌, [], length, if◌then◌else◌, nat_le, Ok, Err, OnOk, IfOk, IfSome};
-ghost use Rattle.vd_indirect.specs.Tables.{appending, flags_of, following, has, piece_at, read, visited, walked};
+ghost use Rattle.vd_indirect.specs.Steps.{appending, following};
+ghost use Rattle.vd_indirect.specs.Tables.{flags_of, has, piece_at, read, visited, walked};
 ghost use Rattle.vd_model.specs.Chains.{ends_writable};
 ghost use Rattle.vd_indirect.specs.declared.read.TableFault.TheVariants.{Nested};
 
@@ -69,7 +70,12 @@ fn first_piece(kind: TableKind, words: &[u64]) -> Result<Piece, TableFault>
 
 /// The place that the walk visits after `place`, before which it visited `count` others; None where it ends.
 #[tactic(auto, unfolding(crate::specs::Tables::visited))]
-fn next_place(kind: TableKind, words: &[u64], place: u32, count: u32) -> Result<Option<u32>, TableFault>
+fn next_place(
+    kind: TableKind,
+    words: &[u64],
+    place: u32,
+    count: u32,
+) -> Result<Option<u32>, TableFault>
     requires few { length words.now ≤ 32 }
     requires low { 2 * place + 1 < length words.now }
     requires early { count < length words.now / 2 }

@@ -6,8 +6,8 @@ use crate::descriptor::{TableKind, second_word_of};
 use arrayvec::ArrayVec;
 use vd_model::Chain;
 
-/// The words of the table of a chain, two for each of its pieces: the address, then length, flags and, in a split
-/// table, the next place (VIRTIO 1.2, 2.7.5.3 and 2.8.7). A table of 32 words and more has 16 bytes a piece.
+/// The words of a chain's table, two for each piece: the address in bytes, then the length, the flags and, in a split
+/// table, the next place (VIRTIO 1.2, 2.7.5.3 and 2.8.7). The table has 16 bytes a piece.
 pub fn write_plan(kind: TableKind, c: &Chain) -> ArrayVec<u64, 32>
     ensures words { result.items ≡ table_words kind c.now }
     ensures back { read kind result.items (16 * length c.now) ≡ Ok c.now }

@@ -1,8 +1,6 @@
-use Rattle.std.proofs.Common.{◌≡◌, ◌/◌, ◌<◌, ◌+◌, ◌∷◌, [], ℕ, List, length, sym, ap, ◌∙◌, subst, arith, Ok, Some}
+use Rattle.std.proofs.Common.{◌/◌, length, sym, arith}
 use Rattle.std.proofs.lemmas.Result.{err_from_is_err_and}
-use Rattle.vd_model.specs.declared.chain.Piece.{Piece}
-use Rattle.vd_indirect.specs.Tables.{following, piece_at}
-use Rattle.vd_indirect.proofs.Walk.{IsWalking, Goes, first_refused, first_taken, ended, broken, goes, refused, appended, length-taken}
+use Rattle.vd_indirect.proofs.Walk.{first_refused, first_taken, ended, broken, goes, refused, appended, length-taken}
 use Rattle.vd_indirect.proofs.read.walk.Goals as goal
 
 pub returns-in_err-first_piece : goal.returns-in_err-first_piece

@@ -1,4 +1,4 @@
-use Rattle.std.proofs.Common.{◌≡◌, ◌*◌, ℕ, List, length, ap, ◌∙◌, arith}
+use Rattle.std.proofs.Common.{◌*◌, ℕ, List, length, ap, ◌∙◌}
 use Rattle.vd_indirect.specs.Tables.{read, table_words}
 use Rattle.vd_indirect.proofs.Written.{all_written, reads_back}
 use Rattle.vd_indirect.proofs.write.write_plan.Goals as goal
