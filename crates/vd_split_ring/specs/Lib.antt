@@ -1,0 +1,4 @@
+pub mod SplitWords
+pub mod SplitDriver
+pub mod SplitDevice
+pub mod SplitRing
