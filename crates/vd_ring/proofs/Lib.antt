@@ -1,0 +1,4 @@
+pub mod Counts
+pub mod HeldPlaces
+pub mod ListSteps
+pub mod ControlSteps
