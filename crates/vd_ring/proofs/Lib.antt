@@ -1,4 +1,5 @@
 pub mod Counts
 pub mod HeldPlaces
+pub mod HeldInside
 pub mod ListSteps
 pub mod ControlSteps

@@ -3,3 +3,6 @@ pub mod Descriptors
 pub mod Direct
 pub mod DriverParts
 pub mod DriverOffers
+pub mod DriverCollects
+pub mod DriverControls
+pub mod DriverKeeps
