@@ -3,3 +3,4 @@ pub mod HeldPlaces
 pub mod HeldInside
 pub mod ListSteps
 pub mod ControlSteps
+pub mod DriverBag
