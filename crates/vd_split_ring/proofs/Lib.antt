@@ -6,3 +6,5 @@ pub mod DriverOffers
 pub mod DriverCollects
 pub mod DriverControls
 pub mod DriverKeeps
+pub mod DriverViews
+pub mod Spelling
