@@ -8,3 +8,4 @@ pub mod DriverControls
 pub mod DriverKeeps
 pub mod DriverViews
 pub mod Spelling
+pub mod DriverAnswers

@@ -3,3 +3,4 @@ pub mod SplitDriver
 pub mod SplitDevice
 pub mod SplitRing
 pub mod SplitDriverLaws
+pub mod SplitLaws
