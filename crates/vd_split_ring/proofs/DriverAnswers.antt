@@ -1,8 +1,7 @@
 -- What the answers of the driver's steps say: of the chain offered, of the entry collected, and of the bag.
-use Rattle.std.proofs.Common.{◌≡◌, ℕ, ◌+◌, ◌%◌, ◌<◌, ◌≤◌, Bool, true, false, List, [], ◌∷◌, ◌++◌, length, if◌then◌else◌, slice_index, slice_set, refl, sym, ap, ◌∙◌, subst, arith, inl, inr}
+use Rattle.std.proofs.Common.{◌≡◌, ℕ, Bool, true, false, List, [], ◌∷◌, ◌++◌, length, if◌then◌else◌, slice_index, slice_set, refl, sym, ap, ◌∙◌, subst, arith}
 use Rattle.std.specs.List.{Contains}
 use Rattle.std.proofs.lemmas.Nat.{mod_below}
-use Rattle.std.proofs.lemmas.List.{length_push}
 use Rattle.vd_bits.specs.Lanes.{lane32}
 use Rattle.vd_model.specs.declared.chain.Piece.{Piece}
 use Rattle.vd_words.specs.declared.access.Access.{Access}
@@ -29,8 +28,8 @@ use Rattle.vd_ring.proofs.Counts.{Contains_from, occurs_push, one_same}
 use Rattle.vd_ring.proofs.HeldPlaces.{chain_new}
 use Rattle.vd_ring.proofs.ControlSteps.{head_new}
 use Rattle.vd_ring.proofs.DriverBag.{offer_step}
-use Rattle.vd_split_ring.specs.SplitWords.{Spells, used_from, lane_word, id_word, len_word, used_id, used_len, shows, shown_from, words_of, staged_chain}
-use Rattle.vd_split_ring.specs.SplitDriver.{Publishes, DriverNextAt, DriverNext, driver_after_at, driver_after, driver_act_at, driver_act, driver_offers, NamesOpen}
+use Rattle.vd_split_ring.specs.SplitWords.{Spells, len_word, used_len, shows, shown_from, words_of, staged_chain}
+use Rattle.vd_split_ring.specs.SplitDriver.{Publishes, DriverNextAt, DriverNext, driver_act_at, driver_act, driver_offers, NamesOpen}
 use Rattle.vd_split_ring.specs.SplitRing.{Ring, HasEntered}
 use Rattle.vd_split_ring.specs.SplitDriverLaws.{DriverBags, IsOffered, IsCollected}
 use Rattle.vd_split_ring.proofs.DriverOffers.{publishes, staged_is_chain}

@@ -1,5 +1,5 @@
 -- Each access of the driver that is next keeps the ring invariant, and its answer tells what the view says.
-use Rattle.std.proofs.Common.{◌≡◌, ℕ, ◌+◌, ◌%◌, ◌<◌, ◌≤◌, ◌==◌, Bool, List, [], ◌∷◌, ◌++◌, length, if◌then◌else◌, slice_index, slice_set, refl, sym, ap, ◌∙◌, subst, arith, inl, inr}
+use Rattle.std.proofs.Common.{◌≡◌, ℕ, ◌+◌, ◌%◌, ◌≤◌, Bool, List, [], ◌∷◌, ◌++◌, length, if◌then◌else◌, slice_index, slice_set, sym, ap, ◌∙◌, subst, arith, inl, inr}
 use Rattle.std.proofs.lemmas.Bool.{eq-eqb, ne_eqb}
 use Rattle.std.proofs.lemmas.Nat.{mod_below}
 use Rattle.std.proofs.lemmas.List.Elements.{All-nil}
@@ -14,10 +14,10 @@ use Rattle.vd_ring.specs.declared.driver.DriverNow.TheVariants.{Idle, Offering, 
 use Rattle.vd_ring.specs.declared.driver.DriverView.{DriverView}
 use Rattle.vd_ring.specs.declared.device.DeviceView.{DeviceView}
 use Rattle.vd_ring.specs.History.{offers, collects, gives, head}
-use Rattle.vd_ring.specs.Control.{StoresCommand, LoadsAck}
+use Rattle.vd_ring.specs.Control.{LoadsAck}
 use Rattle.vd_ring.proofs.HeldInside.{head_low}
-use Rattle.vd_split_ring.specs.SplitWords.{IsDrivers, width, avail_from, used_from, ack_word, command_word, id_word, len_word, lane_word, entry_lane, shows, Stand, put}
-use Rattle.vd_split_ring.specs.SplitDriver.{DriverNextAt, DriverNext, DriverTells, DriverKnows, driver_side, stores, Begins, Enters, Publishes}
+use Rattle.vd_split_ring.specs.SplitWords.{used_from, ack_word, id_word, len_word, lane_word, entry_lane, put}
+use Rattle.vd_split_ring.specs.SplitDriver.{DriverNextAt, DriverNext, DriverKnows, stores, Publishes}
 use Rattle.vd_split_ring.specs.SplitRing.{Ring, Stages}
 use Rattle.vd_split_ring.specs.SplitDriverLaws.{DriverKeeps}
 use Rattle.vd_split_ring.proofs.Areas.{areas, lane_inside, devices_inside, ack_devices}

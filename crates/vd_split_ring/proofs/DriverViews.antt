@@ -1,5 +1,5 @@
 -- What holds of the driver's view alone: each access that is next is to one of the ring's words, and no access changes the frame.
-use Rattle.std.proofs.Common.{◌≡◌, ℕ, ◌+◌, ◌<◌, ◌≤◌, Bool, true, false, List, [], ◌∷◌, ◌++◌, length, take, if◌then◌else◌, refl, sym, ap, ◌∙◌, subst, arith, inl, inr}
+use Rattle.std.proofs.Common.{◌≡◌, ℕ, ◌+◌, ◌<◌, Bool, true, false, List, [], ◌∷◌, ◌++◌, length, take, if◌then◌else◌, refl, sym, ap, ◌∙◌, subst, arith, inl, inr}
 use Rattle.std.proofs.lemmas.Nat.{mod_below}
 use Rattle.vd_words.specs.declared.access.Access.{Access}
 use Rattle.vd_words.specs.declared.access.Access.TheVariants.{Load, Store}
@@ -13,12 +13,12 @@ use Rattle.vd_ring.specs.declared.driver.DriverNow.{DriverNow}
 use Rattle.vd_ring.specs.declared.driver.DriverNow.TheVariants.{Idle, Offering, Entered, Collecting}
 use Rattle.vd_ring.specs.declared.driver.DriverView.{DriverView}
 use Rattle.vd_ring.specs.Frames.{lent}
-use Rattle.vd_ring.specs.History.{offers, collects, free, head, next_head, occurs}
+use Rattle.vd_ring.specs.History.{offers, collects, free, head, next_head}
 use Rattle.vd_ring.specs.Control.{StoresCommand, LoadsAck}
 use Rattle.vd_ring.proofs.Counts.{occurs_parts}
 use Rattle.vd_ring.proofs.HeldInside.{inside, head_low, next_low}
-use Rattle.vd_split_ring.specs.SplitWords.{IsLawful, IsBuilt, width, put, described, command_word, ack_word, id_word, len_word, lane_word, entry_lane, shows, shown_from}
-use Rattle.vd_split_ring.specs.SplitDriver.{Begins, Enters, Publishes, plan, DriverNextAt, DriverNext, driver_after_at, driver_after}
+use Rattle.vd_split_ring.specs.SplitWords.{IsLawful, IsBuilt, width, put, described, command_word, ack_word, id_word, len_word, entry_lane, shows, shown_from}
+use Rattle.vd_split_ring.specs.SplitDriver.{Begins, Publishes, DriverNextAt, DriverNext, driver_after_at}
 use Rattle.vd_split_ring.specs.SplitDriverLaws.{DriverAlone}
 use Rattle.vd_split_ring.proofs.Descriptors.{IsAt, described_at}
 use Rattle.vd_split_ring.proofs.Direct.{IsNext, is_next, spelling_is}

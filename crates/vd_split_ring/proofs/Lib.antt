@@ -9,3 +9,5 @@ pub mod DriverKeeps
 pub mod DriverViews
 pub mod Spelling
 pub mod DriverAnswers
+pub mod Opens
+pub mod Agreement

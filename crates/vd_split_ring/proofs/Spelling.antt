@@ -1,6 +1,6 @@
 -- Each open chain is spelled at its head.
 use Rattle.std.proofs.Common.{◌≡◌, ℕ, ◌<◌, Bool, true, false, List, slice_index, slice_index_or, refl, sym, ◌∙◌, subst, arith, inl, inr}
-use Rattle.std.specs.List.{All, Contains}
+use Rattle.std.specs.List.{Contains}
 use Rattle.vd_model.specs.declared.chain.Piece.{Piece}
 use Rattle.vd_ring.specs.declared.frame.Frame.{Frame}
 use Rattle.vd_ring.specs.declared.frame.Put.{Put}
@@ -8,12 +8,11 @@ use Rattle.vd_ring.specs.declared.driver.DriverDone.{DriverDone}
 use Rattle.vd_ring.specs.declared.driver.DriverView.{DriverView}
 use Rattle.vd_ring.specs.declared.device.DeviceView.{DeviceView}
 use Rattle.vd_ring.specs.History.{open_at, places, head, chain}
-use Rattle.vd_ring.specs.Places.{Places}
 use Rattle.vd_ring.proofs.Counts.{occurs_from, occurs_at}
 use Rattle.vd_ring.proofs.HeldPlaces.{open_below, places_once, places_inside}
-use Rattle.vd_split_ring.specs.SplitWords.{IsLawful, IsBuilt, IsDrivers, Spells, SpellsTable, Stand, is_tabled, spelling, described, used_from}
-use Rattle.vd_split_ring.specs.SplitRing.{Ring, Words, Driven}
-use Rattle.vd_split_ring.proofs.Descriptors.{IsAt, described_within}
+use Rattle.vd_split_ring.specs.SplitWords.{Spells, Stand, is_tabled, described}
+use Rattle.vd_split_ring.specs.SplitRing.{Ring, Words}
+use Rattle.vd_split_ring.proofs.Descriptors.{described_within}
 use Rattle.vd_split_ring.proofs.Direct.{lent_pieces, untabled, spelling_is}
 
 -- descriptors are the driver's words

@@ -1,6 +1,5 @@
 -- What always holds of a split ring whose words and views meet the invariant. Each is the contract of a function in src/laws.rt.
 use Rattle.std.specs.Prelude.{◌≡◌, ◌↔◌, ℕ, ◌+◌, ◌<◌, ◌≤◌, true, List, length, take, slice_index, replicate}
-use Rattle.std.specs.List.{Contains}
 use Rattle.vd_ring.specs.declared.frame.Frame.{Frame}
 use Rattle.vd_ring.specs.declared.driver.DriverDone.{DriverDone}
 use Rattle.vd_ring.specs.declared.driver.DriverView.{DriverView}
@@ -8,7 +7,7 @@ use Rattle.vd_ring.specs.declared.device.DeviceDone.{DeviceDone}
 use Rattle.vd_ring.specs.declared.device.DeviceView.{DeviceView}
 use Rattle.vd_ring.specs.Account.{Ordered}
 use Rattle.vd_ring.specs.Fresh.{fresh_driver, fresh_device}
-use Rattle.vd_ring.specs.History.{offers, collects, takes, gives, open_size, running, numbers, occurs, used_at}
+use Rattle.vd_ring.specs.History.{offers, collects, takes, gives, open_size, numbers, occurs, used_at}
 use Rattle.vd_split_ring.specs.SplitWords.{width, used_from, lane_word, shows}
 use Rattle.vd_split_ring.specs.SplitRing.{Ring}
 
