@@ -11,3 +11,4 @@ pub mod Spelling
 pub mod DriverAnswers
 pub mod Opens
 pub mod Agreement
+mod Examples
