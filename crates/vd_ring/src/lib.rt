@@ -1,10 +1,12 @@
 //! What the two sides of a ring know, and the definitions that every layout cites.
 #![tactic(auto)]
 
+mod act;
 mod device;
 mod driver;
 mod frame;
 
+pub use act::{DeviceAct, DriverAct};
 pub use device::{DeviceDone, DeviceNow, DeviceView};
 pub use driver::{DriverDone, DriverNow, DriverView};
 pub use frame::{Frame, Put, Used};

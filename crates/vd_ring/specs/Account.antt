@@ -1,0 +1,31 @@
+-- The account of a queue: what was offered, begun, given back and collected.
+use Rattle.std.specs.Prelude.{◌≡◌, ℕ, ◌<◌, ◌≤◌, List, length, map, take, slice_index_or}
+use Rattle.vd_ring.specs.declared.frame.Used.{Used}
+use Rattle.vd_ring.specs.History.{used_at, numbers, occurs, upto}
+
+-- the chains offered; the chains begun by a device, with their lengths; the entries given back on the guest's ring; those collected
+pub record Account (X : Type 0) : Type 0 where
+  pub offers : List X
+  pub begun : List (X × ℕ)
+  pub given : List Used
+  pub collected : List Used
+
+-- the chains begun are a prefix of those offered; the numbers given differ, each is one of a chain begun and has the length that
+-- stands there; the entries collected are a prefix of those given
+pub record Lawful {X : Type 0} (a : Account X) : Type 0 where
+  pub begun : map (λ x. x.0) a.begun ≡ take (length a.begun) a.offers
+  pub differ : (k : ℕ) → occurs k (numbers a.given) ≤ 1
+  pub inside : (j : ℕ) → j < length a.given → (used_at a.given j).number < length a.begun
+  pub lengths : (j : ℕ) (d : X × ℕ) → j < length a.given → (slice_index_or a.begun (used_at a.given j).number d).1 ≡ (used_at a.given j).len
+  pub collected : a.collected ≡ take (length a.collected) a.given
+
+-- lawful, and all four lists are equally long
+pub record Whole {X : Type 0} (a : Account X) : Type 0 where
+  pub lawful : Lawful a
+  pub begun : length a.begun ≡ length a.offers
+  pub given : length a.given ≡ length a.offers
+  pub collected : length a.collected ≡ length a.offers
+
+-- the numbers given are 0, 1, 2 and so on
+abbrev pub Ordered : List Used → Type 0
+Ordered g = numbers g ≡ upto (length g)

@@ -1,0 +1,9 @@
+pub mod Frames
+pub mod History
+pub mod Control
+pub mod Bag
+pub mod Account
+pub mod Places
+pub mod Lists
+pub mod Steps
+pub mod Fresh

@@ -1,0 +1,170 @@
+-- The accesses of a split ring's driver: which may be made next, the view after one, what its answer tells, and what the end's step
+-- answers.
+use Rattle.std.specs.Prelude.{◌≡◌, ℕ, ◌+◌, ◌-◌, ◌/◌, ◌%◌, ◌<◌, ◌≤◌, ◌⊎◌, ◌==◌, true, false, not, List, [], ◌∷◌, ◌++◌, length, take, None, if◌then◌else◌, slice_index, slice_set, unwrap_or}
+use Rattle.std.specs.List.{Contains}
+use Rattle.vd_bits.specs.Lanes.{lane32}
+use Rattle.vd_model.specs.declared.chain.Piece.{Piece}
+use Rattle.vd_model.specs.Chains.{needs}
+use Rattle.vd_words.specs.declared.access.Access.{Access}
+use Rattle.vd_words.specs.declared.access.Access.TheVariants.{Load, Store}
+use Rattle.vd_words.specs.declared.access.Op.{Op}
+use Rattle.vd_words.specs.declared.access.Op.TheVariants as op
+use Rattle.vd_words.specs.Own.{SideModel}
+use Rattle.vd_ring.specs.declared.act.DriverAct.{DriverAct}
+use Rattle.vd_ring.specs.declared.act.DriverAct.TheVariants as act
+use Rattle.vd_ring.specs.declared.frame.Frame.{Frame}
+use Rattle.vd_ring.specs.declared.frame.Put.{Put}
+use Rattle.vd_ring.specs.declared.frame.Used.{Used}
+use Rattle.vd_ring.specs.declared.driver.DriverDone.{DriverDone}
+use Rattle.vd_ring.specs.declared.driver.DriverDone.TheVariants.{Offer, Collect, StoreCommand, LoadAck}
+use Rattle.vd_ring.specs.declared.driver.DriverNow.{DriverNow}
+use Rattle.vd_ring.specs.declared.driver.DriverNow.TheVariants.{Idle, Offering, Entered, Collecting}
+use Rattle.vd_ring.specs.declared.driver.DriverView.{DriverView}
+use Rattle.vd_ring.specs.Frames.{Fits, lent, limit}
+use Rattle.vd_ring.specs.History.{offers, collects, free, head, next_head, open_at, collected, last_used}
+use Rattle.vd_ring.specs.Control.{IsControlChain, StoresCommand, LoadsAck, last_collected}
+use Rattle.vd_split_ring.specs.SplitWords.{IsDrivers, used_from, commands_from, command_word, ack_word, id_word, len_word, lane_word, with_lane, entry_lane, shows, shown_from, ShowsIndex, put, words_of, spelling, staged_chain}
+
+-- ---- the conditions
+
+-- the chain may be offered now
+pub record CanOffer (f : Frame) (o : List DriverDone) (c : List Piece) : Type 0 where
+  pub fits : Fits f c
+  -- there are as many free places as it needs
+  pub room : needs f.features c ≤ length (free f o)
+  pub limited : length (offers o) < limit f
+  -- on a control ring it is a control chain of the next head
+  pub control : f.control ≡ true → IsControlChain (command_word f (next_head f o)) (ack_word f (next_head f o)) c
+
+-- the stores that offer the chain, up to the ring entry: its table's, then its descriptors'
+abbrev pub plan : Frame → List DriverDone → List Piece → List Put
+plan f o c = spelling f (take (lent f c) (free f o)) c
+
+-- these are the first stores of a chain that may be offered
+pub record Begins (f : Frame) (o : List DriverDone) (puts : List Put) : Type 0 where
+  pub chain : List Piece
+  pub can : CanOffer f o chain
+  pub first : puts ≡ take (length puts) (plan f o chain)
+
+-- the store of the ring entry, after all of a chain's
+pub record Enters (f : Frame) (o : List DriverDone) (stored : List ℕ) (puts : List Put) (p x : ℕ) : Type 0 where
+  pub chain : List Piece
+  pub can : CanOffer f o chain
+  pub whole : puts ≡ plan f o chain
+  pub place : p ≡ lane_word f (entry_lane f (length (offers o)))
+  pub word : x ≡ with_lane f stored (entry_lane f (length (offers o))) (next_head f o)
+
+-- the store of the index, by which the chain is offered
+pub record Publishes (f : Frame) (o : List DriverDone) (stored : List ℕ) (p x : ℕ) : Type 0 where
+  pub place : p ≡ lane_word f 1
+  pub word : x ≡ with_lane f stored 1 ((length (offers o) + 1) % 65536)
+
+-- ---- next
+
+abbrev pub DriverNextAt : DriverNow → DriverView → Op → Access → Type 0
+DriverNextAt Idle v op.Offer (Store p x) = (v.armed ≡ None) × Begins v.frame v.done (put p x ∷ [])
+DriverNextAt (Offering puts) v op.Offer (Store p x) = Begins v.frame v.done (puts ++ put p x ∷ []) ⊎ Enters v.frame v.done v.stored puts p x
+DriverNextAt (Entered puts) v op.Offer (Store p x) = Publishes v.frame v.done v.stored p x
+DriverNextAt Idle v op.Collect (Load p) = (v.armed ≡ None) × (p ≡ used_from v.frame)
+DriverNextAt (Collecting (r ∷ [])) v op.Collect (Load p) = p ≡ id_word v.frame (length (collects v.done))
+DriverNextAt (Collecting (r ∷ w ∷ [])) v op.Collect (Load p) = p ≡ len_word v.frame (length (collects v.done))
+DriverNextAt Idle v op.Control (Store p x) = StoresCommand v.frame (command_word v.frame) v.done p
+DriverNextAt Idle v op.Control (Load p) = LoadsAck v.frame (ack_word v.frame) v.done p
+DriverNextAt _ _ _ _ = ⊥
+
+-- the access may be made now
+abbrev pub DriverNext : DriverView → Op → Access → Type 0
+DriverNext v op a = DriverNextAt v.doing v op a
+
+-- ---- after
+
+-- the operation after the publishing store: no event word is loaded yet
+abbrev pub driver_published : ℕ → ℕ → DriverNow
+driver_published old new = Idle
+
+abbrev pub stores : DriverView → ℕ → ℕ → DriverNow → DriverView
+stores v p x doing = record v { stored = slice_set v.stored p x; doing = doing }
+
+-- the operation after a store of an offer: the ring entry's, or another of the chain's
+abbrev pub staged : DriverView → List Put → ℕ → ℕ → DriverNow
+staged v puts p x = if p == lane_word v.frame (entry_lane v.frame (length (offers v.done))) then Entered puts else Offering (puts ++ put p x ∷ [])
+
+abbrev pub driver_offers : DriverView → List Put → ℕ → ℕ → DriverView
+driver_offers v puts p x = record v { done = Offer (staged_chain v.frame (words_of puts)) ∷ v.done; stored = slice_set v.stored p x; doing = driver_published (length (offers v.done)) (length (offers v.done) + 1) }
+
+abbrev pub driver_looks : DriverView → ℕ → DriverView
+driver_looks v r =
+    if shows r (length (collects v.done))
+    then record v { seen = shown_from r (length (collects v.done)); shown = false }
+    else record v { seen = shown_from r (length (collects v.done)); shown = true; doing = Collecting (r ∷ []) }
+
+-- r is the index word, w the word with the id, x the word with the length
+abbrev pub driver_collects : DriverView → ℕ → ℕ → ℕ → DriverView
+driver_collects v r w x =
+    record v { done = Collect (collected v.frame v.done (lane32 w 1) (lane32 x 0)) ∷ v.done; shown = not (shows r (length (collects v.done ++ collected v.frame v.done (lane32 w 1) (lane32 x 0)))); doing = Idle }
+
+abbrev pub driver_commands : DriverView → ℕ → ℕ → DriverView
+driver_commands v p x =
+    record v { done = StoreCommand ((p - commands_from v.frame) / 2) ((p - commands_from v.frame) % 2) x ∷ v.done; stored = slice_set v.stored p x }
+
+abbrev pub driver_acks : DriverView → ℕ → DriverView
+driver_acks v r = record v { done = LoadAck (unwrap_or (last_collected v.done) 0) r ∷ v.done }
+
+abbrev pub driver_after_at : DriverNow → DriverView → Op → Access → ℕ → DriverView
+driver_after_at Idle v op.Offer (Store p x) r = stores v p x (Offering (put p x ∷ []))
+driver_after_at (Offering puts) v op.Offer (Store p x) r = stores v p x (staged v puts p x)
+driver_after_at (Entered puts) v op.Offer (Store p x) r = driver_offers v puts p x
+driver_after_at Idle v op.Collect (Load p) r = driver_looks v r
+driver_after_at (Collecting (r ∷ [])) v op.Collect (Load p) w = record v { doing = Collecting (r ∷ w ∷ []) }
+driver_after_at (Collecting (r ∷ w ∷ [])) v op.Collect (Load p) x = driver_collects v r w x
+driver_after_at Idle v op.Control (Store p x) r = driver_commands v p x
+driver_after_at Idle v op.Control (Load p) r = driver_acks v r
+driver_after_at _ v _ _ _ = v
+
+-- the view after an access with this answer
+abbrev pub driver_after : DriverView → Op → Access → ℕ → DriverView
+driver_after v op a r = driver_after_at v.doing v op a r
+
+-- ---- tells
+
+-- a used id is the head of a chain offered and not collected; under IN_ORDER it is the first of them
+pub record NamesOpen (f : Frame) (o : List DriverDone) (id : ℕ) : Type 0 where
+  pub number : ℕ
+  pub is_open : Contains (open_at o) number
+  pub is_head : head f o number ≡ id
+  pub in_order : f.features.in_order ≡ true → number ≡ length (collects o)
+
+abbrev pub DriverTellsAt : DriverNow → DriverView → Op → Access → ℕ → Type 0
+DriverTellsAt Idle v op.Collect (Load p) r =
+    ShowsIndex r v.seen (length (collects v.done)) (length (offers v.done))
+    × (v.shown ≡ true → shows r (length (collects v.done)) ≡ false)
+DriverTellsAt (Collecting (r ∷ [])) v op.Collect (Load p) w = NamesOpen v.frame v.done (lane32 w 1)
+DriverTellsAt (Collecting (r ∷ w ∷ [])) v op.Collect (Load p) x = NamesOpen v.frame v.done (lane32 w 1)
+DriverTellsAt _ _ _ _ _ = Unit {0}
+
+-- a load of a word that only the driver stores answers what it stored there last
+abbrev pub DriverKnows : DriverView → Access → ℕ → Type 0
+DriverKnows v (Load p) r = IsDrivers v.frame p → r ≡ slice_index v.stored p
+DriverKnows v (Store p x) r = Unit {0}
+
+-- what an answer tells, in terms of the driver's view alone
+abbrev pub DriverTells : DriverView → Op → Access → ℕ → Type 0
+DriverTells v op a r = DriverKnows v a r × DriverTellsAt v.doing v op a r
+
+-- ---- the step's answer
+
+abbrev pub collect_act : DriverView → ℕ → ℕ → DriverAct
+collect_act v w x = let u : Used = last_used (collected v.frame v.done (lane32 w 1) (lane32 x 0)) in act.Collected u.number u.len (lane32 w 1)
+
+abbrev pub driver_act_at : DriverNow → DriverView → Op → Access → ℕ → DriverAct
+driver_act_at (Entered puts) v op.Offer (Store p x) r = act.Offered (length (offers v.done))
+driver_act_at Idle v op.Collect (Load p) r = if shows r (length (collects v.done)) then act.Nothing else act.Moved
+driver_act_at (Collecting (r ∷ w ∷ [])) v op.Collect (Load p) x = collect_act v w x
+driver_act_at _ v _ _ _ = act.Moved
+
+-- what the end's step answers, by the view before it
+abbrev pub driver_act : DriverView → Op → Access → ℕ → DriverAct
+driver_act v op a r = driver_act_at v.doing v op a r
+
+abbrev pub driver_side : SideModel DriverView
+driver_side = record { next = DriverNext; after = driver_after; tells = DriverTells }

@@ -1,0 +1,153 @@
+-- The ring invariant of a split ring: what always holds of its words and of what its two sides know.
+use Rattle.std.specs.Prelude.{◌≡◌, ℕ, ◌+◌, ◌%◌, ◌<◌, ◌≤◌, true, false, List, [], ◌∷◌, length, take, Option, Some, slice_index}
+use Rattle.std.specs.List.{Contains}
+use Rattle.vd_bits.specs.Lanes.{lane16, lane32}
+use Rattle.vd_model.specs.declared.chain.Piece.{Piece}
+use Rattle.vd_ring.specs.declared.frame.Frame.{Frame}
+use Rattle.vd_ring.specs.declared.frame.Put.{Put}
+use Rattle.vd_ring.specs.declared.frame.Used.{Used}
+use Rattle.vd_ring.specs.declared.driver.DriverDone.{DriverDone}
+use Rattle.vd_ring.specs.declared.driver.DriverNow.{DriverNow}
+use Rattle.vd_ring.specs.declared.driver.DriverNow.TheVariants as driver
+use Rattle.vd_ring.specs.declared.driver.DriverView.{DriverView}
+use Rattle.vd_ring.specs.declared.device.DeviceDone.{DeviceDone}
+use Rattle.vd_ring.specs.declared.device.DeviceNow.{DeviceNow}
+use Rattle.vd_ring.specs.declared.device.DeviceNow.TheVariants as device
+use Rattle.vd_ring.specs.declared.device.DeviceView.{DeviceView}
+use Rattle.vd_ring.specs.History.{offers, collects, takes, gives, taken_head, running, open_at, places, head, next_head, chain}
+use Rattle.vd_ring.specs.Control.{Commands, Acks}
+use Rattle.vd_ring.specs.Places.{Places}
+use Rattle.vd_ring.specs.Lists.{Lists, Rested, entry_at}
+use Rattle.vd_split_ring.specs.SplitWords.{IsLawful, IsBuilt, IsDrivers, IsDevices, width, command_word, ack_word, kick_at, call_at, used_from, lane_at, entry_lane, event_lane, used_index, used_id, used_len, words_of, Stand, spelling, reading}
+use Rattle.vd_split_ring.specs.SplitDriver.{CanOffer, Begins, plan}
+use Rattle.vd_split_ring.specs.SplitDevice.{loaded_head}
+
+-- ---- the words
+
+-- each word is what its one writer last stored in it
+pub record Words (f : Frame) (ws driven served : List ℕ) : Type 0 where
+  pub wide : (length ws ≡ width f) × (length driven ≡ width f) × (length served ≡ width f)
+  pub drivers : (i : ℕ) → IsDrivers f i → slice_index ws i ≡ slice_index driven i
+  pub devices : (i : ℕ) → IsDevices f i → slice_index ws i ≡ slice_index served i
+
+-- what the driver's words say of its chains
+pub record Driven (f : Frame) (o : List DriverDone) (stored : List ℕ) : Type 0 where
+  -- the available index is the count of chains offered
+  pub index : lane_at f stored 1 ≡ length (offers o) % 65536
+  -- the ring entry of each chain that the driver may still count on is its head
+  pub entries : (k : ℕ) → length (collects o) ≤ k → k < length (offers o) → lane_at f stored (entry_lane f k) ≡ head f o k
+  -- each chain offered and not collected is spelled at its places
+  pub spelled : (k : ℕ) → Contains (open_at o) k → Stand stored (spelling f (places f o k) (chain o k))
+
+-- what the device's words say of what it gave
+pub record Served (f : Frame) (o : List DriverDone) (s : List DeviceDone) (stored : List ℕ) : Type 0 where
+  -- the used index is the count of entries given
+  pub index : used_index f stored ≡ length (gives s) % 65536
+  -- where a give begins that is not collected, its last chain's head and length stand
+  pub ids : (j : ℕ) (u : Used) → length (collects o) ≤ j → entry_at s j ≡ Some u → used_id f stored j ≡ head f o u.number
+  pub lens : (j : ℕ) (u : Used) → length (collects o) ≤ j → entry_at s j ≡ Some u → used_len f stored j ≡ u.len
+
+-- the driver's flags, used_event and bell: where it is armed, the event word stands at its count (VIRTIO 1.2, 2.7.7 and 2.7.10)
+pub record DriverSignals (f : Frame) (armed : Option ℕ) (bells : ℕ) (stored : List ℕ) : Type 0 where
+  pub no_flags : f.features.event_idx ≡ true → lane_at f stored 0 ≡ 0
+  pub flags : (s : ℕ) → armed ≡ Some s → f.features.event_idx ≡ false → lane_at f stored 0 ≡ 0
+  pub event : (s : ℕ) → armed ≡ Some s → f.features.event_idx ≡ true → lane_at f stored (event_lane f) ≡ s % 65536
+  pub bell : slice_index stored (kick_at f) ≡ bells % 18446744073709551616
+
+-- the device's flags, avail_event and bell
+pub record DeviceSignals (f : Frame) (armed : Option ℕ) (bells : ℕ) (stored : List ℕ) : Type 0 where
+  pub no_flags : f.features.event_idx ≡ true → lane16 (slice_index stored (used_from f)) 0 ≡ 0
+  pub flags : (s : ℕ) → armed ≡ Some s → f.features.event_idx ≡ false → lane16 (slice_index stored (used_from f)) 0 ≡ 0
+  pub event : (s : ℕ) → armed ≡ Some s → f.features.event_idx ≡ true → lane16 (slice_index stored (used_from f + f.size)) 2 ≡ s % 65536
+  pub bell : slice_index stored (call_at f) ≡ bells % 18446744073709551616
+
+-- ---- the operations in progress
+
+-- the stores so far are the first of a chain that may be offered, and they stand
+pub record Stages (f : Frame) (o : List DriverDone) (stored : List ℕ) (puts : List Put) : Type 0 where
+  pub begins : Begins f o puts
+  pub stand : Stand stored puts
+
+-- they are all of a chain's, and the next ring entry is its head
+pub record HasEntered (f : Frame) (o : List DriverDone) (stored : List ℕ) (puts : List Put) : Type 0 where
+  pub chain : List Piece
+  pub can : CanOffer f o chain
+  pub whole : puts ≡ plan f o chain
+  pub stand : Stand stored puts
+  pub entry : lane_at f stored (entry_lane f (length (offers o))) ≡ next_head f o
+
+-- the index loaded in this collect or take is the one seen last, and shows a further entry or chain
+pub record HasSeen (r seen low : ℕ) : Type 0 where
+  pub lane : lane16 r 1 ≡ seen % 65536
+  pub more : low < seen
+
+-- the loaded word has the id of the used entry that begins where the collected ones end
+pub record Finds (f : Frame) (o : List DriverDone) (s : List DeviceDone) (w : ℕ) : Type 0 where
+  pub used : Used
+  pub begins : entry_at s (length (collects o)) ≡ Some used
+  pub is_id : lane32 w 1 ≡ head f o used.number
+
+abbrev pub DriverDoing : DriverNow → Frame → List DriverDone → List ℕ → ℕ → List DeviceDone → Type 0
+DriverDoing driver.Idle f o stored seen s = Unit {0}
+DriverDoing (driver.Offering puts) f o stored seen s = Stages f o stored puts
+DriverDoing (driver.Entered puts) f o stored seen s = HasEntered f o stored puts
+DriverDoing (driver.Collecting (r ∷ [])) f o stored seen s = HasSeen r seen (length (collects o))
+DriverDoing (driver.Collecting (r ∷ w ∷ [])) f o stored seen s = HasSeen r seen (length (collects o)) × Finds f o s w
+DriverDoing _ f o stored seen s = ⊥
+
+-- w has the head of chain number k of what was offered, and the words loaded after it are the first of that chain's, not all
+pub record Loads (f : Frame) (o : List DriverDone) (k w : ℕ) (ws : List ℕ) : Type 0 where
+  pub is_head : loaded_head f k w ≡ head f o k
+  pub words : ws ≡ words_of (take (length ws) (reading f (places f o k) (chain o k)))
+  pub left : length ws < length (reading f (places f o k) (chain o k))
+
+-- the stored id is the head of a chain taken and not given, and it stands in the next used entry
+pub record Gives (f : Frame) (s : List DeviceDone) (stored : List ℕ) (a : ℕ) : Type 0 where
+  pub number : ℕ
+  pub runs : Contains (running s) number
+  pub in_order : f.features.in_order ≡ true → number ≡ length (gives s)
+  pub is_id : lane32 a 1 ≡ taken_head s number
+  pub stands : used_id f stored (length (gives s)) ≡ lane32 a 1
+
+abbrev pub DeviceDoing : DeviceNow → Frame → List DriverDone → List DeviceDone → List ℕ → ℕ → Type 0
+DeviceDoing device.Idle f o s stored seen = Unit {0}
+DeviceDoing (device.Taking (r ∷ [])) f o s stored seen = HasSeen r seen (length (takes s))
+DeviceDoing (device.Taking (r ∷ w ∷ ws)) f o s stored seen = HasSeen r seen (length (takes s)) × Loads f o (length (takes s)) w ws
+DeviceDoing (device.Giving (a ∷ [])) f o s stored seen = Gives f s stored a
+DeviceDoing (device.Giving (a ∷ b ∷ [])) f o s stored seen = Gives f s stored a × (used_len f stored (length (gives s)) ≡ lane32 b 0)
+DeviceDoing _ f o s stored seen = ⊥
+
+-- ---- the invariant
+
+pub record Ring (ws : List ℕ) (d : DriverView) (e : DeviceView) : Type 0 where
+  -- both sides name the same ring, size, features and bounds
+  pub same : e.frame ≡ d.frame
+  pub lawful : IsLawful d.frame
+  pub built : IsBuilt d.frame
+  -- each word is what its one writer last stored in it
+  pub words : Words d.frame ws d.stored e.stored
+  -- each place is free or held by one open chain; no chain was offered past the limit, the size or the bounds
+  pub places : Places d.frame d.done
+  -- the driver's index, entries and descriptors are those of its chains
+  pub driven : Driven d.frame d.done d.stored
+  -- taken is a prefix of offered, and collected of given; each chain is given once
+  pub lists : Lists d.frame d.done e.done
+  -- the device's index and entries are those of what it gave
+  pub served : Served d.frame d.done e.done e.stored
+  -- flags, event words and bells are those of where each side is armed and of how many bells it stored
+  pub driver_signals : DriverSignals d.frame d.armed d.bells d.stored
+  pub device_signals : DeviceSignals d.frame e.armed e.bells e.stored
+  -- command and ack words are those stored for each chain, and each side loaded what the other stored
+  pub commands : Commands d.frame (command_word d.frame) (ack_word d.frame) d.done d.stored
+  pub acks : Acks d.frame (ack_word d.frame) d.done e.done e.stored
+  -- what each side has staged stands where no other may look, and what it has loaded is what the other published
+  pub driver_doing : DriverDoing d.doing d.frame d.done d.stored d.seen e.done
+  pub device_doing : DeviceDoing e.doing d.frame d.done e.done e.stored e.seen
+  -- an index that a side has seen was published
+  pub driver_seen : d.seen ≤ length (gives e.done)
+  pub device_seen : e.seen ≤ length (offers d.done)
+  -- where its last look showed more than it has collected or taken since, that look's index is past it
+  pub driver_shown : d.shown ≡ true → length (collects d.done) < d.seen
+  pub device_shown : e.shown ≡ true → length (takes e.done) < e.seen
+  -- a device whose last act is a rest has given all that it has taken
+  pub rested : Rested e.done
