@@ -40,7 +40,8 @@ command_of f (LoadAck l x ∷ o) k i = command_of f o k i
 abbrev pub last_collected : List DriverDone → Option ℕ
 last_collected [] = None
 last_collected (Offer c ∷ o) = None
-last_collected (Collect us ∷ o) = Some (last_used us).number
+last_collected (Collect [] ∷ o) = last_collected o
+last_collected (Collect (u ∷ us) ∷ o) = Some (last_used (u ∷ us)).number
 last_collected (StoreCommand g j x ∷ o) = last_collected o
 last_collected (LoadAck k x ∷ o) = last_collected o
 
@@ -100,20 +101,22 @@ pub record LoadsAck (f : Frame) (ack : ℕ → ℕ) (o : List DriverDone) (p : �
   pub last : last_collected o ≡ Some number
   pub place : p ≡ ack (head f o number)
 
--- a load of a command word of a chain taken and not given
+-- a load of a command word of a chain taken and not given, at a head of the ring
 pub record LoadsCommand (f : Frame) (command : ℕ → ℕ) (s : List DeviceDone) (p : ℕ) : Type 0 where
   pub control : f.control ≡ true
   pub number : ℕ
   pub runs : Contains (running s) number
+  pub inside : taken_head s number < f.size
   pub half : ℕ
   pub two : half < 2
   pub place : p ≡ command (taken_head s number) + half
 
--- a store of the ack word of a chain taken and not given
+-- a store of the ack word of a chain taken and not given, at a head of the ring
 pub record StoresAck (f : Frame) (ack : ℕ → ℕ) (s : List DeviceDone) (p : ℕ) : Type 0 where
   pub control : f.control ≡ true
   pub number : ℕ
   pub runs : Contains (running s) number
+  pub inside : taken_head s number < f.size
   pub place : p ≡ ack (taken_head s number)
 
 -- ---- what always holds, on a control ring

@@ -1,0 +1,153 @@
+-- What the two sides' lists keep, and what follows of them. The driver's offers and collects.
+use Rattle.std.proofs.Common.{◌≡◌, ℕ, zero, suc, ◌+◌, ◌<◌, ◌≤◌, ◌==◌, Bool, true, false, List, [], ◌∷◌, ◌++◌, length, take, if◌then◌else◌, nat_lt, slice_index, Option, Some, None, refl, sym, ap, ◌∙◌, subst, arith, inl, inr}
+use Rattle.std.specs.List.{Contains}
+use Rattle.std.proofs.lemmas.Bool.{cases_eq, cases_lt, eq-eqb, ne_eqb}
+use Rattle.std.proofs.lemmas.List.{length_push, length-append, length-map, take_more, take-map, take-append-le, get_or_append_left, get_or_push, get_or-take}
+use Rattle.vd_model.specs.declared.chain.Piece.{Piece}
+use Rattle.vd_ring.specs.declared.frame.Frame.{Frame}
+use Rattle.vd_ring.specs.declared.frame.Used.{Used}
+use Rattle.vd_ring.specs.declared.driver.DriverDone.{DriverDone}
+use Rattle.vd_ring.specs.declared.driver.DriverDone.TheVariants.{Offer, Collect}
+use Rattle.vd_ring.specs.declared.device.DeviceDone.{DeviceDone}
+use Rattle.vd_ring.specs.declared.device.DeviceDone.TheVariants.{Take, Give, Rest, StoreAck, LoadCommand}
+use Rattle.vd_ring.specs.History.{offers, collects, takes, gives, open_at, head, chain, entry, numbers, occurs, used_at, last_used, first, batch, is_batching}
+use Rattle.vd_ring.specs.Places.{Places}
+use Rattle.vd_ring.specs.Lists.{Lists, AreGives, IsGive, entry_at}
+use Rattle.vd_ring.proofs.Counts.{one_same, one_below, one_small, one_above, occurs_before, occurs_parts}
+use Rattle.vd_ring.proofs.HeldPlaces.{few_open, places_before}
+
+-- ---- used entries
+
+pub same_used : (k l : ℕ) (u : Used) → k ≡ u.number → l ≡ u.len → entry k l ≡ u
+same_used k l u a b = ap (λ n. entry n l) a ∙ ap (λ n. entry u.number n) b
+
+pub some_same : {A : Type 0} (a b : A) → Some a ≡ Some b → a ≡ b
+some_same {A} a b e = ap take_it e
+  where
+    take_it : Option A → A
+    take_it None = a
+    take_it (Some x) = x
+
+-- the batch of one
+pub batch_one : (f : Frame) (chains : ℕ → List Piece) (count number len : ℕ) → (f.features.in_order ≡ true → number ≡ count) → batch f chains count number len ≡ entry number len ∷ []
+batch_one f chains count number len order = at f.features.in_order f.control order
+  where
+    same : (n : ℕ) → Rattle.vd_ring.specs.History.between n n ≡ []
+    same n = let z : Rattle.std.proofs.Common.◌-◌ n n ≡ 0 = omega arith in ap (λ m. Rattle.std.specs.Prelude.map (λ i. n + i) (Rattle.vd_ring.specs.History.upto m)) z
+
+    at : (b c : Bool) → (b ≡ true → number ≡ count)
+        → Rattle.std.specs.Prelude.map (λ k. entry k (Rattle.vd_model.specs.Chains.writable (chains k))) (Rattle.vd_ring.specs.History.between (if Rattle.std.specs.Prelude.◌&&◌ b (Rattle.std.specs.Prelude.not c) then count else number) number) ++ entry number len ∷ [] ≡ entry number len ∷ []
+    at true true order = ap (λ ks. Rattle.std.specs.Prelude.map (λ k. entry k (Rattle.vd_model.specs.Chains.writable (chains k))) ks ++ entry number len ∷ []) (same number)
+    at true false order =
+        ap (λ n. Rattle.std.specs.Prelude.map (λ k. entry k (Rattle.vd_model.specs.Chains.writable (chains k))) (Rattle.vd_ring.specs.History.between n number) ++ entry number len ∷ []) (sym (order refl))
+        ∙ ap (λ ks. Rattle.std.specs.Prelude.map (λ k. entry k (Rattle.vd_model.specs.Chains.writable (chains k))) ks ++ entry number len ∷ []) (same number)
+    at false true order = ap (λ ks. Rattle.std.specs.Prelude.map (λ k. entry k (Rattle.vd_model.specs.Chains.writable (chains k))) ks ++ entry number len ∷ []) (same number)
+    at false false order = ap (λ ks. Rattle.std.specs.Prelude.map (λ k. entry k (Rattle.vd_model.specs.Chains.writable (chains k))) ks ++ entry number len ∷ []) (same number)
+
+pub entry_is : (f : Frame) (s : List DeviceDone) (j : ℕ) (u : Used) → AreGives f s → entry_at s j ≡ Some u → (j < length (gives s)) × (used_at (gives s) j ≡ u)
+entry_is f [] j u a is = absurd cc
+entry_is f (Take c h ∷ s) j u a is = entry_is f s j u a is
+entry_is f (Rest ∷ s) j u a is = entry_is f s j u a is
+entry_is f (StoreAck h x ∷ s) j u a is = entry_is f s j u a is
+entry_is f (LoadCommand k i x ∷ s) j u a is = entry_is f s j u a is
+entry_is f (Give [] ∷ s) j u a is = absurd (let one : 0 ≡ 1 = a.0.one in omega arith)
+entry_is f (Give (v ∷ w ∷ us) ∷ s) j u a is = absurd (let one : suc (suc (length us)) ≡ 1 = a.0.one in omega arith)
+entry_is f (Give (v ∷ []) ∷ s) j u a is = elim (cases_eq (length (gives s)) j) [
+  | inl e ↦ (
+      let given : v ≡ u = some_same v u (ap (λ (b : Bool). if b then Some v else entry_at s j) (sym (eq-eqb (length (gives s)) j e)) ∙ is) in
+      (omega (arith, length_push (gives s) v), get_or_push (gives s) v (entry 0 0) j e ∙ given)
+      )
+  | inr ne ↦ (
+      let old = entry_is f s j u a.1 (ap (λ (b : Bool). if b then Some v else entry_at s j) (sym (ne_eqb (length (gives s)) j ne)) ∙ is) in
+      (omega (arith, length_push (gives s) v, old.0), get_or_append_left (gives s) (v ∷ []) (entry 0 0) j old.0 ∙ old.1)
+      )
+]
+
+pub entry_each : (f : Frame) (s : List DeviceDone) (j : ℕ) → AreGives f s → j < length (gives s) → (u : Used) × (entry_at s j ≡ Some u)
+entry_each f [] j a h = absurd (omega arith)
+entry_each f (Take c g ∷ s) j a h = entry_each f s j a h
+entry_each f (Rest ∷ s) j a h = entry_each f s j a h
+entry_each f (StoreAck g x ∷ s) j a h = entry_each f s j a h
+entry_each f (LoadCommand k i x ∷ s) j a h = entry_each f s j a h
+entry_each f (Give [] ∷ s) j a h = absurd (let one : 0 ≡ 1 = a.0.one in omega arith)
+entry_each f (Give (v ∷ w ∷ us) ∷ s) j a h = absurd (let one : suc (suc (length us)) ≡ 1 = a.0.one in omega arith)
+entry_each f (Give (v ∷ []) ∷ s) j a h = elim (cases_eq (length (gives s)) j) [
+  | inl e ↦ (v, ap (λ (b : Bool). if b then Some v else entry_at s j) (eq-eqb (length (gives s)) j e))
+  | inr ne ↦ (
+      let old = entry_each f s j a.1 (elim (cases_lt j (length (gives s))) [ inl b ↦ b | inr b ↦ absurd (ne (omega (arith, length_push (gives s) v))) ]) in
+      (old.0, ap (λ (b : Bool). if b then Some v else entry_at s j) (ne_eqb (length (gives s)) j ne) ∙ old.1)
+      )
+]
+
+-- ---- what is given
+
+pub number_in : (us : List Used) (j : ℕ) → j < length us → 1 ≤ occurs (used_at us j).number (numbers us)
+number_in [] j h = absurd (omega arith)
+number_in (u ∷ us) zero h = omega (arith, one_same u.number u.number refl)
+number_in (u ∷ us) (suc j) h = omega (arith, number_in us j (omega arith))
+
+pub number_at : (us : List Used) (j : ℕ) → j < length us → slice_index (numbers us) j ≡ (used_at us j).number
+number_at [] j h = absurd (omega arith)
+number_at (u ∷ us) zero h = refl
+number_at (u ∷ us) (suc j) h = number_at us j (omega arith)
+
+pub given_below : (f : Frame) (o : List DriverDone) (s : List DeviceDone) (j : ℕ) → Lists f o s → j < length (gives s) → (used_at (gives s) j).number < length (takes s)
+given_below f o s j l h = elim (cases_lt (used_at (gives s) j).number (length (takes s))) [
+  | inl a ↦ a
+  | inr a ↦ absurd (omega (arith, l.given (used_at (gives s) j).number, number_in (gives s) j h, one_above (used_at (gives s) j).number (length (takes s)) a))
+]
+
+-- a number collected was given
+pub collected_given : (f : Frame) (o : List DriverDone) (s : List DeviceDone) (k : ℕ) → Lists f o s → occurs k (numbers (collects o)) ≤ occurs k (numbers (gives s))
+collected_given f o s k l =
+    let m : ℕ = length (collects o) in
+    let same : occurs k (numbers (collects o)) ≡ occurs k (take m (numbers (gives s))) = ap (λ (us : List Used). occurs k (numbers us)) l.collected ∙ ap (occurs k) (sym (take-map (λ (u : Used). u.number) m (gives s))) in
+    omega (arith, same, occurs_parts k m (numbers (gives s)))
+
+-- the next entry names an open chain
+pub next_open : (f : Frame) (o : List DriverDone) (s : List DeviceDone) → Places f o → Lists f o s → length (collects o) < length (gives s) → 1 ≤ occurs (used_at (gives s) (length (collects o))).number (open_at o)
+next_open f o s p l below =
+    let m : ℕ = length (collects o) in let g : List Used = gives s in let k : ℕ = (used_at g m).number in
+    let inside : k < length (takes s) = given_below f o s m l below in
+    let before : occurs k (numbers (collects o)) ≡ occurs k (take m (numbers g)) = ap (λ (us : List Used). occurs k (numbers us)) l.collected ∙ ap (occurs k) (sym (take-map (λ (u : Used). u.number) m g)) in
+    let once = occurs_before (numbers g) m k (omega (arith, length-map g (λ (u : Used). u.number))) (number_at g m below) in
+    omega (arith, p.is_open k, one_below k (length (offers o)) (omega (arith, l.some)), l.given k, one_small (nat_lt k (length (takes s))), once)
+
+-- counts lie within the ring's size of each other
+pub given_within : (f : Frame) (o : List DriverDone) (s : List DeviceDone) → Places f o → Lists f o s → (length (gives s) ≤ length (offers o)) × (length (offers o) ≤ length (collects o) + f.size)
+given_within f o s p l = (omega (arith, l.count, l.some), omega (arith, p.count, few_open f o p))
+
+-- ---- an offer and a collect
+
+pub lists_offered : (f : Frame) (o : List DriverDone) (c : List Piece) (s : List DeviceDone) → Places f o → Lists f o s → Lists f (Offer c ∷ o) s
+lists_offered f o c s pl l = record {
+  taken = l.taken ∙ sym (take-append-le (length (takes s)) (offers o) (c ∷ []) l.some);
+  some = omega (arith, length_push (offers o) c, l.some);
+  as_many = l.as_many;
+  heads = λ k below. l.heads k below ∙ ap first (sym (places_before f o c k pl (omega (arith, l.some))));
+  given = l.given;
+  count = l.count;
+  entries = l.entries;
+  collected = l.collected;
+  fewer = l.fewer;
+  cut = l.cut;
+  in_order = l.in_order;
+}
+
+pub lists_collected : (f : Frame) (o : List DriverDone) (s : List DeviceDone) → Lists f o s → length (collects o) < length (gives s) → Lists f (Collect (used_at (gives s) (length (collects o)) ∷ []) ∷ o) s
+lists_collected f o s l below =
+    let m : ℕ = length (collects o) in let u : Used = used_at (gives s) m in
+    let longer : length (collects o ++ u ∷ []) ≡ m + 1 = length_push (collects o) u in
+    record {
+      taken = l.taken;
+      some = l.some;
+      as_many = l.as_many;
+      heads = l.heads;
+      given = l.given;
+      count = l.count;
+      entries = l.entries;
+      collected = ap (λ (us : List Used). us ++ u ∷ []) l.collected ∙ (sym (take_more (gives s) m (entry 0 0) below) ∙ ap (λ (n : ℕ). take n (gives s)) (sym longer));
+      fewer = omega arith;
+      cut = λ h. entry_each f s (length (collects o ++ u ∷ [])) l.entries h;
+      in_order = l.in_order;
+    }
