@@ -1,10 +1,9 @@
 -- What a layout of a ring is, as one record, and its laws.
-use Rattle.std.specs.Prelude.{◌≡◌, ◌≢◌, ℕ, ◌-◌, ◌<◌, ◌≤◌, Bool, true, false, List, [], ◌∷◌, ◌++◌, length, take, map, replicate}
+use Rattle.std.specs.Prelude.{◌≡◌, ℕ, ◌-◌, ◌<◌, ◌≤◌, Bool, true, false, List, [], ◌∷◌, ◌++◌, length, take, map, replicate}
 use Rattle.vd_model.specs.declared.chain.Piece.{Piece}
 use Rattle.vd_model.specs.declared.features.Features.{Features}
 use Rattle.vd_words.specs.declared.access.Access.{Access}
 use Rattle.vd_words.specs.declared.access.Op.{Op}
-use Rattle.vd_words.specs.declared.access.Op.TheVariants.{Control}
 use Rattle.vd_words.specs.Own.{SideModel}
 use Rattle.vd_words.specs.Step.{place_of, answered, written}
 use Rattle.vd_ring.specs.declared.act.DriverAct.{DriverAct}
@@ -31,6 +30,8 @@ use Rattle.vd_layout.specs.Device.{DeviceModel, IsLawfulDevice}
 
 pub record LayoutModel : Type 1 where
   pub packed : Bool
+  -- a frame of this layout
+  pub lawful_frame : Frame → Type 0
   -- the ring invariant of words and of both sides' views
   pub ring : List ℕ → DriverView → DeviceView → Type 0
   pub lawful_size : ℕ → Bool
@@ -93,10 +94,11 @@ pub record IsLawfulLayout {D E : Type 0} (d : DriverModel D) (e : DeviceModel E)
   pub opens : (size : ℕ) (f : Features) (control : Bool) (g : Frame) → CanMake l size f → IsMadeWith l size f control g → l.ring (replicate (l.width g) 0) (fresh_driver g (l.width g)) (fresh_device g (l.width g))
   -- the words are as many as the ring has, and both views have the ring's frame
   pub wide : (ws : List ℕ) (v : DriverView) (w : DeviceView) → l.ring ws v w → (length ws ≡ l.width v.frame) × (w.frame ≡ v.frame)
-  -- the word of an access that is next is one of the ring's, by the view alone; of the device's control accesses only the
-  -- invariant says it
-  pub driver_low : (v : DriverView) (op : Op) (a : Access) → 0 < v.frame.size → d.side.next v op a → place_of a < l.width v.frame
-  pub device_low : (w : DeviceView) (op : Op) (a : Access) → 0 < w.frame.size → op ≢ Control → e.side.next w op a → place_of a < l.width w.frame
+  pub frames : (ws : List ℕ) (v : DriverView) (w : DeviceView) → l.ring ws v w → l.lawful_frame v.frame
+  pub framed : (size : ℕ) (f : Features) (control : Bool) (g : Frame) → CanMake l size f → IsMadeWith l size f control g → l.lawful_frame g
+  -- the word of an access that is next is one of the ring's, by the view alone
+  pub driver_low : (v : DriverView) (op : Op) (a : Access) → l.lawful_frame v.frame → d.side.next v op a → place_of a < l.width v.frame
+  pub device_low : (w : DeviceView) (op : Op) (a : Access) → l.lawful_frame w.frame → e.side.next w op a → place_of a < l.width w.frame
   -- who holds the places; what was taken of what was offered, and collected of what was given; a rest leaves nothing running
   pub places : (ws : List ℕ) (v : DriverView) (w : DeviceView) → l.ring ws v w → Places v.frame v.done
   pub lists : (ws : List ℕ) (v : DriverView) (w : DeviceView) → l.ring ws v w → Lists v.frame v.done w.done

@@ -4,3 +4,4 @@ pub mod Plans
 pub mod DriverSteps
 pub mod DriverCollecting
 pub mod DriverLaws
+pub mod Opening

@@ -47,7 +47,10 @@ impl SplitDriver {
         requires own { (v : DriverView) × DriverStands self.old v × IsOwn P.port driver_side port.old v }
         ensures { (v : DriverView) → DriverStands self.old v → IsOwn P.port driver_side port.old v → IsDriverStep P.port split_driver port.old port.new v self.old self.new result }
     {
-        let last = port.access(Op::Collect, Access::Load(used_area(self.size) + self.used + 1));
+        let last = port.access(
+            Op::Collect,
+            Access::Load(used_area(self.size) + self.used + 1),
+        );
         let head = lane32(found, 1);
         let len = lane32(last, 0);
         let slot = &self.slots[head as usize];

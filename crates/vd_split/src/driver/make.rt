@@ -40,7 +40,11 @@ fn empty_slots(alloc: Global, size: u32) -> Result<Vec<Slot>, AllocError>
 
 impl SplitDriver {
     /// The driver's end of a fresh ring.
-    pub(crate) fn make(alloc: Global, size: u32, features: Features) -> Result<SplitDriver, AllocError>
+    pub(crate) fn make(
+        alloc: Global,
+        size: u32,
+        features: Features,
+    ) -> Result<SplitDriver, AllocError>
         requires { (0 < size) × (size ≤ 32768) }
         ensures stands { IfOk result (λ e. (f : Frame) → IsMadeFor size features f → DriverStands e (fresh_driver f (width f))) }
         ensures idle { IfOk result (λ e. (e.doing ≡ DriverStep.Idle) × (e.size ≡ size) × (e.features ≡ features)) }

@@ -69,7 +69,12 @@ impl SplitDriver {
         self.area[0] = word;
         let head = place_at(&self.free, 0);
         let count = self.pieces.len();
-        fill_slot(&mut self.slots[head as usize], &mut self.free, number, count);
+        fill_slot(
+            &mut self.slots[head as usize],
+            &mut self.free,
+            number,
+            count,
+        );
         self.offered = number + 1;
         self.entry = next_place(self.entry, self.size);
         self.doing = DriverStep::Idle;
