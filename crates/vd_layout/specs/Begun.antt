@@ -1,0 +1,34 @@
+-- The operation that an end has begun, with its arguments.
+use Rattle.std.specs.Prelude.{◌≡◌, ◌⊎◌, ℕ, List}
+use Rattle.vd_model.specs.declared.chain.Piece.{Piece}
+
+-- of a driver's end; `signal` comes after the publishing store: the check of what was published, and its bell
+pub data DriverOp : Type 0 where
+  idle : DriverOp
+  offer : List Piece → DriverOp
+  collect : DriverOp
+  signal : DriverOp
+
+-- of a device's end; a give has the chain's number and the length in bytes
+pub data DeviceOp : Type 0 where
+  idle : DeviceOp
+  take : DeviceOp
+  give : ℕ → ℕ → DeviceOp
+  rest : DeviceOp
+  signal : DeviceOp
+
+-- after a publishing store the end is idle, or goes on with its check and bell
+abbrev pub DriverPublished : DriverOp → Type 0
+DriverPublished b = (b ≡ DriverOp.idle) ⊎ (b ≡ DriverOp.signal)
+
+abbrev pub DevicePublished : DeviceOp → Type 0
+DevicePublished b = (b ≡ DeviceOp.idle) ⊎ (b ≡ DeviceOp.signal)
+
+-- the operation after an access that ends none but a signal
+abbrev pub DriverGoesOn : DriverOp → DriverOp → Type 0
+DriverGoesOn DriverOp.signal b = DriverPublished b
+DriverGoesOn a b = b ≡ a
+
+abbrev pub DeviceGoesOn : DeviceOp → DeviceOp → Type 0
+DeviceGoesOn DeviceOp.signal b = DevicePublished b
+DeviceGoesOn a b = b ≡ a

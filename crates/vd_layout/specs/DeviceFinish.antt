@@ -1,0 +1,154 @@
+-- An operation of a device's end made to its end, step by step.
+use Rattle.std.proofs.Common.{Bool, false, ◌≡◌, ◌≢◌, ◌⊎◌, ℕ, List, [], ◌∷◌, sym, ap, ◌∙◌, subst, refl, inl, inr}
+use Rattle.vd_words.specs.Model.{PortModel}
+use Rattle.vd_ring.specs.declared.act.DeviceAct.{DeviceAct}
+use Rattle.vd_ring.specs.declared.act.DeviceAct.TheVariants as act
+use Rattle.vd_ring.specs.declared.device.DeviceDone.{DeviceDone}
+use Rattle.vd_ring.specs.declared.device.DeviceView.{DeviceView}
+use Rattle.vd_ring.specs.declared.frame.Frame.{Frame}
+use Rattle.vd_layout.specs.Begun.{DeviceOp, DevicePublished, DeviceGoesOn}
+use Rattle.vd_layout.specs.Control.{ControlWords}
+use Rattle.vd_layout.specs.Device.{DeviceModel, DeviceSays, IsDeviceStep, IsLawfulDevice, is_rested}
+use Rattle.vd_layout.specs.Run.{Made, IsRun}
+
+-- an operation that a begin call began
+abbrev pub IsDeviceWork : DeviceOp → Type 0
+IsDeviceWork DeviceOp.take = Unit {0}
+IsDeviceWork (DeviceOp.give k n) = Unit {0}
+IsDeviceWork DeviceOp.rest = Unit {0}
+IsDeviceWork _ = ⊥
+
+-- the answer that the steps so far have told: the last one that isn't Moved
+abbrev pub device_told : DeviceAct → DeviceAct → DeviceAct
+device_told before act.Moved = before
+device_told before now = now
+
+-- an operation of the device's end was made to its end: by accesses that were next it came to a view for which the end stands,
+-- its answer is one that ends the operation, and it rests exactly where it answers so
+pub record IsDeviceFinish {P E : Type 0} (port : PortModel P) (m : DeviceModel E) (p q : P) (v : DeviceView) (e e' : E) (answer : DeviceAct) : Type 0 where
+  pub view : DeviceView
+  pub made : List Made
+  pub run : IsRun port m.side made p v q view
+  pub now_stands : m.stands e' view
+  pub idle : m.begun e' ≡ DeviceOp.idle
+  pub told : answer ≢ act.Moved
+  pub says : DeviceSays m.words answer (m.begun e) DeviceOp.idle v.frame v.done view.done
+  pub rests : m.resting e' ≡ is_rested answer
+
+-- ---- on the way
+
+-- what was told ended the operation, or only its signal is left
+abbrev pub DeviceToldStage : DeviceAct → DeviceOp → Bool → Type 0
+DeviceToldStage answer b resting = ((b ≡ DeviceOp.idle) × (resting ≡ is_rested answer)) ⊎ ((b ≡ DeviceOp.signal) × (is_rested answer ≡ false))
+
+-- nothing told yet, or told
+pub record DeviceGoing {P E : Type 0} (port : PortModel P) (m : DeviceModel E) (b : DeviceOp) (p : P) (v : DeviceView) (q : P) (e : E) (answer : DeviceAct) : Type 0 where
+  pub view : DeviceView
+  pub made : List Made
+  pub run : IsRun port m.side made p v q view
+  pub stands : m.stands e view
+  pub framed : view.frame ≡ v.frame
+  pub phase : ((answer ≡ act.Moved) × (m.begun e ≡ b) × (view.done ≡ v.done)) ⊎ ((answer ≢ act.Moved) × DeviceToldStage answer (m.begun e) (m.resting e) × DeviceSays m.words answer b DeviceOp.idle v.frame v.done view.done)
+
+pub device_starts : {P E : Type 0} (port : PortModel P) (m : DeviceModel E) (p : P) (v : DeviceView) (e : E) → m.stands e v → DeviceGoing port m (m.begun e) p v p e act.Moved
+device_starts port m p v e stands = record { view = v; made = []; run = (refl, refl); stands = stands; framed = refl; phase = inl (refl, refl, refl) }
+
+-- what one step's answer says, where nothing was told before it
+said : (words : ControlWords) (x : DeviceAct) (b b' : DeviceOp) (f : Frame) (s s' : List DeviceDone) (resting : Bool) → IsDeviceWork b → DeviceSays words x b b' f s s' → resting ≡ is_rested x
+    → ((x ≡ act.Moved) × (b' ≡ b) × (s' ≡ s)) ⊎ ((x ≢ act.Moved) × DeviceToldStage x b' resting × DeviceSays words x b DeviceOp.idle f s s')
+said words act.Moved DeviceOp.take b' f s s' r w h e = inl (refl, h.0, h.1)
+said words act.Moved (DeviceOp.give k n) b' f s s' r w h e = inl (refl, h.0, h.1)
+said words act.Moved DeviceOp.rest b' f s s' r w h e = inl (refl, h.0, h.1)
+said words act.Moved DeviceOp.idle b' f s s' r w h e = absurd w
+said words act.Moved DeviceOp.signal b' f s s' r w h e = absurd w
+said words act.Nothing b b' f s s' r w h e = inr (λ z. cc, inl (h.1, e), (h.0, refl, h.2))
+said words (act.Taken k c) b b' f s s' r w h e = inr (λ z. cc, inl (h.2, e), (h.0, h.1, refl, h.3, h.4, h.5))
+said words (act.Given k) b b' f s s' r w h e = inr (λ z. cc, elim h.2 as (λ _. DeviceToldStage (act.Given k) b' r) [ inl i ↦ inl (i, e) | inr i ↦ inr (i, refl) ], (h.0, h.1, inl refl, h.3, h.4))
+said words act.Rested b b' f s s' r w h e = inr (λ z. cc, inl (h.1, e), (h.0, refl, h.2, h.3))
+said words act.Armed b b' f s s' r w h e = absurd h
+said words act.Awake b b' f s s' r w h e = absurd h
+said words act.Asleep b b' f s s' r w h e = absurd h
+
+-- once it was told only a signal is made
+signalled : (words : ControlWords) (x : DeviceAct) (b b' : DeviceOp) (f : Frame) (s s' : List DeviceDone) → b ≡ DeviceOp.signal → DeviceSays words x b b' f s s' → (x ≡ act.Moved) × DevicePublished b' × (s' ≡ s)
+signalled words act.Moved b b' f s s' is h = (refl, subst (λ y. DeviceGoesOn y b') is h.0, h.1)
+signalled words act.Nothing b b' f s s' is h = absurd (cc (is, h.0))
+signalled words (act.Taken k c) b b' f s s' is h = absurd (cc (is, h.1))
+signalled words (act.Given k) b b' f s s' is h = absurd (cc (is, h.1))
+signalled words act.Rested b b' f s s' is h = absurd (cc (is, h.0))
+signalled words act.Armed b b' f s s' is h = absurd h
+signalled words act.Awake b b' f s s' is h = absurd h
+signalled words act.Asleep b b' f s s' is h = absurd h
+
+told_first : (x y : DeviceAct) → x ≡ act.Moved → y ≢ act.Moved → device_told x y ≡ y
+told_first x act.Moved is ne = absurd (ne refl)
+told_first x act.Nothing is ne = refl
+told_first x (act.Taken k c) is ne = refl
+told_first x (act.Given k) is ne = refl
+told_first x act.Rested is ne = refl
+told_first x act.Armed is ne = refl
+told_first x act.Awake is ne = refl
+told_first x act.Asleep is ne = refl
+
+pub device_goes : {P E : Type 0} (port : PortModel P) (m : DeviceModel E) (law : IsLawfulDevice m) (b : DeviceOp) (p q q' : P) (v : DeviceView) (e e' : E) (answer x : DeviceAct) → IsDeviceWork b → (g : DeviceGoing port m b p v q e answer) → (m.begun e ≡ DeviceOp.idle → ⊥)
+    → IsDeviceStep port m q q' g.view e e' x → DeviceGoing port m b p v q' e' (device_told answer x)
+device_goes {P} {E} port m law b p q q' v e e' answer x work g busy s =
+    let w : DeviceView = g.view in
+    let u : DeviceView = m.side.after w s.op s.access s.got in
+    record {
+      view = u;
+      made = record { op = s.op; access = s.access; got = s.got } ∷ g.made;
+      run = (q, w, g.run, record { was_next = s.was_next; moved = s.moved; is_after = refl });
+      stands = s.now_stands;
+      framed = law.framed w s.op s.access s.got ∙ g.framed;
+      phase = elim g.phase [
+        | inl a ↦ elim (said m.words x b (m.begun e') v.frame v.done u.done (m.resting e') work (at a.1 a.2) s.rests) [
+          | inl t ↦ inl (ap (device_told answer) t.0 ∙ a.0, t.1, t.2)
+          | inr t ↦ (
+              let is = told_first answer x a.0 t.0 in
+              inr (λ z. t.0 (sym is ∙ z), subst (λ y. DeviceToldStage y (m.begun e') (m.resting e')) (sym is) t.1, subst (λ y. DeviceSays m.words y b DeviceOp.idle v.frame v.done u.done) (sym is) t.2)
+              )
+        ]
+        | inr a ↦ (
+            let only = which a.1 in
+            let t = signalled m.words x (m.begun e) (m.begun e') w.frame w.done u.done only.0 s.says in
+            let is : device_told answer x ≡ answer = ap (device_told answer) t.0 in
+            let rests : m.resting e' ≡ is_rested answer = s.rests ∙ ap is_rested t.0 ∙ sym only.1 in
+            inr (
+              λ z. a.0 (sym is ∙ z),
+              subst (λ y. DeviceToldStage y (m.begun e') (m.resting e')) (sym is) (left t.1 rests only.1),
+              subst (λ y. DeviceSays m.words y b DeviceOp.idle v.frame v.done u.done) (sym is) (subst (λ (s2 : List DeviceDone). DeviceSays m.words answer b DeviceOp.idle v.frame v.done s2) (sym t.2) a.2),
+            )
+            )
+      ];
+    }
+  where
+    at : m.begun e ≡ b → g.view.done ≡ v.done → DeviceSays m.words x b (m.begun e') v.frame v.done (m.side.after g.view s.op s.access s.got).done
+    at is same = subst (λ y. DeviceSays m.words x y (m.begun e') v.frame v.done (m.side.after g.view s.op s.access s.got).done) is
+        (subst (λ (f : Frame). DeviceSays m.words x (m.begun e) (m.begun e') f v.done (m.side.after g.view s.op s.access s.got).done) g.framed
+        (subst (λ (s2 : List DeviceDone). DeviceSays m.words x (m.begun e) (m.begun e') g.view.frame s2 (m.side.after g.view s.op s.access s.got).done) same s.says))
+
+    which : DeviceToldStage answer (m.begun e) (m.resting e) → (m.begun e ≡ DeviceOp.signal) × (is_rested answer ≡ false)
+    which (inl i) = absurd (busy i.0)
+    which (inr i) = i
+
+    left : DevicePublished (m.begun e') → m.resting e' ≡ is_rested answer → is_rested answer ≡ false → DeviceToldStage answer (m.begun e') (m.resting e')
+    left (inl i) rests none = inl (i, rests)
+    left (inr i) rests none = inr (i, none)
+
+pub device_ends : {P E : Type 0} (port : PortModel P) (m : DeviceModel E) (p q : P) (v : DeviceView) (e e' : E) (answer : DeviceAct) → IsDeviceWork (m.begun e) → DeviceGoing port m (m.begun e) p v q e' answer → m.begun e' ≡ DeviceOp.idle → IsDeviceFinish port m p q v e e' answer
+device_ends port m p q v e e' answer work g idle = elim g.phase [
+  | inl a ↦ absurd (no (m.begun e) work (sym a.1 ∙ idle))
+  | inr a ↦ record { view = g.view; made = g.made; run = g.run; now_stands = g.stands; idle = idle; told = a.0; says = a.2; rests = at_end a.1 }
+]
+  where
+    no : (b : DeviceOp) → IsDeviceWork b → b ≡ DeviceOp.idle → ⊥
+    no DeviceOp.take w is = cc is
+    no (DeviceOp.give k n) w is = cc is
+    no DeviceOp.rest w is = cc is
+    no DeviceOp.idle w is = w
+    no DeviceOp.signal w is = w
+
+    at_end : DeviceToldStage answer (m.begun e') (m.resting e') → m.resting e' ≡ is_rested answer
+    at_end (inl i) = i.1
+    at_end (inr i) = absurd (cc (idle, i.0))

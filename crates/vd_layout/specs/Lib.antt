@@ -1,0 +1,9 @@
+pub mod Begun
+pub mod Control
+pub mod Driver
+pub mod Device
+pub mod Layout
+pub mod Plain
+pub mod Run
+pub mod DriverFinish
+pub mod DeviceFinish

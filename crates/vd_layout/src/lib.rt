@@ -1,0 +1,15 @@
+//! The two ends of a ring, and what a layout of a ring is.
+#![tactic(auto)]
+
+mod device;
+mod driver;
+mod finish;
+mod layout;
+mod moves;
+
+pub use device::{BadBase, DeviceEnd};
+pub use driver::DriverEnd;
+pub use finish::{finish_device, finish_driver};
+pub use layout::Layout;
+pub use moves::Move;
+pub use vd_ring::{DeviceAct, DriverAct};

@@ -1,0 +1,183 @@
+-- The laws of the driver's end of a split ring.
+use Rattle.std.proofs.Common.{◌≡◌, ℕ, ◌+◌, ◌-◌, ◌*◌, ◌/◌, ◌%◌, ◌<◌, ◌≤◌, Bool, true, false, if◌then◌else◌, List, [], ◌∷◌, length, slice_set, refl, sym, ap, ◌∙◌, subst, arith}
+use Rattle.std.specs.Prelude.{unwrap_or}
+use Rattle.std.proofs.lemmas.List.{length-set}
+use Rattle.vd_model.specs.declared.chain.Piece.{Piece}
+use Rattle.vd_model.specs.Chains.{needs}
+use Rattle.vd_words.specs.declared.access.Access.{Access}
+use Rattle.vd_words.specs.declared.access.Access.TheVariants.{Load, Store}
+use Rattle.vd_words.specs.declared.access.Op.{Op}
+use Rattle.vd_words.specs.declared.access.Op.TheVariants as op
+use Rattle.vd_ring.specs.declared.frame.Frame.{Frame}
+use Rattle.vd_ring.specs.declared.driver.DriverDone.{DriverDone}
+use Rattle.vd_ring.specs.declared.driver.DriverDone.TheVariants.{StoreCommand, LoadAck}
+use Rattle.vd_ring.specs.declared.driver.DriverNow.{DriverNow}
+use Rattle.vd_ring.specs.declared.driver.DriverNow.TheVariants as now
+use Rattle.vd_ring.specs.declared.driver.DriverView.{DriverView}
+use Rattle.vd_ring.specs.Frames.{lent}
+use Rattle.vd_ring.specs.History.{collects, open_at, open_size, free, chain}
+use Rattle.vd_ring.specs.Control.{StoresCommand, last_collected}
+use Rattle.vd_ring.specs.Places.{Places}
+use Rattle.vd_ring.proofs.Counts.{sum_same}
+use Rattle.vd_split_ring.specs.SplitWords.{avail_from, tables_from, commands_from, command_word, shows, shown_from}
+use Rattle.vd_split_ring.specs.SplitDriver.{CanOffer, DriverNext, DriverNextAt, driver_after, driver_after_at}
+use Rattle.vd_split_ring.proofs.Areas.{areas}
+use Rattle.vd_split_ring.proofs.Direct.{lent_needs, needs_pieces}
+use Rattle.vd_layout.specs.Begun.{DriverOp}
+use Rattle.vd_layout.specs.Driver.{HasRoom, MayOffer, IsLawfulDriver}
+use Rattle.vd_split.specs.declared.driver.SplitDriver.{SplitDriver}
+use Rattle.vd_split.specs.declared.driver.DriverStep.{DriverStep}
+use Rattle.vd_split.specs.declared.driver.DriverStep.TheVariants as step
+use Rattle.vd_split.specs.DriverEnd.{DriverStands, DriverStepStands, driver_begun, driver_left, split_driver, split_words}
+use Rattle.vd_split.specs.Plans.{copies_other}
+
+-- the free places are those that the open chains leave
+pub free_rest : (e : SplitDriver) (v : DriverView) → DriverStands e v → open_size v.frame v.done + length e.free.items ≡ v.frame.size
+free_rest e v st =
+    omega (arith, st.holds.held.sizes, sum_same (λ k. lent v.frame (chain v.done k)) (λ k. needs v.frame.features (chain v.done k)) (open_at v.done) (λ k a. lent_needs v.frame (chain v.done k) st.made.lawful), ap (λ (l : List ℕ). length l) st.holds.queued)
+
+pub room_from : (e : SplitDriver) (v : DriverView) (c : List Piece) → DriverStands e v → length c ≤ length e.free.items → HasRoom v.frame v.done c
+room_from e v c st h = omega (arith, free_rest e v st, needs_pieces v.frame c st.made.built)
+
+pub room_to : (e : SplitDriver) (v : DriverView) (c : List Piece) → DriverStands e v → HasRoom v.frame v.done c → length c ≤ length e.free.items
+room_to e v c st h = omega (arith, free_rest e v st, needs_pieces v.frame c st.made.built)
+
+pub can_offer : (e : SplitDriver) (v : DriverView) (c : List Piece) → DriverStands e v → MayOffer split_words v c → CanOffer v.frame v.done c
+can_offer e v c st m = record {
+  fits = m.fits;
+  room = omega (arith, room_to e v c st m.room, needs_pieces v.frame c st.made.built, ap (λ (l : List ℕ). length l) st.holds.queued);
+  limited = m.limited;
+  control = m.control;
+}
+
+rests_at : (t : DriverStep) (c : List Piece) (f : Frame) (o : List DriverDone) (d : DriverNow) → DriverStepStands t c f o d → driver_begun t c ≡ DriverOp.idle → d ≡ now.Idle
+rests_at step.Idle c f o d h e = h
+rests_at (step.Describe at) c f o d h e = absurd (cc e)
+rests_at step.Enter c f o d h e = absurd (cc e)
+rests_at step.Publish c f o d h e = absurd (cc e)
+rests_at step.Look c f o d h e = absurd (cc e)
+rests_at (step.Find r) c f o d h e = absurd (cc e)
+rests_at (step.Finish r w) c f o d h e = absurd (cc e)
+
+-- the end stands after the beginning of an offer that may be made
+pub begins_offer : (e e' : SplitDriver) (v : DriverView) (c : List Piece) → driver_begun e.doing e.pieces.items ≡ DriverOp.idle → DriverStands e v → MayOffer split_words v c → e'.pieces.items ≡ c → DriverStands (record e { pieces = e'.pieces; doing = step.Describe 0 }) v
+begins_offer e e' v c idle st may same = record {
+  made = st.made;
+  counts = st.counts;
+  holds = st.holds;
+  area = st.area;
+  wide = st.wide;
+  shown = st.shown;
+  silent = st.silent;
+  doing = subst (λ (ps : List Piece). DriverStepStands (step.Describe 0) ps v.frame v.done v.doing) (sym same) (
+    can_offer e v c st may,
+    let some : 0 < length c = may.fits.chain.0 in omega arith,
+    rests_at e.doing e.pieces.items v.frame v.done v.doing st.doing idle,
+  );
+}
+
+-- ---- the laws
+
+ends_at : (t : DriverStep) (c : List Piece) → driver_left t c ≡ 0 → driver_begun t c ≡ DriverOp.idle
+ends_at step.Idle c h = refl
+ends_at (step.Describe at) c h = absurd (omega arith)
+ends_at step.Enter c h = absurd (omega arith)
+ends_at step.Publish c h = absurd (omega arith)
+ends_at step.Look c h = absurd (omega arith)
+ends_at (step.Find r) c h = absurd (omega arith)
+ends_at (step.Finish r w) c h = absurd (omega arith)
+
+-- ---- a control access of the end's holder
+
+places_loaded : (f : Frame) (o : List DriverDone) (l y : ℕ) → Places f o → Places f (LoadAck l y ∷ o)
+places_loaded f o l y p = record { once = p.once; sizes = p.sizes; as_many = p.as_many; listed = p.listed; is_open = p.is_open; count = p.count; fits = p.fits; limited = p.limited }
+
+can_loaded : (f : Frame) (o : List DriverDone) (c : List Piece) (l y : ℕ) → CanOffer f o c → CanOffer f (LoadAck l y ∷ o) c
+can_loaded f o c l y can = record { fits = can.fits; room = can.room; limited = can.limited; control = can.control }
+
+step_loaded : (t : DriverStep) (c : List Piece) (f : Frame) (o : List DriverDone) (d : DriverNow) (l y : ℕ) → DriverStepStands t c f o d → DriverStepStands t c f (LoadAck l y ∷ o) d
+step_loaded step.Idle c f o d l y s = s
+step_loaded (step.Describe at) c f o d l y s = (can_loaded f o c l y s.0, s.1, s.2)
+step_loaded step.Enter c f o d l y s = (can_loaded f o c l y s.0, s.1)
+step_loaded step.Publish c f o d l y s = (can_loaded f o c l y s.0, s.1)
+step_loaded step.Look c f o d l y s = s
+step_loaded (step.Find r) c f o d l y s = s
+step_loaded (step.Finish r w) c f o d l y s = (s.0, record { number = s.1.number; is_open = s.1.is_open; is_head = s.1.is_head; in_order = s.1.in_order })
+
+places_stored : (f : Frame) (o : List DriverDone) (h i y : ℕ) → Places f o → Places f (StoreCommand h i y ∷ o)
+places_stored f o h i y p = record { once = p.once; sizes = p.sizes; as_many = p.as_many; listed = p.listed; is_open = p.is_open; count = p.count; fits = p.fits; limited = p.limited }
+
+can_stored : (f : Frame) (o : List DriverDone) (c : List Piece) (h i y : ℕ) → CanOffer f o c → CanOffer f (StoreCommand h i y ∷ o) c
+can_stored f o c h i y can = record { fits = can.fits; room = can.room; limited = can.limited; control = can.control }
+
+step_stored : (t : DriverStep) (c : List Piece) (f : Frame) (o : List DriverDone) (d : DriverNow) (h i y : ℕ) → DriverStepStands t c f o d → DriverStepStands t c f (StoreCommand h i y ∷ o) d
+step_stored step.Idle c f o d h i y s = s
+step_stored (step.Describe at) c f o d h i y s = (can_stored f o c h i y s.0, s.1, s.2)
+step_stored step.Enter c f o d h i y s = (can_stored f o c h i y s.0, s.1)
+step_stored step.Publish c f o d h i y s = (can_stored f o c h i y s.0, s.1)
+step_stored step.Look c f o d h i y s = s
+step_stored (step.Find r) c f o d h i y s = s
+step_stored (step.Finish r w) c f o d h i y s = (s.0, record { number = s.1.number; is_open = s.1.is_open; is_head = s.1.is_head; in_order = s.1.in_order })
+
+-- the end stands after an act that neither offers nor collects, and a store past its area
+after_ack : (e : SplitDriver) (v : DriverView) (l y : ℕ) → DriverStands e v → DriverStands e (record v { done = LoadAck l y ∷ v.done })
+after_ack e v l y st = record {
+  made = st.made;
+  counts = record { offers = st.counts.offers; collects = st.counts.collects; entry_at = st.counts.entry_at; used_at = st.counts.used_at };
+  holds = record { held = places_loaded v.frame v.done l y st.holds.held; queued = st.holds.queued; room = st.holds.room; as_many = st.holds.as_many; open_chains = st.holds.open_chains };
+  area = st.area;
+  wide = st.wide;
+  shown = st.shown;
+  silent = record { unarmed = st.silent.unarmed; unheard = st.silent.unheard; unrung = st.silent.unrung };
+  doing = step_loaded e.doing e.pieces.items v.frame v.done v.doing l y st.doing;
+}
+
+after_command : (e : SplitDriver) (v : DriverView) (h i p x y : ℕ) → tables_from v.frame ≤ p → DriverStands e v → DriverStands e (record v { done = StoreCommand h i y ∷ v.done; stored = slice_set v.stored p x })
+after_command e v h i p x y past st = record {
+  made = st.made;
+  counts = record { offers = st.counts.offers; collects = st.counts.collects; entry_at = st.counts.entry_at; used_at = st.counts.used_at };
+  holds = record { held = places_stored v.frame v.done h i y st.holds.held; queued = st.holds.queued; room = st.holds.room; as_many = st.holds.as_many; open_chains = st.holds.open_chains };
+  area = copies_other (avail_from v.frame) ((v.frame.size + 6) / 4) e.area.items v.stored p x st.area (λ k a z. omega arith);
+  wide = length-set v.stored p x ∙ st.wide;
+  shown = st.shown;
+  silent = record { unarmed = st.silent.unarmed; unheard = st.silent.unheard; unrung = st.silent.unrung };
+  doing = step_stored e.doing e.pieces.items v.frame v.done v.doing h i y st.doing;
+}
+
+control_at : (d : DriverNow) (e : SplitDriver) (v : DriverView) (a : Access) (r : ℕ) → DriverStands e v → DriverNextAt d v op.Control a → DriverStands e (driver_after_at d v op.Control a r)
+control_at now.Idle e v (Load p) r st n = after_ack e v (unwrap_or (last_collected v.done) 0) r st
+control_at now.Idle e v (Store p x) r st n =
+    let s : StoresCommand v.frame (command_word v.frame) v.done p = n in
+    after_command e v ((p - commands_from v.frame) / 2) ((p - commands_from v.frame) % 2) p x x (omega (arith, s.place, areas v.frame)) st
+control_at (now.Collecting []) e v a r st n = absurd n
+control_at (now.Collecting (g ∷ [])) e v a r st n = absurd n
+control_at (now.Collecting (g ∷ w ∷ [])) e v a r st n = absurd n
+control_at (now.Collecting (g ∷ w ∷ x ∷ gs)) e v a r st n = absurd n
+control_at _ e v a r st n = absurd n
+
+-- ---- no access changes what the ring was made with
+
+frame_at : (d : DriverNow) (v : DriverView) (o : Op) (a : Access) (r : ℕ) → (driver_after_at d v o a r).frame ≡ v.frame
+frame_at now.Idle v op.Collect (Load p) r = either (shows r (length (collects v.done)))
+  where
+    either : (b : Bool)
+        → (if b then record v { seen = shown_from r (length (collects v.done)); shown = false } else record v { seen = shown_from r (length (collects v.done)); shown = true; doing = now.Collecting (r ∷ []) }).frame ≡ v.frame
+    either true = refl
+    either false = refl
+frame_at now.Idle v op.Offer (Store p x) r = refl
+frame_at (now.Offering ps) v op.Offer (Store p x) r = refl
+frame_at (now.Entered ps) v op.Offer (Store p x) r = refl
+frame_at (now.Collecting (g ∷ [])) v op.Collect (Load p) r = refl
+frame_at (now.Collecting (g ∷ w ∷ [])) v op.Collect (Load p) r = refl
+frame_at now.Idle v op.Control (Store p x) r = refl
+frame_at now.Idle v op.Control (Load p) r = refl
+frame_at _ v _ _ r = refl
+
+pub driver_laws : IsLawfulDriver split_driver
+driver_laws = record {
+  sized = λ e v st. (st.made.sized, st.made.featured);
+  at_rest = λ e v st idle. rests_at e.doing e.pieces.items v.frame v.done v.doing st.doing idle;
+  ends = λ e none. ends_at e.doing e.pieces.items none;
+  control = λ e v a r st n. control_at v.doing e v a r st n;
+  framed = λ v o a r. frame_at v.doing v o a r;
+}

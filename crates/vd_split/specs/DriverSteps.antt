@@ -1,0 +1,307 @@
+-- The steps of an offer: each is next in a view that the end stands for, and the end stands for the view after it.
+use Rattle.std.proofs.Common.{◌≡◌, ◌≢◌, ℕ, zero, suc, ◌+◌, ◌-◌, ◌*◌, ◌/◌, ◌%◌, ◌<◌, ◌≤◌, ◌==◌, Bool, true, false, List, [], ◌∷◌, ◌++◌, length, take, drop, None, if◌then◌else◌, nat_lt, slice_index, slice_index_or, slice_set, refl, sym, ap, ◌∙◌, subst, arith, inl, inr}
+use Rattle.std.specs.List.{All}
+use Rattle.std.proofs.lemmas.Bool.{cases_eq, eq-eqb, ne_eqb, ltb-true, ltb-false}
+use Rattle.std.proofs.lemmas.List.{length-take-le, length-set, length_push, take_all, take_more, get_or-set_same, get_or-set_other, get_or-take}
+use Rattle.std.proofs.lemmas.Nat.{mod_below}
+use Rattle.std.specs.Vec.{with_item}
+use Rattle.vd_bits.specs.Lanes.{set_lane16}
+use Rattle.vd_model.specs.declared.chain.Piece.{Piece}
+use Rattle.vd_words.specs.declared.access.Access.{Access}
+use Rattle.vd_words.specs.declared.access.Access.TheVariants.{Store}
+use Rattle.vd_words.specs.declared.access.Op.{Op}
+use Rattle.vd_words.specs.declared.access.Op.TheVariants as op
+use Rattle.vd_words.specs.Model.{PortModel}
+use Rattle.vd_ring.specs.declared.act.DriverAct.{DriverAct}
+use Rattle.vd_ring.specs.declared.act.DriverAct.TheVariants as act
+use Rattle.vd_ring.specs.declared.frame.Frame.{Frame}
+use Rattle.vd_ring.specs.declared.frame.Put.{Put}
+use Rattle.vd_ring.specs.declared.driver.DriverDone.{DriverDone}
+use Rattle.vd_ring.specs.declared.driver.DriverDone.TheVariants.{Offer}
+use Rattle.vd_ring.specs.declared.driver.DriverNow.TheVariants as now
+use Rattle.vd_ring.specs.declared.driver.DriverView.{DriverView}
+use Rattle.vd_ring.specs.Frames.{lent}
+use Rattle.vd_ring.specs.History.{offers, collects, open_at, free, next_head, places, head, first, occurs}
+use Rattle.vd_ring.specs.Places.{Places}
+use Rattle.vd_ring.proofs.Counts.{one_same, one_other, occurs_parts, occurs_at, occurs_push}
+use Rattle.vd_ring.proofs.HeldPlaces.{free_inside, lent_some, open_below, offer_places, places_before, places_new, head_inside, same_head}
+use Rattle.vd_split_ring.specs.SplitWords.{IsLawful, IsBuilt, avail_from, lane_word, with_lane, entry_lane, put, described, words_of, pieces_of, staged_chain}
+use Rattle.vd_split_ring.specs.SplitDriver.{CanOffer, Begins, DriverNextAt, DriverNext, driver_after_at, driver_after, driver_act, driver_act_at, plan, stores, staged, driver_offers}
+use Rattle.vd_split_ring.proofs.Descriptors.{described_at, pieces_back}
+use Rattle.vd_split_ring.proofs.Direct.{lent_pieces, staged_is}
+use Rattle.vd_split_ring.proofs.Areas.{areas, entry_inside}
+use Rattle.vd_layout.specs.Driver.{DriverSays, IsDriverStep}
+use Rattle.vd_split.specs.declared.driver.SplitDriver.{SplitDriver}
+use Rattle.vd_split.specs.declared.driver.Slot.{Slot}
+use Rattle.vd_split.specs.declared.driver.DriverStep.{DriverStep}
+use Rattle.vd_split.specs.declared.driver.DriverStep.TheVariants as step
+use Rattle.vd_split.specs.DriverEnd.{IsMadeFor, DriverCounts, HoldsPlaces, DriverStands, DriverStepStands, Keeps, offering, driver_begun, driver_left, split_driver}
+use Rattle.vd_split.specs.Parts.{next_place, Copies, described_step}
+use Rattle.vd_split.specs.Plans.{plan_is, enough, plan_length, begins_at, next_mod, copies_set, copies_other}
+
+-- what one step of the end owes in a view
+pub record Goes (e e' : SplitDriver) (v : DriverView) (o : Op) (a : Access) (r : ℕ) (answer : DriverAct) : Type 0 where
+  pub next : DriverNext v o a
+  pub stands : DriverStands e' (driver_after v o a r)
+  pub is : answer ≡ driver_act v o a r
+  pub left : driver_left e'.doing e'.pieces.items < driver_left e.doing e.pieces.items
+  pub says : DriverSays answer (driver_begun e.doing e.pieces.items) (driver_begun e'.doing e'.pieces.items) v.frame v.done (driver_after v o a r).done
+
+pub made : {P : Type 0} (port : PortModel P) (p q : P) (e e' : SplitDriver) (v : DriverView) (o : Op) (a : Access) (r : ℕ) (answer : DriverAct) → Goes e e' v o a r answer → port.moves p o a r q → IsDriverStep port split_driver p q v e e' answer
+made port p q e e' v o a r answer go moved = record { op = o; access = a; got = r; was_next = go.next; moved = moved; now_stands = go.stands; is_answer = go.is; left = go.left; says = go.says }
+
+pub small_places : (queue : List ℕ) (capacity : ℕ) (slots : List Slot) (f : Frame) (o : List DriverDone) → HoldsPlaces queue capacity slots f o → IsLawful f → All (λ p. p < 32768) queue
+small_places queue capacity slots f o h l = λ k d a.
+    let here = occurs_at queue k d a in
+    let inside = free_inside f o (slice_index_or queue k d) h.held (subst (λ fr. 1 ≤ occurs (slice_index_or queue k d) fr) h.queued here) in
+    omega (arith, inside, l.small)
+
+-- ---- the store of a descriptor word
+
+offering_some : (n : ℕ) (ps : List Put) → offering (n + 1) ps ≡ now.Offering ps
+offering_some n ps = ap (λ m. offering m ps) (let e : n + 1 ≡ suc n = omega arith in e)
+
+next_at : (v : DriverView) (at : ℕ) (ps : List Put) (s : Put) → v.armed ≡ None → (at ≡ 0 → ps ≡ []) → Begins v.frame v.done (ps ++ s ∷ []) → DriverNextAt (offering at ps) v op.Offer (Store s.place s.word)
+next_at v zero ps s armed none h = (armed, subst (λ (us : List Put). Begins v.frame v.done (us ++ s ∷ [])) (none refl) h)
+next_at v (suc n) ps s armed none h = inl h
+
+-- a descriptor is no ring entry
+stage_at : (v : DriverView) (ps : List Put) (s : Put) → s.place < avail_from v.frame → staged v ps s.place s.word ≡ now.Offering (ps ++ s ∷ [])
+stage_at v ps s low = ap (λ (b : Bool). if b then now.Entered ps else now.Offering (ps ++ s ∷ [])) (ne_eqb s.place (lane_word v.frame (entry_lane v.frame (length (offers v.done)))) (λ e. omega arith))
+
+after_at : (v : DriverView) (at : ℕ) (ps : List Put) (s : Put) (r : ℕ) → (at ≡ 0 → ps ≡ []) → s.place < avail_from v.frame → driver_after_at (offering at ps) v op.Offer (Store s.place s.word) r ≡ stores v s.place s.word (now.Offering (ps ++ s ∷ []))
+after_at v zero ps s r none low = ap (λ (us : List Put). stores v s.place s.word (now.Offering (us ++ s ∷ []))) (sym (none refl))
+after_at v (suc n) ps s r none low = ap (λ t. stores v s.place s.word t) (stage_at v ps s low)
+
+act_at : (v : DriverView) (at : ℕ) (ps : List Put) (p x r : ℕ) → driver_act_at (offering at ps) v op.Offer (Store p x) r ≡ act.Moved
+act_at v zero ps p x r = refl
+act_at v (suc n) ps p x r = refl
+
+none_yet : (pl : List Put) (at : ℕ) → at ≡ 0 → take at pl ≡ []
+none_yet pl at e = ap (λ k. take k pl) e
+
+pub describe_goes : (e : SplitDriver) (v : DriverView) (at r : ℕ) → e.doing ≡ step.Describe at → DriverStands e v
+    → let s = slice_index_or (plan v.frame v.done e.pieces.items) at (put 0 0) in Goes e (record e { doing = described_step at (length e.pieces.items) }) v op.Offer (Store s.place s.word) r act.Moved
+describe_goes e v at r is st =
+    let f : Frame = v.frame in let o : List DriverDone = v.done in let c : List Piece = e.pieces.items in
+    let pl : List Put = plan f o c in
+    let s : Put = slice_index_or pl at (put 0 0) in
+    let ps : List Put = take at pl in
+    let l : IsLawful f = st.made.lawful in let b : IsBuilt f = st.made.built in
+    let n : DriverStepStands (step.Describe at) c f o v.doing = subst (λ t. DriverStepStands t c f o v.doing) is st.doing in
+    let can : CanOffer f o c = n.0 in
+    let below : at < 2 * length c = n.1 in
+    let len = plan_length f o c l b can in
+    let places : List ℕ = take (length c) (free f o) in
+    let s' : Put = slice_index_or (described 0 places c) at (put 0 0) in
+    let same : s ≡ s' = ap (λ (us : List Put). slice_index_or us at (put 0 0)) (plan_is f o c l b) in
+    let one = described_at 0 places c at (omega (arith, len, ap (λ (us : List Put). length us) (plan_is f o c l b))) in
+    let low' : s'.place < avail_from f = omega (arith, one.low, one.high, free_inside f o one.place st.holds.held (omega (arith, one.here, occurs_parts one.place (length c) (free f o)))) in
+    let low : s.place < avail_from f = subst (λ (t : Put). t.place < avail_from f) (sym same) low' in
+    let more : ps ++ s ∷ [] ≡ take (at + 1) pl = sym (take_more pl at (put 0 0) (omega arith)) in
+    let none = none_yet pl at in
+    let is_after = ap (λ t. driver_after_at t v op.Offer (Store s.place s.word) r) n.2 ∙ after_at v at ps s r none low in
+    let e' : SplitDriver = record e { doing = described_step at (length c) } in
+    record {
+      next = subst (λ t. DriverNextAt t v op.Offer (Store s.place s.word)) (sym n.2) (next_at v at ps s st.silent.unarmed none (begins_at f o c at can (omega arith)));
+      stands = subst (λ w. DriverStands e' w) (sym is_after) record {
+        made = st.made;
+        counts = st.counts;
+        holds = st.holds;
+        area = copies_other (avail_from f) ((f.size + 6) / 4) e.area.items v.stored s.place s.word st.area (λ i a z. omega arith);
+        wide = length-set v.stored s.place s.word ∙ st.wide;
+        shown = st.shown;
+        silent = record { unarmed = st.silent.unarmed; unheard = st.silent.unheard; unrung = st.silent.unrung };
+        doing = which (nat_lt (at + 1) (2 * length c)) refl can more len;
+      };
+      is = sym (ap (λ t. driver_act_at t v op.Offer (Store s.place s.word) r) n.2 ∙ act_at v at ps s.place s.word r);
+      left = subst (λ t. driver_left (described_step at (length c)) c < driver_left t c) (sym is) (shorter (nat_lt (at + 1) (2 * length c)) refl below);
+      says = subst (λ t. DriverSays act.Moved (driver_begun t c) (driver_begun (described_step at (length c)) c) f o (driver_after v op.Offer (Store s.place s.word) r).done) (sym is)
+          (begun (nat_lt (at + 1) (2 * length c)), ap (λ (w : DriverView). w.done) is_after);
+    }
+  where
+    which : (b : Bool) → nat_lt (at + 1) (2 * length e.pieces.items) ≡ b → CanOffer v.frame v.done e.pieces.items
+        → take at (plan v.frame v.done e.pieces.items) ++ slice_index_or (plan v.frame v.done e.pieces.items) at (put 0 0) ∷ [] ≡ take (at + 1) (plan v.frame v.done e.pieces.items)
+        → length (plan v.frame v.done e.pieces.items) ≡ 2 * length e.pieces.items
+        → DriverStepStands (if b then step.Describe (at + 1) else step.Enter) e.pieces.items v.frame v.done (now.Offering (take at (plan v.frame v.done e.pieces.items) ++ slice_index_or (plan v.frame v.done e.pieces.items) at (put 0 0) ∷ []))
+    which true eq can more len = (can, ltb-true (at + 1) (2 * length e.pieces.items) eq, ap now.Offering more ∙ sym (offering_some at (take (at + 1) (plan v.frame v.done e.pieces.items))))
+    which false eq can more len =
+        let h = ltb-false (at + 1) (2 * length e.pieces.items) eq in
+        (can, ap now.Offering (more ∙ take_all (at + 1) (plan v.frame v.done e.pieces.items) (omega arith)))
+
+    shorter : (b : Bool) → nat_lt (at + 1) (2 * length e.pieces.items) ≡ b → at < 2 * length e.pieces.items → driver_left (if b then step.Describe (at + 1) else step.Enter) e.pieces.items < 2 * length e.pieces.items - at + 2
+    shorter true eq below = omega (arith, ltb-true (at + 1) (2 * length e.pieces.items) eq)
+    shorter false eq below = omega arith
+
+    begun : (b : Bool) → driver_begun (if b then step.Describe (at + 1) else step.Enter) e.pieces.items ≡ Rattle.vd_layout.specs.Begun.DriverOp.offer e.pieces.items
+    begun true = refl
+    begun false = refl
+
+-- the word as the end computes it
+pub describe_goes_at : (e : SplitDriver) (v : DriverView) (at r p x : ℕ) → e.doing ≡ step.Describe at → DriverStands e v
+    → p ≡ (slice_index_or (described 0 (take (length e.pieces.items) e.free.items) e.pieces.items) at (put 0 0)).place → x ≡ (slice_index_or (described 0 (take (length e.pieces.items) e.free.items) e.pieces.items) at (put 0 0)).word
+    → Goes e (record e { doing = described_step at (length e.pieces.items) }) v op.Offer (Store p x) r act.Moved
+describe_goes_at e v at r p x is st h k =
+    let c : List Piece = e.pieces.items in
+    let e' : SplitDriver = record e { doing = described_step at (length c) } in
+    let same : described 0 (take (length c) e.free.items) c ≡ plan v.frame v.done c = ap (λ (fr : List ℕ). described 0 (take (length c) fr) c) st.holds.queued ∙ sym (plan_is v.frame v.done c st.made.lawful st.made.built) in
+    subst (λ q. Goes e e' v op.Offer (Store q x) r act.Moved) (sym (h ∙ ap (λ (pl : List Put). (slice_index_or pl at (put 0 0)).place) same))
+    (subst (λ y. Goes e e' v op.Offer (Store (slice_index_or (plan v.frame v.done c) at (put 0 0)).place y) r act.Moved) (sym (k ∙ ap (λ (pl : List Put). (slice_index_or pl at (put 0 0)).word) same))
+    (describe_goes e v at r is st))
+
+-- ---- the store of the ring entry
+
+pub head_small : (e : SplitDriver) (v : DriverView) → e.doing ≡ step.Enter → DriverStands e v → (0 < length e.free.items) × (slice_index e.free.items 0 < 32768)
+head_small e v is st =
+    let c : List Piece = e.pieces.items in
+    let n : DriverStepStands step.Enter c v.frame v.done v.doing = subst (λ t. DriverStepStands t c v.frame v.done v.doing) is st.doing in
+    let some : 0 < length e.free.items = omega (arith, enough v.frame v.done c st.made.built n.0, n.0.fits.chain.0, ap (λ (fr : List ℕ). length fr) st.holds.queued) in
+    (some, small_places e.free.items e.free.capacity e.slots.items v.frame v.done st.holds st.made.lawful 0 0 some)
+
+-- lane number k of the driver area is one of its words
+pub lane_below : (f : Frame) (k : ℕ) → IsLawful f → entry_lane f k / 4 < (f.size + 6) / 4
+lane_below f k l = omega (arith, mod_below k f.size l.some_place)
+
+enter_at : (e : SplitDriver) (v : DriverView) (i r x : ℕ) → e.doing ≡ step.Enter → DriverStands e v → i ≡ entry_lane v.frame (length (offers v.done)) / 4
+    → x ≡ with_lane v.frame v.stored (entry_lane v.frame (length (offers v.done))) (next_head v.frame v.done)
+    → Goes e (record e { area = with_item e.area i x; doing = step.Publish }) v op.Offer (Store (avail_from v.frame + i) x) r act.Moved
+enter_at e v i r x is st here word =
+    let f : Frame = v.frame in let o : List DriverDone = v.done in let c : List Piece = e.pieces.items in
+    let pl : List Put = plan f o c in
+    let n : DriverStepStands step.Enter c f o v.doing = subst (λ t. DriverStepStands t c f o v.doing) is st.doing in
+    let j : ℕ = entry_lane f (length (offers o)) in
+    let below = lane_below f (length (offers o)) st.made.lawful in
+    let p : ℕ = avail_from f + i in
+    let at : p ≡ lane_word f j = ap (λ k. avail_from f + k) here in
+    let is_after = ap (λ t. driver_after_at t v op.Offer (Store p x) r) n.1 ∙ ap (λ (b : Bool). stores v p x (if b then now.Entered pl else now.Offering (pl ++ put p x ∷ []))) (eq-eqb p (lane_word f j) at) in
+    let e' : SplitDriver = record e { area = with_item e.area i x; doing = step.Publish } in
+    record {
+      next = subst (λ t. DriverNextAt t v op.Offer (Store p x)) (sym n.1) (inr record { chain = c; can = n.0; whole = refl; place = at; word = word });
+      stands = subst (λ w. DriverStands e' w) (sym is_after) record {
+        made = st.made;
+        counts = st.counts;
+        holds = st.holds;
+        area = copies_set (avail_from f) ((f.size + 6) / 4) e.area.items v.stored i x st.area (omega arith) (omega (arith, st.wide, areas f));
+        wide = length-set v.stored p x ∙ st.wide;
+        shown = st.shown;
+        silent = record { unarmed = st.silent.unarmed; unheard = st.silent.unheard; unrung = st.silent.unrung };
+        doing = (n.0, refl);
+      };
+      is = sym (ap (λ t. driver_act_at t v op.Offer (Store p x) r) n.1);
+      left = subst (λ t. 1 < driver_left t c) (sym is) (let z : 1 < 2 = omega arith in z);
+      says = subst (λ t. DriverSays act.Moved (driver_begun t c) (Rattle.vd_layout.specs.Begun.DriverOp.offer c) f o (driver_after v op.Offer (Store p x) r).done) (sym is) (refl, ap (λ (w : DriverView). w.done) is_after);
+    }
+
+pub enter_goes : (e : SplitDriver) (v : DriverView) (r x : ℕ) → e.doing ≡ step.Enter → DriverStands e v
+    → x ≡ set_lane16 (slice_index e.area.items ((e.entry + 2) / 4)) ((e.entry + 2) % 4) (slice_index e.free.items 0)
+    → Goes e (record e { area = with_item e.area ((e.entry + 2) / 4) x; doing = step.Publish }) v op.Offer (Store (2 * e.size + (e.entry + 2) / 4) x) r act.Moved
+enter_goes e v r x is st word =
+    let f : Frame = v.frame in
+    let j : ℕ = entry_lane f (length (offers v.done)) in
+    let i : ℕ = (e.entry + 2) / 4 in
+    let lane : e.entry + 2 ≡ j = ap (λ k. k + 2) st.counts.entry_at in
+    let here : i ≡ j / 4 = ap (λ k. k / 4) lane in
+    let below = lane_below f (length (offers v.done)) st.made.lawful in
+    let old : slice_index e.area.items i ≡ slice_index v.stored (lane_word f j) = st.area.same i (omega arith) ∙ ap (λ k. slice_index v.stored (avail_from f + k)) here in
+    let value : x ≡ with_lane f v.stored j (next_head f v.done) =
+    word ∙ ap (λ w. set_lane16 w ((e.entry + 2) % 4) (slice_index e.free.items 0)) old ∙ ap (λ k. set_lane16 (slice_index v.stored (lane_word f j)) (k % 4) (slice_index e.free.items 0)) lane
+    ∙ ap (λ (fr : List ℕ). set_lane16 (slice_index v.stored (lane_word f j)) (j % 4) (slice_index fr 0)) st.holds.queued in
+    subst (λ n. Goes e (record e { area = with_item e.area i x; doing = step.Publish }) v op.Offer (Store (2 * n + i) x) r act.Moved) (sym st.made.sized) (enter_at e v i r x is st here value)
+
+pub entry_below : (e : SplitDriver) (v : DriverView) → DriverStands e v → ((e.entry + 2) / 4 < length e.area.items) × (0 < length e.area.items) × (e.entry < e.size)
+entry_below e v st =
+    let m = mod_below (length (offers v.done)) v.frame.size st.made.lawful.some_place in
+    (omega (arith, st.area.as_many, st.counts.entry_at), omega (arith, st.area.as_many, st.made.lawful.some_place), omega (arith, st.counts.entry_at, st.made.sized))
+
+-- ---- the store of the index
+
+-- a chain that is offered now is kept in the slot of its head
+pub holds_more : (queue : List ℕ) (capacity : ℕ) (slots : List Slot) (f : Frame) (o : List DriverDone) (c : List Piece) (s : Slot) → HoldsPlaces queue capacity slots f o → IsLawful f → IsBuilt f → CanOffer f o c
+    → s.number ≡ length (offers o) → s.places.items ≡ take (length c) queue → HoldsPlaces (drop (length c) queue) capacity (slice_set slots (slice_index queue 0) s) f (Offer c ∷ o)
+holds_more queue capacity slots f o c s h l b can number taken =
+    let m : ℕ = length (offers o) in
+    let lent : lent f c ≡ length c = lent_pieces f c l b in
+    let room = enough f o c b can in
+    let some : 0 < length c = can.fits.chain.0 in
+    let ps : s.places.items ≡ take (Rattle.vd_ring.specs.Frames.lent f c) (free f o) = taken ∙ ap (λ (q : List ℕ). take (length c) q) h.queued ∙ ap (λ k. take k (free f o)) (sym lent) in
+    let placed : Places f (Offer c ∷ o) = offer_places f o c h.held can.fits (omega arith) can.limited in
+    let new : places f (Offer c ∷ o) m ≡ take (Rattle.vd_ring.specs.Frames.lent f c) (free f o) = places_new f o c h.held in
+    let at : ℕ = slice_index queue 0 in
+    let is_head : head f (Offer c ∷ o) m ≡ at = ap first new ∙ get_or-take (Rattle.vd_ring.specs.Frames.lent f c) (free f o) 0 0 (omega arith) ∙ ap (λ (q : List ℕ). slice_index q 0) (sym h.queued) in
+    let here : 1 ≤ occurs m (open_at (Offer c ∷ o)) = omega (arith, occurs_push m (open_at o) m, one_same m m refl) in
+    let inside : at < f.size = subst (λ k. k < f.size) is_head (head_inside f (Offer c ∷ o) m placed here) in
+    record {
+      held = placed;
+      queued = ap (λ (q : List ℕ). drop (length c) q) h.queued ∙ ap (λ k. drop k (free f o)) (sym lent);
+      room = h.room;
+      as_many = length-set slots at s ∙ h.as_many;
+      open_chains = λ k d a. elim (cases_eq m k) [
+        | inl e ↦ subst (λ q. Keeps (slice_index_or (slice_set slots at s) (head f (Offer c ∷ o) q) d) f (Offer c ∷ o) q) e
+            (subst (λ q. Keeps q f (Offer c ∷ o) m)
+            (sym (ap (λ q. slice_index_or (slice_set slots at s) q d) is_head ∙ get_or-set_same slots at s d (omega (arith, h.as_many)))) (number, ps ∙ sym new))
+        | inr ne ↦ (
+            let old : 1 ≤ occurs k (open_at o) = omega (arith, a, occurs_push k (open_at o) m, one_other m k ne) in
+            let below : k < m = open_below f o k h.held old in
+            let before : places f (Offer c ∷ o) k ≡ places f o k = places_before f o c k h.held below in
+            let apart : head f o k ≢ at = λ e. ne (sym (same_head f (Offer c ∷ o) k m placed a here (ap first before ∙ e ∙ sym is_head))) in
+            let kept = h.open_chains k d old in
+            subst (λ q. Keeps q f (Offer c ∷ o) k) (sym (ap (λ q. slice_index_or (slice_set slots at s) q d) (ap first before) ∙ get_or-set_other slots at (head f o k) s d apart)) (kept.0, kept.1 ∙ sym before)
+            )
+      ];
+    }
+
+pub publish_goes : (e : SplitDriver) (v : DriverView) (r x : ℕ) (e' : SplitDriver) (s : Slot) → e.doing ≡ step.Publish → DriverStands e v
+    → x ≡ set_lane16 (slice_index e.area.items 0) 1 ((e.offered + 1) % 65536)
+    → e'.free.items ≡ drop (length e.pieces.items) e.free.items → e'.free.capacity ≡ e.free.capacity → s.number ≡ e.offered → s.places.items ≡ take (length e.pieces.items) e.free.items
+    → Goes e (record e { offered = e.offered + 1; entry = next_place e.entry e.size; free = e'.free; slots = with_item e.slots (slice_index e.free.items 0) s; area = with_item e.area 0 x; doing = step.Idle }) v op.Offer (Store (2 * e.size) x) r (act.Offered e.offered)
+publish_goes e v r x e' s is st word left capacity number taken =
+    let f : Frame = v.frame in let o : List DriverDone = v.done in let c : List Piece = e.pieces.items in
+    let m : ℕ = length (offers o) in
+    let l : IsLawful f = st.made.lawful in let b : IsBuilt f = st.made.built in
+    let n : DriverStepStands step.Publish c f o v.doing = subst (λ t. DriverStepStands t c f o v.doing) is st.doing in
+    let can : CanOffer f o c = n.0 in
+    let ps : List Put = plan f o c in
+    let ds : List ℕ = take (length c) (free f o) in
+    let spelled : staged_chain f (words_of ps) ≡ c = staged_is f (words_of ps) b ∙ ap (λ (us : List Put). pieces_of (words_of us)) (plan_is f o c l b) ∙ pieces_back 0 ds c (length-take-le (length c) (free f o) (enough f o c b can)) can.fits.chain.3 in
+    let p : ℕ = avail_from f + 0 in
+    let value : x ≡ with_lane f v.stored 1 ((m + 1) % 65536) = word ∙ ap (λ w. set_lane16 w 1 ((e.offered + 1) % 65536)) (st.area.same 0 (omega (arith, l.some_place))) ∙ ap (λ k. set_lane16 (slice_index v.stored p) 1 ((k + 1) % 65536)) st.counts.offers in
+    let e2 : SplitDriver = record e { offered = e.offered + 1; entry = next_place e.entry e.size; free = e'.free; slots = with_item e.slots (slice_index e.free.items 0) s; area = with_item e.area 0 x; doing = step.Idle } in
+    let longer = length_push (offers o) c in
+    let is_after : driver_after v op.Offer (Store p x) r ≡ record v { done = Offer c ∷ o; stored = slice_set v.stored p x; doing = now.Idle } =
+    ap (λ t. driver_after_at t v op.Offer (Store p x) r) n.1 ∙ ap (λ (cs : List Piece). record v { done = Offer cs ∷ o; stored = slice_set v.stored p x; doing = now.Idle }) spelled in
+    let held : HoldsPlaces e'.free.items e'.free.capacity (slice_set e.slots.items (slice_index e.free.items 0) s) f (Offer c ∷ o) =
+    subst (λ q. HoldsPlaces q e'.free.capacity (slice_set e.slots.items (slice_index e.free.items 0) s) f (Offer c ∷ o)) (sym left)
+    (subst (λ k. HoldsPlaces (drop (length c) e.free.items) k (slice_set e.slots.items (slice_index e.free.items 0) s) f (Offer c ∷ o)) (sym capacity)
+    (holds_more e.free.items e.free.capacity e.slots.items f o c s st.holds l b can (number ∙ st.counts.offers) taken)) in
+    subst (λ q. Goes e e2 v op.Offer (Store q x) r (act.Offered e.offered)) (let z : avail_from f + 0 ≡ 2 * e.size = omega (arith, st.made.sized) in z) record {
+      next = subst (λ t. DriverNextAt t v op.Offer (Store p x)) (sym n.1) record { place = refl; word = value };
+      stands = subst (λ w. DriverStands e2 w) (sym is_after) record {
+        made = st.made;
+        counts = record {
+          offers = omega (arith, st.counts.offers, longer);
+          collects = st.counts.collects;
+          entry_at = ap (λ k. next_place k e.size) st.counts.entry_at ∙ ap (λ k. next_place (m % f.size) k) st.made.sized ∙ next_mod m f.size l.some_place ∙ ap (λ k. k % f.size) (sym longer);
+          used_at = st.counts.used_at;
+        };
+        holds = held;
+        area = copies_set (avail_from f) ((f.size + 6) / 4) e.area.items v.stored 0 x st.area (omega (arith, l.some_place)) (omega (arith, st.wide, areas f));
+        wide = length-set v.stored p x ∙ st.wide;
+        shown = st.shown;
+        silent = record { unarmed = st.silent.unarmed; unheard = st.silent.unheard; unrung = st.silent.unrung };
+        doing = refl;
+      };
+      is = ap act.Offered st.counts.offers ∙ sym (ap (λ t. driver_act_at t v op.Offer (Store p x) r) n.1);
+      left = subst (λ t. 0 < driver_left t c) (sym is) (let z : 0 < 1 = omega arith in z);
+      says = subst (λ t. DriverSays (act.Offered e.offered) (driver_begun t c) Rattle.vd_layout.specs.Begun.DriverOp.idle f o (driver_after v op.Offer (Store p x) r).done) (sym is)
+          (c, refl, inl refl, st.counts.offers, ap (λ (w : DriverView). w.done) is_after);
+    }
+
+pub publish_head : (e : SplitDriver) (v : DriverView) → e.doing ≡ step.Publish → DriverStands e v → (0 < length e.free.items) × (length e.pieces.items ≤ length e.free.items) × (slice_index e.free.items 0 < length e.slots.items)
+publish_head e v is st =
+    let c : List Piece = e.pieces.items in
+    let n : DriverStepStands step.Publish c v.frame v.done v.doing = subst (λ t. DriverStepStands t c v.frame v.done v.doing) is st.doing in
+    let same = ap (λ (fr : List ℕ). length fr) st.holds.queued in
+    let many : length c ≤ length e.free.items = omega (arith, enough v.frame v.done c st.made.built n.0) in
+    let some : 0 < length e.free.items = omega (arith, n.0.fits.chain.0) in
+    let inside = free_inside v.frame v.done (slice_index (free v.frame v.done) 0) st.holds.held (occurs_at (free v.frame v.done) 0 0 (omega arith)) in
+    (some, many, omega (arith, inside, ap (λ (fr : List ℕ). slice_index fr 0) st.holds.queued, st.holds.as_many))

@@ -1,0 +1,70 @@
+//! A driver's end of a fresh ring.
+ghost use Rattle.std.specs.Prelude.{◌≡◌, ◌<◌, ◌≤◌, length, IfOk, false};
+ghost use Rattle.vd_ring.specs.Fresh.{fresh_driver};
+ghost use Rattle.vd_ring.specs.History.{upto};
+ghost use Rattle.vd_ring.specs.declared.frame.Frame.{Frame};
+ghost use Rattle.vd_split_ring.specs.SplitWords.{IsLawful, IsBuilt, width};
+ghost use Rattle.vd_split.specs.DriverEnd.{IsMadeFor, DriverStands};
+
+use super::{DriverStep, Slot, SplitDriver};
+use crate::descriptors::zero_words;
+use arrayvec::ArrayVec;
+use circular_buffer::HeapCircularBuffer;
+use std::alloc::{AllocError, Global};
+use vd_model::Features;
+
+/// The queue of a fresh ring: all places in order.
+fn all_places(alloc: Global, size: u32) -> Result<HeapCircularBuffer<u32>, AllocError>
+    ensures { IfOk result (λ b. (b.items ≡ upto size) × (b.capacity ≡ size)) }
+{
+    let mut free = HeapCircularBuffer::with_capacity(alloc, size as usize)?;
+    for place in 0..size {
+        free.push_back(place);
+    }
+    Ok(free)
+}
+
+/// A slot for each place.
+fn empty_slots(alloc: Global, size: u32) -> Result<Vec<Slot>, AllocError>
+    ensures { IfOk result (λ s. length s.items ≡ size) }
+{
+    let mut slots = Vec::with_capacity(alloc, size as usize)?;
+    for _ in 0..size {
+        slots.push(Slot {
+            number: 0,
+            places: ArrayVec::new(),
+        })?;
+    }
+    Ok(slots)
+}
+
+impl SplitDriver {
+    /// The driver's end of a fresh ring.
+    pub(crate) fn make(
+        alloc: Global,
+        size: u32,
+        features: Features,
+    ) -> Result<SplitDriver, AllocError>
+        requires { (0 < size) × (size ≤ 32768) }
+        ensures stands { IfOk result (λ e. (f : Frame) → IsMadeFor size features f → DriverStands e (fresh_driver f (width f))) }
+        ensures idle { IfOk result (λ e. (e.doing ≡ DriverStep.Idle) × (e.size ≡ size) × (e.features ≡ features)) }
+    {
+        let free = all_places(alloc, size)?;
+        let slots = empty_slots(alloc, size)?;
+        let area = zero_words(alloc, (size + 6) / 4)?;
+        Ok(SplitDriver {
+            size,
+            features,
+            offered: 0,
+            collected: 0,
+            entry: 0,
+            used: 0,
+            free,
+            slots,
+            area,
+            shown: false,
+            pieces: ArrayVec::new(),
+            doing: DriverStep::Idle,
+        })
+    }
+}
