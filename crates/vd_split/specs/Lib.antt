@@ -5,3 +5,6 @@ pub mod DriverSteps
 pub mod DriverCollecting
 pub mod DriverLaws
 pub mod Opening
+pub mod DeviceEnd
+pub mod DeviceGiving
+pub mod DeviceTaking

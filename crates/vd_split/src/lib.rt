@@ -2,6 +2,8 @@
 #![tactic(auto)]
 
 mod descriptors;
+mod device;
 mod driver;
 
+pub use device::SplitDevice;
 pub use driver::SplitDriver;
