@@ -9,7 +9,7 @@ use Rattle.vd_ring.specs.declared.frame.Frame.{Frame}
 use Rattle.vd_layout.specs.Begun.{DeviceOp, DevicePublished, DeviceGoesOn}
 use Rattle.vd_layout.specs.Control.{ControlWords}
 use Rattle.vd_layout.specs.Device.{DeviceModel, DeviceSays, IsDeviceStep, IsLawfulDevice, is_rested}
-use Rattle.vd_layout.specs.Run.{Made, IsRun}
+use Rattle.vd_layout.specs.Run.{Made, IsRun, IsToldAt}
 
 -- an operation that a begin call began
 abbrev pub IsDeviceWork : DeviceOp → Type 0
@@ -34,6 +34,8 @@ pub record IsDeviceFinish {P E : Type 0} (port : PortModel P) (m : DeviceModel E
   pub told : answer ≢ act.Moved
   pub says : DeviceSays m.words answer (m.begun e) DeviceOp.idle v.frame v.done view.done
   pub rests : m.resting e' ≡ is_rested answer
+  -- the access by which it was told
+  pub at : IsToldAt port m.side m.act p v answer
 
 -- ---- on the way
 
@@ -48,7 +50,7 @@ pub record DeviceGoing {P E : Type 0} (port : PortModel P) (m : DeviceModel E) (
   pub run : IsRun port m.side made p v q view
   pub stands : m.stands e view
   pub framed : view.frame ≡ v.frame
-  pub phase : ((answer ≡ act.Moved) × (m.begun e ≡ b) × (view.done ≡ v.done)) ⊎ ((answer ≢ act.Moved) × DeviceToldStage answer (m.begun e) (m.resting e) × DeviceSays m.words answer b DeviceOp.idle v.frame v.done view.done)
+  pub phase : ((answer ≡ act.Moved) × (m.begun e ≡ b) × (view.done ≡ v.done)) ⊎ ((answer ≢ act.Moved) × DeviceToldStage answer (m.begun e) (m.resting e) × DeviceSays m.words answer b DeviceOp.idle v.frame v.done view.done × IsToldAt port m.side m.act p v answer)
 
 pub device_starts : {P E : Type 0} (port : PortModel P) (m : DeviceModel E) (p : P) (v : DeviceView) (e : E) → m.stands e v → DeviceGoing port m (m.begun e) p v p e act.Moved
 device_starts port m p v e stands = record { view = v; made = []; run = (refl, refl); stands = stands; framed = refl; phase = inl (refl, refl, refl) }
@@ -106,7 +108,7 @@ device_goes {P} {E} port m law b p q q' v e e' answer x work g busy s =
           | inl t ↦ inl (ap (device_told answer) t.0 ∙ a.0, t.1, t.2)
           | inr t ↦ (
               let is = told_first answer x a.0 t.0 in
-              inr (λ z. t.0 (sym is ∙ z), subst (λ y. DeviceToldStage y (m.begun e') (m.resting e')) (sym is) t.1, subst (λ y. DeviceSays m.words y b DeviceOp.idle v.frame v.done u.done) (sym is) t.2)
+              inr (λ z. t.0 (sym is ∙ z), subst (λ y. DeviceToldStage y (m.begun e') (m.resting e')) (sym is) t.1, subst (λ y. DeviceSays m.words y b DeviceOp.idle v.frame v.done u.done) (sym is) t.2, subst (λ y. IsToldAt port m.side m.act p v y) (sym is) here)
               )
         ]
         | inr a ↦ (
@@ -118,11 +120,15 @@ device_goes {P} {E} port m law b p q q' v e e' answer x work g busy s =
               λ z. a.0 (sym is ∙ z),
               subst (λ y. DeviceToldStage y (m.begun e') (m.resting e')) (sym is) (left t.1 rests only.1),
               subst (λ y. DeviceSays m.words y b DeviceOp.idle v.frame v.done u.done) (sym is) (subst (λ (s2 : List DeviceDone). DeviceSays m.words answer b DeviceOp.idle v.frame v.done s2) (sym t.2) a.2),
+              subst (λ y. IsToldAt port m.side m.act p v y) (sym is) a.3,
             )
             )
       ];
     }
   where
+    here : IsToldAt port m.side m.act p v x
+    here = record { made = g.made; mid = q; view = g.view; run = g.run; next = q'; op = s.op; access = s.access; got = s.got; was_next = s.was_next; moved = s.moved; is_answer = s.is_answer }
+
     at : m.begun e ≡ b → g.view.done ≡ v.done → DeviceSays m.words x b (m.begun e') v.frame v.done (m.side.after g.view s.op s.access s.got).done
     at is same = subst (λ y. DeviceSays m.words x y (m.begun e') v.frame v.done (m.side.after g.view s.op s.access s.got).done) is
         (subst (λ (f : Frame). DeviceSays m.words x (m.begun e) (m.begun e') f v.done (m.side.after g.view s.op s.access s.got).done) g.framed
@@ -139,7 +145,7 @@ device_goes {P} {E} port m law b p q q' v e e' answer x work g busy s =
 pub device_ends : {P E : Type 0} (port : PortModel P) (m : DeviceModel E) (p q : P) (v : DeviceView) (e e' : E) (answer : DeviceAct) → IsDeviceWork (m.begun e) → DeviceGoing port m (m.begun e) p v q e' answer → m.begun e' ≡ DeviceOp.idle → IsDeviceFinish port m p q v e e' answer
 device_ends port m p q v e e' answer work g idle = elim g.phase [
   | inl a ↦ absurd (no (m.begun e) work (sym a.1 ∙ idle))
-  | inr a ↦ record { view = g.view; made = g.made; run = g.run; now_stands = g.stands; idle = idle; told = a.0; says = a.2; rests = at_end a.1 }
+  | inr a ↦ record { view = g.view; made = g.made; run = g.run; now_stands = g.stands; idle = idle; told = a.0; says = a.2; rests = at_end a.1; at = a.3 }
 ]
   where
     no : (b : DeviceOp) → IsDeviceWork b → b ≡ DeviceOp.idle → ⊥

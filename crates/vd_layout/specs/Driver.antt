@@ -78,5 +78,7 @@ pub record IsLawfulDriver {E : Type 0} (m : DriverModel E) : Type 0 where
   pub ends : (e : E) → m.left e ≡ 0 → m.begun e ≡ DriverOp.idle
   -- after a control access of its holder the end stands for the view after it
   pub control : (e : E) (v : DriverView) (a : Access) (r : ℕ) → m.stands e v → m.side.next v Control a → m.stands e (m.side.after v Control a r)
+  -- no end is armed yet
+  pub unarmed : (e : E) (v : DriverView) → m.stands e v → v.armed ≡ None
   -- no access changes what the ring was made with
   pub framed : (v : DriverView) (op : Op) (a : Access) (r : ℕ) → (m.side.after v op a r).frame ≡ v.frame

@@ -29,6 +29,20 @@ abbrev pub written_by : List Made → List ℕ → List ℕ
 written_by [] ws = ws
 written_by (m ∷ ms) ws = written (written_by ms ws) m.access
 
+-- an answer was told by one access of such a run
+pub record IsToldAt {P V A : Type 0} (port : PortModel P) (side : SideModel V) (act : V → Op → Access → ℕ → A) (p : P) (v : V) (answer : A) : Type 0 where
+  pub made : List Made
+  pub mid : P
+  pub view : V
+  pub run : IsRun port side made p v mid view
+  pub next : P
+  pub op : Op
+  pub access : Access
+  pub got : ℕ
+  pub was_next : side.next view op access
+  pub moved : port.moves mid op access got next
+  pub is_answer : answer ≡ act view op access got
+
 -- ---- lemmas
 
 -- on plain words a run keeps whatever each next access keeps
