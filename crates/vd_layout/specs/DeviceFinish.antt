@@ -35,7 +35,7 @@ pub record IsDeviceFinish {P E : Type 0} (port : PortModel P) (m : DeviceModel E
   pub says : DeviceSays m.words answer (m.begun e) DeviceOp.idle v.frame v.done view.done
   pub rests : m.resting e' ≡ is_rested answer
   -- the access by which it was told
-  pub at : IsToldAt port m.side m.act p v answer
+  pub at : IsToldAt port m.side m.act (λ u. u.done ≡ v.done) p v answer
 
 -- ---- on the way
 
@@ -50,7 +50,7 @@ pub record DeviceGoing {P E : Type 0} (port : PortModel P) (m : DeviceModel E) (
   pub run : IsRun port m.side made p v q view
   pub stands : m.stands e view
   pub framed : view.frame ≡ v.frame
-  pub phase : ((answer ≡ act.Moved) × (m.begun e ≡ b) × (view.done ≡ v.done)) ⊎ ((answer ≢ act.Moved) × DeviceToldStage answer (m.begun e) (m.resting e) × DeviceSays m.words answer b DeviceOp.idle v.frame v.done view.done × IsToldAt port m.side m.act p v answer)
+  pub phase : ((answer ≡ act.Moved) × (m.begun e ≡ b) × (view.done ≡ v.done)) ⊎ ((answer ≢ act.Moved) × DeviceToldStage answer (m.begun e) (m.resting e) × DeviceSays m.words answer b DeviceOp.idle v.frame v.done view.done × IsToldAt port m.side m.act (λ u. u.done ≡ v.done) p v answer)
 
 pub device_starts : {P E : Type 0} (port : PortModel P) (m : DeviceModel E) (p : P) (v : DeviceView) (e : E) → m.stands e v → DeviceGoing port m (m.begun e) p v p e act.Moved
 device_starts port m p v e stands = record { view = v; made = []; run = (refl, refl); stands = stands; framed = refl; phase = inl (refl, refl, refl) }
@@ -108,7 +108,7 @@ device_goes {P} {E} port m law b p q q' v e e' answer x work g busy s =
           | inl t ↦ inl (ap (device_told answer) t.0 ∙ a.0, t.1, t.2)
           | inr t ↦ (
               let is = told_first answer x a.0 t.0 in
-              inr (λ z. t.0 (sym is ∙ z), subst (λ y. DeviceToldStage y (m.begun e') (m.resting e')) (sym is) t.1, subst (λ y. DeviceSays m.words y b DeviceOp.idle v.frame v.done u.done) (sym is) t.2, subst (λ y. IsToldAt port m.side m.act p v y) (sym is) here)
+              inr (λ z. t.0 (sym is ∙ z), subst (λ y. DeviceToldStage y (m.begun e') (m.resting e')) (sym is) t.1, subst (λ y. DeviceSays m.words y b DeviceOp.idle v.frame v.done u.done) (sym is) t.2, subst (λ y. IsToldAt port m.side m.act (λ u. u.done ≡ v.done) p v y) (sym is) (here a.2))
               )
         ]
         | inr a ↦ (
@@ -120,14 +120,14 @@ device_goes {P} {E} port m law b p q q' v e e' answer x work g busy s =
               λ z. a.0 (sym is ∙ z),
               subst (λ y. DeviceToldStage y (m.begun e') (m.resting e')) (sym is) (left t.1 rests only.1),
               subst (λ y. DeviceSays m.words y b DeviceOp.idle v.frame v.done u.done) (sym is) (subst (λ (s2 : List DeviceDone). DeviceSays m.words answer b DeviceOp.idle v.frame v.done s2) (sym t.2) a.2),
-              subst (λ y. IsToldAt port m.side m.act p v y) (sym is) a.3,
+              subst (λ y. IsToldAt port m.side m.act (λ u. u.done ≡ v.done) p v y) (sym is) a.3,
             )
             )
       ];
     }
   where
-    here : IsToldAt port m.side m.act p v x
-    here = record { made = g.made; mid = q; view = g.view; run = g.run; next = q'; op = s.op; access = s.access; got = s.got; was_next = s.was_next; moved = s.moved; is_answer = s.is_answer }
+    here : g.view.done ≡ v.done → IsToldAt port m.side m.act (λ u. u.done ≡ v.done) p v x
+    here kept = record { made = g.made; mid = q; view = g.view; run = g.run; meets = kept; next = q'; op = s.op; access = s.access; got = s.got; was_next = s.was_next; moved = s.moved; is_answer = s.is_answer }
 
     at : m.begun e ≡ b → g.view.done ≡ v.done → DeviceSays m.words x b (m.begun e') v.frame v.done (m.side.after g.view s.op s.access s.got).done
     at is same = subst (λ y. DeviceSays m.words x y (m.begun e') v.frame v.done (m.side.after g.view s.op s.access s.got).done) is

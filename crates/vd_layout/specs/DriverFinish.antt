@@ -33,7 +33,7 @@ pub record IsDriverFinish {P E : Type 0} (port : PortModel P) (m : DriverModel E
   pub told : answer ≢ driver_act.Moved
   pub says : DriverSays answer (m.begun e) DriverOp.idle v.frame v.done view.done
   -- the access by which it was told
-  pub at : IsToldAt port m.side m.act p v answer
+  pub at : IsToldAt port m.side m.act (λ u. u.done ≡ v.done) p v answer
 
 -- ---- on the way
 
@@ -44,7 +44,7 @@ pub record DriverGoing {P E : Type 0} (port : PortModel P) (m : DriverModel E) (
   pub run : IsRun port m.side made p v q view
   pub stands : m.stands e view
   pub framed : view.frame ≡ v.frame
-  pub phase : ((answer ≡ driver_act.Moved) × (m.begun e ≡ b) × (view.done ≡ v.done)) ⊎ ((answer ≢ driver_act.Moved) × DriverPublished (m.begun e) × DriverSays answer b DriverOp.idle v.frame v.done view.done × IsToldAt port m.side m.act p v answer)
+  pub phase : ((answer ≡ driver_act.Moved) × (m.begun e ≡ b) × (view.done ≡ v.done)) ⊎ ((answer ≢ driver_act.Moved) × DriverPublished (m.begun e) × DriverSays answer b DriverOp.idle v.frame v.done view.done × IsToldAt port m.side m.act (λ u. u.done ≡ v.done) p v answer)
 
 pub driver_starts : {P E : Type 0} (port : PortModel P) (m : DriverModel E) (p : P) (v : DriverView) (e : E) → m.stands e v → DriverGoing port m (m.begun e) p v p e driver_act.Moved
 driver_starts port m p v e stands = record { view = v; made = []; run = (refl, refl); stands = stands; framed = refl; phase = inl (refl, refl, refl) }
@@ -98,19 +98,19 @@ driver_goes {P} {E} port m law b p q q' v e e' answer x work g busy s =
           | inl t ↦ inl (ap (driver_told answer) t.0 ∙ a.0, t.1, t.2)
           | inr t ↦ (
               let is = told_first answer x a.0 t.0 in
-              inr (λ z. t.0 (sym is ∙ z), t.1, subst (λ y. DriverSays y b DriverOp.idle v.frame v.done u.done) (sym is) t.2, subst (λ y. IsToldAt port m.side m.act p v y) (sym is) here)
+              inr (λ z. t.0 (sym is ∙ z), t.1, subst (λ y. DriverSays y b DriverOp.idle v.frame v.done u.done) (sym is) t.2, subst (λ y. IsToldAt port m.side m.act (λ u. u.done ≡ v.done) p v y) (sym is) (here a.2))
               )
         ]
         | inr a ↦ (
             let t = signalled x (m.begun e) (m.begun e') w.frame w.done u.done (which a.1) s.says in
             let is : driver_told answer x ≡ answer = ap (driver_told answer) t.0 in
-            inr (λ z. a.0 (sym is ∙ z), t.1, subst (λ y. DriverSays y b DriverOp.idle v.frame v.done u.done) (sym is) (subst (λ (o : List DriverDone). DriverSays answer b DriverOp.idle v.frame v.done o) (sym t.2) a.2), subst (λ y. IsToldAt port m.side m.act p v y) (sym is) a.3)
+            inr (λ z. a.0 (sym is ∙ z), t.1, subst (λ y. DriverSays y b DriverOp.idle v.frame v.done u.done) (sym is) (subst (λ (o : List DriverDone). DriverSays answer b DriverOp.idle v.frame v.done o) (sym t.2) a.2), subst (λ y. IsToldAt port m.side m.act (λ u. u.done ≡ v.done) p v y) (sym is) a.3)
             )
       ];
     }
   where
-    here : IsToldAt port m.side m.act p v x
-    here = record { made = g.made; mid = q; view = g.view; run = g.run; next = q'; op = s.op; access = s.access; got = s.got; was_next = s.was_next; moved = s.moved; is_answer = s.is_answer }
+    here : g.view.done ≡ v.done → IsToldAt port m.side m.act (λ u. u.done ≡ v.done) p v x
+    here kept = record { made = g.made; mid = q; view = g.view; run = g.run; meets = kept; next = q'; op = s.op; access = s.access; got = s.got; was_next = s.was_next; moved = s.moved; is_answer = s.is_answer }
 
     at : m.begun e ≡ b → g.view.done ≡ v.done → DriverSays x b (m.begun e') v.frame v.done (m.side.after g.view s.op s.access s.got).done
     at is same = subst (λ y. DriverSays x y (m.begun e') v.frame v.done (m.side.after g.view s.op s.access s.got).done) is

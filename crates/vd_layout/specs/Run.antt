@@ -29,12 +29,13 @@ abbrev pub written_by : List Made → List ℕ → List ℕ
 written_by [] ws = ws
 written_by (m ∷ ms) ws = written (written_by ms ws) m.access
 
--- an answer was told by one access of such a run
-pub record IsToldAt {P V A : Type 0} (port : PortModel P) (side : SideModel V) (act : V → Op → Access → ℕ → A) (p : P) (v : V) (answer : A) : Type 0 where
+-- an answer was told by one access after such a run, at a view that meets R
+pub record IsToldAt {P V A : Type 0} (port : PortModel P) (side : SideModel V) (act : V → Op → Access → ℕ → A) (R : V → Type 0) (p : P) (v : V) (answer : A) : Type 0 where
   pub made : List Made
   pub mid : P
   pub view : V
   pub run : IsRun port side made p v mid view
+  pub meets : R view
   pub next : P
   pub op : Op
   pub access : Access
