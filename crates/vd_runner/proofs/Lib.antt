@@ -1,8 +1,7 @@
-pub mod Shown
-pub mod Single
+pub mod Says
+pub mod Carried
+pub mod Lengths
 pub mod Runs
 pub mod Events
 pub mod Lines
 pub mod Midway
-pub mod Outcome
-pub mod Queue

@@ -1,7 +1,5 @@
-pub mod Ring
-pub mod Quiet
+pub mod Lane
 pub mod Journal
 pub mod Bench
 pub mod Report
 pub mod Command
-pub mod Answers

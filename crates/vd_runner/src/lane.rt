@@ -1,107 +1,100 @@
-//! One chain's way over the ring and back.
-ghost use Rattle.std.specs.Prelude.{◌≡◌, ◌+◌, ◌<◌, ◌++◌, ◌∷◌, [], length, vec_len, vec_capacity};
-ghost use Rattle.vd_model.specs.Chains.{IsChain};
-ghost use Rattle.vd_runner.specs.Quiet.{IsQuiet};
-ghost use Rattle.vd_runner.specs.Journal.{given_len, begun_of};
-ghost use Rattle.vd_runner.specs.Ring.{width};
+//! One chain's way over a ring and back, through both ends of any layout.
+ghost use Rattle.std.specs.Prelude.{◌≡◌, ◌<◌, ◌≤◌, ◌∷◌, [], length, ℕ};
+ghost use Rattle.vd_model.specs.Chains.{total};
+ghost use Rattle.vd_ring.specs.declared.frame.Frame.{Frame};
+ghost use Rattle.vd_ring.specs.History.{entry, offers, collects, takes, gives};
+ghost use Rattle.vd_ring.specs.declared.driver.DriverDone.TheVariants.{Offer, Collect};
+ghost use Rattle.vd_ring.specs.declared.driver.DriverView.{DriverView};
+ghost use Rattle.vd_ring.specs.declared.device.DeviceDone.TheVariants.{Give};
+ghost use Rattle.vd_ring.specs.declared.device.DeviceView.{DeviceView};
+ghost use Rattle.vd_layout.specs.Begun.{DriverOp};
+ghost use Rattle.vd_layout.specs.Device.{MayGive};
+ghost use Rattle.vd_layout.specs.Driver.{MayOffer};
+ghost use Rattle.vd_layout.specs.Whole.{IsRingAt};
+ghost use Rattle.vd_runner.specs.Journal.{given_len};
+ghost use Rattle.vd_runner.specs.Lane.{DriverDid, DeviceDid, DeviceTook, IsFree, IsQuiet, CanCarry, HasCarried};
 
-use crate::bench::FirstBench;
-use crate::device::FirstDevice;
-use crate::driver::FirstDriver;
-use arrayvec::ArrayVec;
-use std::alloc::{AllocError, Global};
-use vd_model::{Begun, Chain, Piece, Return};
-use vd_words::PlainWords;
+use vd_layout::{DeviceEnd, DriverEnd, Layout, finish_device, finish_driver};
+use vd_model::Chain;
+use vd_ring::{DeviceAct, DriverAct};
+use vd_words::Port;
 
-/// The length that the device gives for a chain of one piece, in bytes.
+/// Offers the chain.
+pub fn offer<L: Layout, P: Port>(driver: &mut L::Driver, port: &mut P, chain: &Chain)
+    requires idle { L.Driver.driver.begun driver.old ≡ DriverOp.idle }
+    requires may { (v : DriverView) × (w : DeviceView) × L.Driver.driver.stands driver.old v × IsRingAt P.port L.layout port.old v w × MayOffer L.Driver.driver.words v chain.now }
+    ensures idle { L.Driver.driver.begun driver.new ≡ DriverOp.idle }
+    ensures offered { (v : DriverView) (w : DeviceView) → L.Driver.driver.stands driver.old v → IsRingAt P.port L.layout port.old v w → MayOffer L.Driver.driver.words v chain.now → DriverDid P.port L.Driver.driver L.layout port.old port.new v w driver.new (Offer chain.now) }
+{
+    driver.begin_offer(chain);
+    let _ = finish_driver(driver, port);
+}
+
+/// Takes the next chain, which was offered.
+pub fn take<L: Layout, P: Port>(device: &mut L::Device, port: &mut P) -> Chain
+    requires free { IsFree L.Device.device device.old }
+    requires some { (v : DriverView) × (w : DeviceView) × L.Device.device.stands device.old w × IsRingAt P.port L.layout port.old v w × (length (takes w.done) < length (offers v.done)) }
+    ensures free { IsFree L.Device.device device.new }
+    ensures taken { (v : DriverView) (w : DeviceView) → L.Device.device.stands device.old w → IsRingAt P.port L.layout port.old v w → DeviceTook P.port L.Device.device L.layout port.old port.new v w device.new result }
+{
+    device.begin_take();
+    match finish_device(device, port) {
+        DeviceAct::Taken(_, chain) => chain,
+        _ => unreachable!(),
+    }
+}
+
+/// Gives chain number `k` back with a length in bytes.
+pub fn give<L: Layout, P: Port>(device: &mut L::Device, port: &mut P, k: u32, len: u32)
+    requires free { IsFree L.Device.device device.old }
+    requires may { (v : DriverView) × (w : DeviceView) × L.Device.device.stands device.old w × IsRingAt P.port L.layout port.old v w × MayGive w.frame w.done k }
+    ensures free { IsFree L.Device.device device.new }
+    ensures given { (v : DriverView) (w : DeviceView) → L.Device.device.stands device.old w → IsRingAt P.port L.layout port.old v w → DeviceDid P.port L.Device.device L.layout port.old port.new v w device.new (Give (entry k len ∷ [])) }
+{
+    device.begin_give(k, len);
+    let _ = finish_device(device, port);
+}
+
+/// Collects the next used entry, which was given: its chain's number and the length.
+pub fn collect<L: Layout, P: Port>(driver: &mut L::Driver, port: &mut P) -> (u32, u32)
+    requires idle { L.Driver.driver.begun driver.old ≡ DriverOp.idle }
+    requires some { (v : DriverView) × (w : DeviceView) × L.Driver.driver.stands driver.old v × IsRingAt P.port L.layout port.old v w × (length (collects v.done) < length (gives w.done)) }
+    ensures idle { L.Driver.driver.begun driver.new ≡ DriverOp.idle }
+    ensures collected { (v : DriverView) (w : DeviceView) → L.Driver.driver.stands driver.old v → IsRingAt P.port L.layout port.old v w → DriverDid P.port L.Driver.driver L.layout port.old port.new v w driver.new (Collect (entry result.0 result.1 ∷ [])) }
+{
+    driver.begin_collect();
+    match finish_driver(driver, port) {
+        DriverAct::Collected { number, len, .. } => (number, len),
+        _ => unreachable!(),
+    }
+}
+
+/// The length that a device gives for a chain, in bytes: the smaller of its readable and its writable bytes.
 fn length_of(chain: &Chain) -> u32
-    requires { length chain.now ≡ 1 }
+    requires { total chain.now ≤ 4294967295 }
     ensures { result ≡ given_len chain.now }
 {
-    let len = chain.readable().min(chain.writable());
-    prove!(len == 0);
-    len as u32
+    chain.readable().min(chain.writable()) as u32
 }
 
-/// Offers a chain of this piece and takes it: its head, and the piece as the device saw it.
-fn deliver(
-    driver: &mut FirstDriver,
-    device: &FirstDevice,
-    words: &mut PlainWords,
-    piece: Piece,
-) -> (u32, Piece)
-    requires quiet { IsQuiet driver.old device.now words.old }
-    requires few { driver.old.offered + 1 < 4294967296 }
-    ensures value { result ≡ (driver.old.place, piece) }
-    ensures driver { (driver.new.size ≡ driver.old.size) × (driver.new.place ≡ driver.old.place) × (driver.new.offered ≡ driver.old.offered + 1) }
-    ensures wide { length words.new.words ≡ width driver.old.size }
-{
-    driver.offer(words, &piece);
-    match device.take(words) {
-        Some(taken) => taken,
-        None => unreachable!(),
-    }
-}
-
-/// Gives a chain back and collects it: the length as the driver saw it.
-fn give_back(
-    driver: &mut FirstDriver,
-    device: &mut FirstDevice,
-    words: &mut PlainWords,
-    head: u32,
-    len: u32,
-) -> u32
-    requires sizes { device.old.size ≡ driver.old.size }
-    requires places { device.old.place ≡ driver.old.place }
-    requires counts { device.old.taken + 1 ≡ driver.old.offered }
-    requires few { driver.old.offered < 4294967296 }
-    requires wide { length words.old.words ≡ width driver.old.size }
-    ensures value { result ≡ len }
-    ensures quiet { IsQuiet driver.new device.new words.new }
-    ensures count { driver.new.offered ≡ driver.old.offered }
-{
-    device.give(words, head, len);
-    match driver.collect(words) {
-        Some((_, len)) => len,
-        None => unreachable!(),
-    }
-}
-
-/// Offers the chain, takes it, gives it back and collects it, and records what the device began and the guest got back.
-pub fn carry(
-    driver: &mut FirstDriver,
-    device: &mut FirstDevice,
-    words: &mut PlainWords,
+/// Offers the chain, takes it, gives it back and collects it: the chain as the device took it, and the number and the
+/// length as the driver got them back.
+pub fn carry<L: Layout, P: Port>(
+    driver: &mut L::Driver,
+    device: &mut L::Device,
+    port: &mut P,
     chain: &Chain,
-    bench: &mut FirstBench,
-)
-    requires quiet { IsQuiet driver.old device.old words.old }
-    requires single { length chain.now ≡ 1 }
-    requires few { driver.old.offered + 1 < 4294967296 }
-    requires begun { vec_len bench.old.begun < vec_capacity bench.old.begun }
-    requires returned { vec_len bench.old.returned < vec_capacity bench.old.returned }
-    ensures quiet { IsQuiet driver.new device.new words.new }
-    ensures count { driver.new.offered ≡ driver.old.offered + 1 }
-    ensures begun { bench.new.begun.items ≡ bench.old.begun.items ++ begun_of chain.now ∷ [] }
-    ensures returned { bench.new.returned.items ≡ bench.old.returned.items ++ record { number = driver.old.offered; len = given_len chain.now; ack = 0 } ∷ [] }
-    ensures same { bench.new.events ≡ bench.old.events }
-    ensures lens { (vec_len bench.new.begun ≡ vec_len bench.old.begun + 1) × (vec_len bench.new.returned ≡ vec_len bench.old.returned + 1) }
-    ensures room { (vec_capacity bench.new.begun ≡ vec_capacity bench.old.begun) × (vec_capacity bench.new.returned ≡ vec_capacity bench.old.returned) }
+) -> (Chain, u32, u32)
+    requires quiet { (f : Frame) × (n : ℕ) × IsQuiet P.port L.Driver.driver L.Device.device L.layout port.old driver.old device.old f n × CanCarry f n chain.now }
+    ensures taken { result.0 ≡ chain.now }
+    ensures quiet { (f : Frame) (n : ℕ) → IsQuiet P.port L.Driver.driver L.Device.device L.layout port.old driver.old device.old f n → CanCarry f n chain.now → HasCarried P.port L.Driver.driver L.Device.device L.layout port.old port.new driver.new device.new f n result.1 }
+    ensures len { result.2 ≡ given_len chain.now }
 {
-    let number = driver.offered;
-    let first = chain.pieces()[0];
-    let (head, piece) = deliver(driver, device, words, first);
-    let chain = Chain::new(piece);
-    let len = length_of(&chain);
-    bench.begun.push_reserved(Begun {
-        chain,
-        len,
-        bytes: ArrayVec::new(),
-    });
-    let len = give_back(driver, device, words, head, len);
-    bench.returned.push_reserved(Return {
-        number,
-        len,
-        ack: 0,
-    });
+    let number = driver.offered();
+    offer::<L, P>(driver, port, chain);
+    let taken = take::<L, P>(device, port);
+    let len = length_of(&taken);
+    give::<L, P>(device, port, number, len);
+    let (number, len) = collect::<L, P>(driver, port);
+    (taken, number, len)
 }

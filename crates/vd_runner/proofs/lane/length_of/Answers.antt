@@ -1,6 +1,6 @@
-use Rattle.std.proofs.Common.{sym, ◌∙◌}
-use Rattle.vd_runner.proofs.Single.{single_len}
+use Rattle.std.proofs.Common.{arith}
+use Rattle.vd_runner.proofs.Lengths.{readable_total}
 use Rattle.vd_runner.proofs.lane.length_of.Goals as goal
 
-pub prove-unreachable-requires : goal.prove-unreachable-requires
-prove-unreachable-requires c = c.if-prove.true (let e = single_len c.args.chain.now c.requires in cc)
+pub overflow_cast-result : goal.overflow_cast-result
+overflow_cast-result c = omega (arith, readable_total c.args.chain.now, c.requires, c.min.ensures, c.readable.ensures)
