@@ -5,7 +5,7 @@ ghost use Rattle.vd_text.specs.Grammar.{cut, number, address, positive, range, p
 use vd_model::Piece;
 
 /// What stands before and after the first such byte.
-fn cut_at(bytes: &[u8], at: u8) -> Option<(&[u8], &[u8])>
+pub fn cut_at(bytes: &[u8], at: u8) -> Option<(&[u8], &[u8])>
     ensures { option_map (λ p. (p.0.now, p.1.now)) result ≡ cut at bytes.now }
 {
     for i in 0..bytes.len() {
@@ -17,7 +17,7 @@ fn cut_at(bytes: &[u8], at: u8) -> Option<(&[u8], &[u8])>
 }
 
 /// The number that 1 to 20 digits write, where it is at least `low` and at most `most`.
-fn number_in(digits: &[u8], low: u64, most: u64) -> Option<u64>
+pub fn number_in(digits: &[u8], low: u64, most: u64) -> Option<u64>
     ensures { result ≡ number low most digits.now }
 {
     if digits.is_empty() || digits.len() > 20 {
