@@ -1,6 +1,7 @@
 use super::*;
 use std::alloc::{AllocError, Global};
 use std::test::*;
+use vd_model::{Mode, Piece};
 
 const SPLIT: &str = "layout = \"split\"\n";
 
@@ -8,10 +9,13 @@ const SIZE: &str = "size = 4\n";
 
 const REGIONS: &str = "regions = [{ addr = 4096, size = 8192 }]\n";
 
-const QUEUES: &str = "queues = [[\"r4096+10\"]]\n";
+const QUEUES: &str = "queues = [[\"r4096+10 w8192+64\"]]\n";
 
 const VALID: &str =
-    "layout = \"split\"\nsize = 4\nregions = [{ addr = 4096, size = 8192 }]\nqueues = [[\"r4096+10\"]]\n";
+    "layout = \"split\"\nsize = 4\nregions = [{ addr = 4096, size = 8192 }]\nqueues = [[\"r4096+10 w8192+64\"]]\n";
+
+const SEVENTEEN: &str =
+    "size = 32\nqueues = [[\"r4096+1 r4096+1 r4096+1 r4096+1 r4096+1 r4096+1 r4096+1 r4096+1 r4096+1 r4096+1 r4096+1 r4096+1 r4096+1 r4096+1 r4096+1 r4096+1 r4096+1\"]]\n";
 
 /// The file of these four lines.
 fn file(alloc: Global, lines: [&str; 4]) -> Result<String, AllocError> {
@@ -23,83 +27,121 @@ fn file(alloc: Global, lines: [&str; 4]) -> Result<String, AllocError> {
 }
 
 #[test]
-fn reads_a_file_of_the_form(rt: HostRuntime) -> Result<(), Fail> {
+fn reads_what_a_file_orders(rt: HostRuntime) -> Result<(), Fail> {
     let text =
-        "layout = \"split\"\nsize = 1024\nregions = [{ addr = 9223372036854775807, size = 1 }]\nqueues = [[\"r9223372036854775807+1\", \"w09223372036854775807+01\", \"r9223372036854775807+1\"]]";
+        "layout = \"split\"\nsize = 1024\nfeatures = [\"in_order\"]\nwindow = 64\nregions = [{ addr = 9223372036854775807, size = 1 }, { addr = 0, size = 8192 }]\nqueues = [[\"3*r4096+10 w4096+64\", \"w09223372036854775807+01\", \"w09223372036854775807+01\"]]";
     let machine = Machine::read(rt.alloc(), text.as_bytes())?;
-    assert_eq!(rt; machine.size, 1024);
+    assert!(rt; !machine.packed && machine.size == 1024 && machine.window == 64);
     assert!(rt;
-        machine.regions.as_slice()
-            == [Region {
-                addr: 9223372036854775807,
-                size: 1
-            }]
-            .as_slice()
+        !machine.features.indirect && !machine.features.event_idx && machine.features.in_order
     );
+    assert!(rt;
+        machine.start == Mode::Pass && machine.first == 4096 && machine.last == 281474976710655
+    );
+    assert!(rt; machine.switches.is_empty() && machine.control.is_none());
+    let regions = [
+        Region {
+            addr: 9223372036854775807,
+            size: 1,
+        },
+        Region {
+            addr: 0,
+            size: 8192,
+        },
+    ];
+    assert!(rt; machine.regions.as_slice() == regions.as_slice());
     assert_eq!(rt; machine.queues.len(), 1);
     let script = machine.queues.get(0).ok_or("no queue")?;
     assert!(rt; script.commands.is_empty());
-    assert_eq!(rt; script.runs.len(), 3);
-    for (run, write) in script
-        .runs
-        .as_slice()
-        .iter()
-        .zip([false, true, false].as_slice())
-    {
-        assert_eq!(rt; run.count, 1);
-        let pieces = run.chain.pieces();
-        assert_eq!(rt; pieces.len(), 1);
-        assert!(rt;
-            pieces[0].addr == 9223372036854775807 && pieces[0].len == 1 && pieces[0].write == *write
-        );
-    }
+    let runs = script.runs.as_slice();
+    assert_eq!(rt; runs.len(), 3);
+    let last = Piece {
+        addr: 9223372036854775807,
+        len: 1,
+        write: true,
+    };
+    let pieces = [
+        Piece {
+            addr: 4096,
+            len: 10,
+            write: false,
+        },
+        Piece {
+            addr: 4096,
+            len: 64,
+            write: true,
+        },
+    ];
+    assert!(rt; runs[0].count == 3 && runs[0].chain.pieces() == pieces.as_slice());
+    assert!(rt; runs[1].count == 1 && runs[1].chain.pieces() == [last].as_slice());
+    assert!(rt; runs[2].count == 1 && runs[2].chain.pieces() == [last].as_slice());
     Ok(())
 }
 
 #[test]
-fn refuses_what_is_not_of_the_form(rt: HostRuntime) -> Result<(), Fail> {
+fn has_its_defaults(rt: HostRuntime) -> Result<(), Fail> {
+    let machine = Machine::read(rt.alloc(), VALID.as_bytes())?;
+    assert!(rt; machine.window == 1 && !machine.features.in_order);
+    Ok(())
+}
+
+#[test]
+fn names_the_first_broken_rule(rt: HostRuntime) -> Result<(), Fail> {
     let alloc = rt.alloc();
-    for (lines, fits) in [
-        ([SPLIT, SIZE, REGIONS, QUEUES], true),
-        ([QUEUES, REGIONS, SIZE, SPLIT], true),
-        ([SPLIT, SIZE, REGIONS, "queues = [[]]"], true),
-        ([SPLIT, "size = 2\n", REGIONS, QUEUES], true),
-        ([SPLIT, SIZE, REGIONS, "queues = [[\"r12287+1\"]]"], true),
+    for (lines, want) in [
+        ([SPLIT, SIZE, REGIONS, QUEUES], None),
+        ([QUEUES, REGIONS, SIZE, SPLIT], None),
+        ([SPLIT, SIZE, REGIONS, "queues = [[]]"], None),
+        ([SPLIT, SIZE, "regions = []\n", "queues = [[]]"], None),
+        ([SPLIT, "size = 2\n", REGIONS, QUEUES], None),
+        ([SPLIT, SIZE, REGIONS, "queues = [[\"r12287+1\"]]"], None),
+        (
+            [SPLIT, SIZE, REGIONS, "queues = [[\"200000*r4096+1\"]]"],
+            None,
+        ),
         (
             [
                 SPLIT,
                 SIZE,
-                "regions = [{ size = 9223372036854775807, addr = 1 }]\n",
-                "queues = [[\"w1+4294967295\"]]",
+                REGIONS,
+                "queues = [[\"199999*r4096+1\", \"r4096+1\"]]",
             ],
-            true,
+            None,
         ),
-        (["layout = \n", "", "", ""], false),
-        (["layout = \"packed\"\n", SIZE, REGIONS, QUEUES], false),
-        (["layout = \"round\"\n", SIZE, REGIONS, QUEUES], false),
-        (["", SIZE, REGIONS, QUEUES], false),
-        ([SPLIT, "", REGIONS, QUEUES], false),
-        ([SPLIT, SIZE, "", QUEUES], false),
-        ([SPLIT, SIZE, REGIONS, ""], false),
+        (["layout = \n", "", "", ""], Some(MachineFault::M1)),
+        ([SPLIT, SIZE, SIZE, ""], Some(MachineFault::M1)),
         (
-            ["layout = \"split\"\ncolour = 1\n", SIZE, REGIONS, QUEUES],
-            false,
+            [
+                SPLIT,
+                SIZE,
+                "regions = [{ addr = 0, size = 9223372036854775808 }]\n",
+                QUEUES,
+            ],
+            Some(MachineFault::M1),
         ),
         (
-            ["layout = \"split\"\nwindow = 1\n", SIZE, REGIONS, QUEUES],
-            false,
+            [SPLIT, "size = 3\ncolour = 1\n", REGIONS, ""],
+            Some(MachineFault::M2),
         ),
-        (["layout = 1\n", SIZE, REGIONS, QUEUES], false),
-        ([SPLIT, "size = \"4\"\n", REGIONS, QUEUES], false),
-        ([SPLIT, "size = 1\n", REGIONS, QUEUES], false),
-        ([SPLIT, "size = 3\n", REGIONS, QUEUES], false),
-        ([SPLIT, "size = 2048\n", REGIONS, QUEUES], false),
-        ([SPLIT, "size = -4\n", REGIONS, QUEUES], false),
-        ([SPLIT, "size = 4\nsize = 4\n", REGIONS, QUEUES], false),
-        ([SPLIT, SIZE, "regions = []\n", "queues = [[]]"], false),
         (
-            [SPLIT, SIZE, "regions = [{ addr = 4096 }]\n", QUEUES],
-            false,
+            [SPLIT, "size = 4\nstart = \"still\"\n", REGIONS, QUEUES],
+            Some(MachineFault::M2),
+        ),
+        (
+            [SPLIT, "size = 4\niova_first = 1\n", REGIONS, QUEUES],
+            Some(MachineFault::M2),
+        ),
+        (
+            [SPLIT, "size = 4\niova_last = 8191\n", REGIONS, QUEUES],
+            Some(MachineFault::M2),
+        ),
+        (
+            [SPLIT, "size = 4\nswitches = []\n", REGIONS, QUEUES],
+            Some(MachineFault::M2),
+        ),
+        (
+            [SPLIT, "size = 4\ncommands = [\"0101\"]\n", REGIONS, QUEUES],
+            Some(MachineFault::M2),
         ),
         (
             [
@@ -108,52 +150,31 @@ fn refuses_what_is_not_of_the_form(rt: HostRuntime) -> Result<(), Fail> {
                 "regions = [{ addr = 4096, size = 8192, colour = 1 }]\n",
                 QUEUES,
             ],
-            false,
+            Some(MachineFault::M2),
+        ),
+        ([SPLIT, "", REGIONS, QUEUES], Some(MachineFault::M3)),
+        (["", SIZE, REGIONS, QUEUES], Some(MachineFault::M3)),
+        ([SPLIT, SIZE, "", QUEUES], Some(MachineFault::M3)),
+        ([SPLIT, SIZE, REGIONS, ""], Some(MachineFault::M3)),
+        (
+            [SPLIT, SIZE, "regions = [1, { addr = 4096 }]\n", QUEUES],
+            Some(MachineFault::M3),
         ),
         (
-            [
-                SPLIT,
-                SIZE,
-                "regions = [{ addr = 4096, size = 8192 }, { addr = 20480, size = 1 }]\n",
-                QUEUES,
-            ],
-            false,
+            [SPLIT, "size = \"4\"\n", REGIONS, QUEUES],
+            Some(MachineFault::M4),
         ),
         (
-            [
-                SPLIT,
-                SIZE,
-                "regions = [{ addr = 4096, size = 0 }]\n",
-                "queues = [[]]",
-            ],
-            false,
+            ["layout = 1\n", SIZE, REGIONS, QUEUES],
+            Some(MachineFault::M4),
         ),
         (
-            [
-                SPLIT,
-                SIZE,
-                "regions = [{ addr = -4096, size = 8192 }]\n",
-                QUEUES,
-            ],
-            false,
+            [SPLIT, "size = 4\nfeatures = [1]\n", REGIONS, QUEUES],
+            Some(MachineFault::M4),
         ),
         (
-            [
-                SPLIT,
-                SIZE,
-                "regions = [{ addr = 2, size = 9223372036854775807 }]\n",
-                QUEUES,
-            ],
-            false,
-        ),
-        (
-            [
-                SPLIT,
-                SIZE,
-                "regions = [{ addr = 0, size = 9223372036854775808 }]\n",
-                QUEUES,
-            ],
-            false,
+            [SPLIT, "size = 4\nwindow = \"1\"\n", REGIONS, QUEUES],
+            Some(MachineFault::M4),
         ),
         (
             [
@@ -162,70 +183,279 @@ fn refuses_what_is_not_of_the_form(rt: HostRuntime) -> Result<(), Fail> {
                 "regions = { addr = 4096, size = 8192 }\n",
                 QUEUES,
             ],
-            false,
-        ),
-        ([SPLIT, SIZE, REGIONS, "queues = []"], false),
-        ([SPLIT, SIZE, REGIONS, "queues = [\"r4096+10\"]"], false),
-        ([SPLIT, SIZE, REGIONS, "queues = [[1]]"], false),
-        (
-            [SPLIT, SIZE, REGIONS, "queues = [[\"r4096+10\"], []]"],
-            false,
-        ),
-        (
-            [SPLIT, SIZE, REGIONS, "queues = [[\"r4096+10 w8192+64\"]]"],
-            false,
-        ),
-        ([SPLIT, SIZE, REGIONS, "queues = [[\"1*r4096+10\"]]"], false),
-        (
-            [SPLIT, SIZE, REGIONS, "queues = [[\"r4096+10\", \"\"]]"],
-            false,
-        ),
-        ([SPLIT, SIZE, REGIONS, "queues = [[\"r4096+0\"]]"], false),
-        ([SPLIT, SIZE, REGIONS, "queues = [[\"r12287+2\"]]"], false),
-        ([SPLIT, SIZE, REGIONS, "queues = [[\"r4095+2\"]]"], false),
-        (
-            [
-                SPLIT,
-                SIZE,
-                REGIONS,
-                "queues = [[\"r18446744073709555712+10\"]]",
-            ],
-            false,
+            Some(MachineFault::M4),
         ),
         (
             [
                 SPLIT,
                 SIZE,
-                REGIONS,
-                "queues = [[\"r000000000000000004096+10\"]]",
+                "regions = [{ addr = 4096, size = 1.5 }]\n",
+                QUEUES,
             ],
-            false,
+            Some(MachineFault::M4),
+        ),
+        (
+            [SPLIT, SIZE, REGIONS, "queues = [\"r4096+10\"]"],
+            Some(MachineFault::M4),
+        ),
+        (
+            [SPLIT, SIZE, REGIONS, "queues = [[1]]"],
+            Some(MachineFault::M4),
+        ),
+        (
+            ["layout = \"round\"\n", "size = 3\n", REGIONS, QUEUES],
+            Some(MachineFault::M5),
+        ),
+        (
+            ["layout = \"packed\"\n", SIZE, REGIONS, QUEUES],
+            Some(MachineFault::M5),
+        ),
+        (
+            [SPLIT, "size = 3\nfeatures = [\"fast\"]\n", REGIONS, QUEUES],
+            Some(MachineFault::M6),
+        ),
+        (
+            [SPLIT, "size = 1\n", REGIONS, QUEUES],
+            Some(MachineFault::M6),
+        ),
+        (
+            [SPLIT, "size = 2048\n", REGIONS, QUEUES],
+            Some(MachineFault::M6),
+        ),
+        (
+            [SPLIT, "size = -4\n", REGIONS, QUEUES],
+            Some(MachineFault::M6),
+        ),
+        (
+            [
+                SPLIT,
+                "size = 4\nfeatures = [\"fast\"]\nwindow = 0\n",
+                REGIONS,
+                QUEUES,
+            ],
+            Some(MachineFault::M7),
+        ),
+        (
+            [
+                SPLIT,
+                "size = 4\nfeatures = [\"in_order\", \"in_order\"]\n",
+                REGIONS,
+                QUEUES,
+            ],
+            Some(MachineFault::M7),
+        ),
+        (
+            [
+                SPLIT,
+                "size = 4\nfeatures = [\"indirect\"]\n",
+                REGIONS,
+                QUEUES,
+            ],
+            Some(MachineFault::M7),
+        ),
+        (
+            [
+                SPLIT,
+                "size = 4\nfeatures = [\"in_order\", \"event_idx\"]\n",
+                REGIONS,
+                QUEUES,
+            ],
+            Some(MachineFault::M7),
+        ),
+        (
+            [
+                SPLIT,
+                "size = 4\nwindow = 0\n",
+                "regions = [{ addr = 4096, size = 0 }]\n",
+                QUEUES,
+            ],
+            Some(MachineFault::M8),
+        ),
+        (
+            [SPLIT, "size = 4\nwindow = 65\n", REGIONS, QUEUES],
+            Some(MachineFault::M8),
+        ),
+        (
+            [
+                SPLIT,
+                SIZE,
+                "regions = [{ addr = 4096, size = 0 }]\n",
+                "queues = [[\"\"]]",
+            ],
+            Some(MachineFault::M9),
+        ),
+        (
+            [
+                SPLIT,
+                SIZE,
+                "regions = [{ addr = 4096, size = 8192 }, { addr = 4096, size = 8192 }]\n",
+                QUEUES,
+            ],
+            Some(MachineFault::M9),
+        ),
+        (
+            [
+                SPLIT,
+                SIZE,
+                "regions = [{ addr = 4096, size = 8192 }, { addr = 0, size = 4097 }]\n",
+                QUEUES,
+            ],
+            Some(MachineFault::M9),
+        ),
+        (
+            [
+                SPLIT,
+                SIZE,
+                "regions = [{ addr = -4096, size = 8192 }]\n",
+                QUEUES,
+            ],
+            Some(MachineFault::M9),
+        ),
+        (
+            [
+                SPLIT,
+                SIZE,
+                "regions = [{ addr = 2, size = 9223372036854775807 }]\n",
+                QUEUES,
+            ],
+            Some(MachineFault::M9),
+        ),
+        (
+            [SPLIT, SIZE, REGIONS, "queues = [[\"w8192+64 r4096+10\"]]"],
+            Some(MachineFault::M10),
+        ),
+        (
+            [SPLIT, SIZE, REGIONS, "queues = [[\"r4096+0\"]]"],
+            Some(MachineFault::M10),
+        ),
+        (
+            [SPLIT, SIZE, REGIONS, "queues = [[\"\"]]"],
+            Some(MachineFault::M10),
+        ),
+        (
+            [
+                SPLIT,
+                SIZE,
+                REGIONS,
+                "queues = [[\"r4096+4294967295 r4096+1\"], [\"2*\"]]",
+            ],
+            Some(MachineFault::M10),
+        ),
+        (
+            [
+                SPLIT,
+                SIZE,
+                REGIONS,
+                "queues = [[\"r4096+1 r4096+1 r4096+1 r4096+1 r4096+1\"]]",
+            ],
+            Some(MachineFault::M11),
+        ),
+        (
+            [
+                SPLIT,
+                SIZE,
+                REGIONS,
+                "queues = [[\"r1+1\", \"r4096+4294967295 r4096+1\"]]",
+            ],
+            Some(MachineFault::M11),
+        ),
+        ([SPLIT, SEVENTEEN, REGIONS, ""], Some(MachineFault::M11)),
+        (
+            [SPLIT, SIZE, REGIONS, "queues = [[\"r12287+2\"]]"],
+            Some(MachineFault::M12),
+        ),
+        (
+            [
+                SPLIT,
+                SIZE,
+                "regions = [{ addr = 4096, size = 8192 }, { addr = 12288, size = 8192 }]\n",
+                "queues = [[\"r12287+2\"]]",
+            ],
+            Some(MachineFault::M12),
+        ),
+        (
+            [
+                SPLIT,
+                SIZE,
+                "regions = []\n",
+                "queues = [[\"200001*r4096+10\"]]",
+            ],
+            Some(MachineFault::M12),
+        ),
+        (
+            [SPLIT, SIZE, REGIONS, "queues = []"],
+            Some(MachineFault::M13),
+        ),
+        (
+            [SPLIT, SIZE, REGIONS, "queues = [[], []]"],
+            Some(MachineFault::M13),
+        ),
+        (
+            [SPLIT, SIZE, REGIONS, "queues = [[\"200001*r4096+1\"]]"],
+            Some(MachineFault::M13),
+        ),
+        (
+            [
+                SPLIT,
+                SIZE,
+                REGIONS,
+                "queues = [[\"4294967295*r4096+1\", \"4294967295*r4096+1\"]]",
+            ],
+            Some(MachineFault::M13),
         ),
     ] {
         let text = file(alloc, lines)?;
         let refusal = Machine::read(alloc, text.as_bytes()).err();
-        let want = if fits {
-            None
-        } else {
-            Some(ReadRefusal::Fault(MachineFault::M0))
-        };
-        assert!(rt; refusal == want, "at {text}");
+        assert!(rt;
+            refusal == want.map(|rule| ReadRefusal::Fault(rule)),
+            "at {text}"
+        );
     }
-    assert!(rt; Machine::read(alloc, b"\xff").err() == Some(ReadRefusal::Fault(MachineFault::M0)));
+    assert!(rt; Machine::read(alloc, b"\xff").err() == Some(ReadRefusal::Fault(MachineFault::M1)));
+    Ok(())
+}
+
+/// A file of so many regions of one byte, with a byte between each two.
+fn regions(alloc: Global, count: u64) -> Result<String, AllocError> {
+    let mut text = String::from_str(
+        alloc,
+        "layout = \"split\"\nsize = 4\nqueues = [[]]\nregions = [",
+    )?;
+    for k in 0..count {
+        let region = format!(in alloc; "{{ addr = {}, size = 1 }}, ", k * 2)?;
+        text.push_str(region.as_str())?;
+    }
+    text.push_str("]\n")?;
+    Ok(text)
+}
+
+#[test]
+fn takes_64_regions_and_no_more(rt: HostRuntime) -> Result<(), Fail> {
+    let alloc = rt.alloc();
+    let most = regions(alloc, 64)?;
+    assert_eq!(rt; Machine::read(alloc, most.as_bytes())?.regions.len(), 64);
+    let more = regions(alloc, 65)?;
+    assert!(rt;
+        Machine::read(alloc, more.as_bytes()).err() == Some(ReadRefusal::Fault(MachineFault::M9))
+    );
     Ok(())
 }
 
 #[test]
-fn reads_a_file_cut_short_only_behind_its_last_bracket(rt: HostRuntime) -> Result<(), Fail> {
+fn reads_a_file_cut_anywhere_or_names_a_rule(rt: HostRuntime) -> Result<(), Fail> {
     let bytes = VALID.as_bytes();
+    // within a line it is no document, behind a line what is missing is named
     for end in 0..bytes.len() {
         let refusal = Machine::read(rt.alloc(), &bytes[..end]).err();
-        let want = if end + 1 < bytes.len() {
-            Some(ReadRefusal::Fault(MachineFault::M0))
-        } else {
-            None
+        let rule = match end {
+            0 | 16 | 17 | 25 | 26 | 66 | 67 => Some(MachineFault::M3),
+            99 => None,
+            _ => Some(MachineFault::M1),
         };
-        assert!(rt; refusal == want, "cut at {end}");
+        assert!(rt;
+            refusal == rule.map(|rule| ReadRefusal::Fault(rule)),
+            "cut at {end}"
+        );
     }
     Ok(())
 }

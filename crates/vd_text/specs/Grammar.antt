@@ -96,3 +96,11 @@ if_within most r = if is_within most r.chain then Some r else None
 -- what a chain text means, where its chain is within these bounds
 unfoldable pub run_within : ℕ → List ℕ → Option Run
 run_within most text = option_and_then (if_within most) (run text)
+
+-- a byte at least
+abbrev pub has_bytes : Piece → Bool
+has_bytes p = nat_le 1 p.len
+
+-- one chain or more of pieces with bytes, within these bounds
+abbrev pub is_lawful : ℕ → Run → Bool
+is_lawful most r = nat_le 1 r.count && (list_all has_bytes r.chain && is_within most r.chain)

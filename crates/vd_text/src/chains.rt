@@ -1,9 +1,9 @@
 //! Reading a chain text: an optional count and `*`, and then pieces with one space between.
-ghost use Rattle.std.specs.Prelude.{◌≡◌, ◌≤◌, ◌<◌, length, option_map, option_and_then, is_some, IfSome, false};
+ghost use Rattle.std.specs.Prelude.{◌≡◌, ◌≤◌, ◌<◌, length, option_map, option_and_then, is_some, IfSome, true, false};
 ghost use Rattle.std.specs.Option.{option_map_or};
-ghost use Rattle.std.specs.List.{All};
+ghost use Rattle.std.specs.List.{All, list_all};
 ghost use Rattle.vd_model.specs.Chains.{total, IsPiece};
-ghost use Rattle.vd_text.specs.Grammar.{pieces, is_readable_first, chain, count, run, is_within, run_within};
+ghost use Rattle.vd_text.specs.Grammar.{pieces, is_readable_first, chain, count, run, is_within, run_within, has_bytes, is_lawful};
 ghost use Rattle.vd_text.specs.Bounds.{if_at_most};
 
 use crate::reading::{cut_at, number_in, read_piece};
@@ -12,7 +12,8 @@ use vd_model::{Chain, Piece, Run};
 
 /// The count, and what stands after its `*`.
 fn count_in(text: &[u8]) -> Option<(u32, &[u8])>
-    ensures { option_map (λ p. (p.0, p.1.now)) result ≡ count text.now }
+    ensures value { option_map (λ p. (p.0, p.1.now)) result ≡ count text.now }
+    ensures some { IfSome result (λ p. 1 ≤ p.0) }
 {
     match cut_at(text, b'*') {
         None => Some((1, text)),
@@ -63,6 +64,7 @@ fn pieces_in(text: &[u8]) -> Option<ArrayVec<Piece, 16>>
     ensures value { option_map (λ v. v.items) result ≡ option_and_then (if_at_most 16) (pieces text.now) }
     ensures some { IfSome result (λ v. 0 < length v.items) }
     ensures fits { IfSome result (λ v. All IsPiece v.items) }
+    ensures bytes { IfSome result (λ v. list_all has_bytes v.items ≡ true) }
 {
     let mut found = ArrayVec::new();
     let mut rest = text;
@@ -121,7 +123,8 @@ fn is_within(most: u32, pieces: &[Piece]) -> bool
 /// length of at most 4,294,967,295 bytes.
 #[tactic(auto, unfolding(crate::specs::Grammar::run, crate::specs::Grammar::run_within))]
 pub fn read_run(text: &[u8], most: u32) -> Option<Run>
-    ensures { result ≡ run_within most text.now }
+    ensures value { result ≡ run_within most text.now }
+    ensures lawful { IfSome result (λ r. is_lawful most r ≡ true) }
 {
     let (count, rest) = count_in(text)?;
     let pieces = pieces_in(rest)?;

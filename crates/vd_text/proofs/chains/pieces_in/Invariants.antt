@@ -1,7 +1,7 @@
-use Rattle.std.proofs.Common.{◌≡◌, length}
-use Rattle.std.specs.List.{All}
+use Rattle.std.proofs.Common.{◌≡◌, length, true}
+use Rattle.std.specs.List.{All, list_all}
 use Rattle.vd_model.specs.Chains.{IsPiece}
-use Rattle.vd_text.specs.Grammar.{pieces}
+use Rattle.vd_text.specs.Grammar.{pieces, has_bytes}
 use Rattle.vd_text.proofs.Cutting.{after}
 use Rattle.vd_text.proofs.chains.pieces_in.Given as goal
 
@@ -11,5 +11,6 @@ decreases-loop-word l = length l.rest
 abbrev pub invariant-loop-word : goal.invariant-loop-word
 invariant-loop-word l = record {
   value : after l.found.items (pieces l.rest) ≡ pieces l.text;
+  bytes : list_all has_bytes l.found.items ≡ true;
   fits : All IsPiece l.found.items;
 }
