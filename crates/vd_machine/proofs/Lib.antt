@@ -1,4 +1,5 @@
 pub mod Collect
 pub mod Document
+pub mod Facts
 pub mod Lists
 pub mod Passes
