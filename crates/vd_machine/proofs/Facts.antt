@@ -1,5 +1,5 @@
 -- What the facts that a machine keeps say of its size, its window, its regions and its queues.
-use Rattle.std.proofs.Common.{◌≡◌, ℕ, ◌+◌, ◌^◌, ◌<◌, ◌≤◌, ◌==◌, Bool, true, false, ◌&&◌, ◌||◌, cond, nat_le, List, [], ◌∷◌, length, get_or, refl, sym, ap, ◌∙◌, arith, inl, inr, lit≤}
+use Rattle.std.proofs.Common.{◌≡◌, ℕ, ◌+◌, ◌^◌, ◌<◌, ◌≤◌, ◌==◌, Bool, true, false, ◌&&◌, ◌||◌, cond, nat_le, List, [], ◌∷◌, length, get_or, sym, arith, inl, inr, lit≤}
 use Rattle.std.specs.List.{list_all, sum_by}
 use Rattle.std.proofs.lemmas.Bool.{and_parts, leb-true, eqb-true, false≢true, cases_Bool}
 use Rattle.std.proofs.lemmas.Bool.Decides.{nat_tests}
@@ -11,7 +11,7 @@ use Rattle.vd_model.specs.declared.record.Script.{Script}
 use Rattle.vd_text.specs.Grammar.{has_bytes, is_lawful, is_within}
 use Rattle.vd_text.proofs.Order.{all_at}
 use Rattle.vd_machine.specs.Rings.{is_power, is_lawful_size, is_window}
-use Rattle.vd_machine.specs.Regions.{is_region, are_apart, all_apart, are_regions}
+use Rattle.vd_machine.specs.Regions.{is_region, all_apart, are_regions}
 use Rattle.vd_machine.specs.Queues.{most_pieces, is_script, are_scripts, holds, lies_in, run_lies_in, script_lies_in, all_lie, chains_of, is_short, few}
 use Rattle.vd_machine.specs.declared.regions.Region.{Region}
 

@@ -1,5 +1,5 @@
 -- The queues and their chains.
-use Rattle.std.specs.Prelude.{ℕ, ◌+◌, Bool, true, false, ◌&&◌, ◌==◌, nat_le, if◌then◌else◌, List, [], ◌∷◌, length, map, codes, Option, option_and_then, option_map, is_some}
+use Rattle.std.specs.Prelude.{ℕ, ◌+◌, Bool, false, ◌&&◌, ◌==◌, nat_le, if◌then◌else◌, List, [], length, map, codes, Option, option_and_then, option_map, is_some}
 use Rattle.std.specs.List.{list_all, list_any, sum_by}
 use Rattle.std.specs.Option.{option_map_or}
 use Rattle.toml.specs.Data.{Data, Members, as_str}

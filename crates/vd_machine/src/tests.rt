@@ -85,9 +85,14 @@ fn has_its_defaults(rt: HostRuntime) -> Result<(), Fail> {
     Ok(())
 }
 
+/// What reading the file of these lines is refused with.
+fn refused(alloc: Global, lines: [&str; 4]) -> Result<Option<ReadRefusal>, AllocError> {
+    let text = file(alloc, lines)?;
+    Ok(Machine::read(alloc, text.as_bytes()).err())
+}
+
 #[test]
-fn names_the_first_broken_rule(rt: HostRuntime) -> Result<(), Fail> {
-    let alloc = rt.alloc();
+fn tells_the_document_its_keys_and_its_types(rt: HostRuntime) -> Result<(), Fail> {
     for (lines, want) in [
         ([SPLIT, SIZE, REGIONS, QUEUES], None),
         ([QUEUES, REGIONS, SIZE, SPLIT], None),
@@ -210,22 +215,29 @@ fn names_the_first_broken_rule(rt: HostRuntime) -> Result<(), Fail> {
             ["layout = \"packed\"\n", SIZE, REGIONS, QUEUES],
             Some(MachineFault::M5),
         ),
+    ] {
+        let refusal = refused(rt.alloc(), lines)?;
+        assert!(rt;
+            refusal == want.map(|rule| ReadRefusal::Fault(rule)),
+            "at {lines:?}"
+        );
+    }
+    assert!(rt;
+        Machine::read(rt.alloc(), b"\xff").err() == Some(ReadRefusal::Fault(MachineFault::M1))
+    );
+    Ok(())
+}
+
+#[test]
+fn names_the_first_broken_rule(rt: HostRuntime) -> Result<(), Fail> {
+    for (lines, rule) in [
         (
             [SPLIT, "size = 3\nfeatures = [\"fast\"]\n", REGIONS, QUEUES],
-            Some(MachineFault::M6),
+            MachineFault::M6,
         ),
-        (
-            [SPLIT, "size = 1\n", REGIONS, QUEUES],
-            Some(MachineFault::M6),
-        ),
-        (
-            [SPLIT, "size = 2048\n", REGIONS, QUEUES],
-            Some(MachineFault::M6),
-        ),
-        (
-            [SPLIT, "size = -4\n", REGIONS, QUEUES],
-            Some(MachineFault::M6),
-        ),
+        ([SPLIT, "size = 1\n", REGIONS, QUEUES], MachineFault::M6),
+        ([SPLIT, "size = 2048\n", REGIONS, QUEUES], MachineFault::M6),
+        ([SPLIT, "size = -4\n", REGIONS, QUEUES], MachineFault::M6),
         (
             [
                 SPLIT,
@@ -233,7 +245,7 @@ fn names_the_first_broken_rule(rt: HostRuntime) -> Result<(), Fail> {
                 REGIONS,
                 QUEUES,
             ],
-            Some(MachineFault::M7),
+            MachineFault::M7,
         ),
         (
             [
@@ -242,7 +254,7 @@ fn names_the_first_broken_rule(rt: HostRuntime) -> Result<(), Fail> {
                 REGIONS,
                 QUEUES,
             ],
-            Some(MachineFault::M7),
+            MachineFault::M7,
         ),
         (
             [
@@ -251,7 +263,7 @@ fn names_the_first_broken_rule(rt: HostRuntime) -> Result<(), Fail> {
                 REGIONS,
                 QUEUES,
             ],
-            Some(MachineFault::M7),
+            MachineFault::M7,
         ),
         (
             [
@@ -260,7 +272,7 @@ fn names_the_first_broken_rule(rt: HostRuntime) -> Result<(), Fail> {
                 REGIONS,
                 QUEUES,
             ],
-            Some(MachineFault::M7),
+            MachineFault::M7,
         ),
         (
             [
@@ -269,11 +281,11 @@ fn names_the_first_broken_rule(rt: HostRuntime) -> Result<(), Fail> {
                 "regions = [{ addr = 4096, size = 0 }]\n",
                 QUEUES,
             ],
-            Some(MachineFault::M8),
+            MachineFault::M8,
         ),
         (
             [SPLIT, "size = 4\nwindow = 65\n", REGIONS, QUEUES],
-            Some(MachineFault::M8),
+            MachineFault::M8,
         ),
         (
             [
@@ -282,7 +294,7 @@ fn names_the_first_broken_rule(rt: HostRuntime) -> Result<(), Fail> {
                 "regions = [{ addr = 4096, size = 0 }]\n",
                 "queues = [[\"\"]]",
             ],
-            Some(MachineFault::M9),
+            MachineFault::M9,
         ),
         (
             [
@@ -291,7 +303,7 @@ fn names_the_first_broken_rule(rt: HostRuntime) -> Result<(), Fail> {
                 "regions = [{ addr = 4096, size = 8192 }, { addr = 4096, size = 8192 }]\n",
                 QUEUES,
             ],
-            Some(MachineFault::M9),
+            MachineFault::M9,
         ),
         (
             [
@@ -300,7 +312,7 @@ fn names_the_first_broken_rule(rt: HostRuntime) -> Result<(), Fail> {
                 "regions = [{ addr = 4096, size = 8192 }, { addr = 0, size = 4097 }]\n",
                 QUEUES,
             ],
-            Some(MachineFault::M9),
+            MachineFault::M9,
         ),
         (
             [
@@ -309,7 +321,7 @@ fn names_the_first_broken_rule(rt: HostRuntime) -> Result<(), Fail> {
                 "regions = [{ addr = -4096, size = 8192 }]\n",
                 QUEUES,
             ],
-            Some(MachineFault::M9),
+            MachineFault::M9,
         ),
         (
             [
@@ -318,19 +330,19 @@ fn names_the_first_broken_rule(rt: HostRuntime) -> Result<(), Fail> {
                 "regions = [{ addr = 2, size = 9223372036854775807 }]\n",
                 QUEUES,
             ],
-            Some(MachineFault::M9),
+            MachineFault::M9,
         ),
         (
             [SPLIT, SIZE, REGIONS, "queues = [[\"w8192+64 r4096+10\"]]"],
-            Some(MachineFault::M10),
+            MachineFault::M10,
         ),
         (
             [SPLIT, SIZE, REGIONS, "queues = [[\"r4096+0\"]]"],
-            Some(MachineFault::M10),
+            MachineFault::M10,
         ),
         (
             [SPLIT, SIZE, REGIONS, "queues = [[\"\"]]"],
-            Some(MachineFault::M10),
+            MachineFault::M10,
         ),
         (
             [
@@ -339,7 +351,7 @@ fn names_the_first_broken_rule(rt: HostRuntime) -> Result<(), Fail> {
                 REGIONS,
                 "queues = [[\"r4096+4294967295 r4096+1\"], [\"2*\"]]",
             ],
-            Some(MachineFault::M10),
+            MachineFault::M10,
         ),
         (
             [
@@ -348,7 +360,7 @@ fn names_the_first_broken_rule(rt: HostRuntime) -> Result<(), Fail> {
                 REGIONS,
                 "queues = [[\"r4096+1 r4096+1 r4096+1 r4096+1 r4096+1\"]]",
             ],
-            Some(MachineFault::M11),
+            MachineFault::M11,
         ),
         (
             [
@@ -357,12 +369,12 @@ fn names_the_first_broken_rule(rt: HostRuntime) -> Result<(), Fail> {
                 REGIONS,
                 "queues = [[\"r1+1\", \"r4096+4294967295 r4096+1\"]]",
             ],
-            Some(MachineFault::M11),
+            MachineFault::M11,
         ),
-        ([SPLIT, SEVENTEEN, REGIONS, ""], Some(MachineFault::M11)),
+        ([SPLIT, SEVENTEEN, REGIONS, ""], MachineFault::M11),
         (
             [SPLIT, SIZE, REGIONS, "queues = [[\"r12287+2\"]]"],
-            Some(MachineFault::M12),
+            MachineFault::M12,
         ),
         (
             [
@@ -371,7 +383,7 @@ fn names_the_first_broken_rule(rt: HostRuntime) -> Result<(), Fail> {
                 "regions = [{ addr = 4096, size = 8192 }, { addr = 12288, size = 8192 }]\n",
                 "queues = [[\"r12287+2\"]]",
             ],
-            Some(MachineFault::M12),
+            MachineFault::M12,
         ),
         (
             [
@@ -380,19 +392,16 @@ fn names_the_first_broken_rule(rt: HostRuntime) -> Result<(), Fail> {
                 "regions = []\n",
                 "queues = [[\"200001*r4096+10\"]]",
             ],
-            Some(MachineFault::M12),
+            MachineFault::M12,
         ),
-        (
-            [SPLIT, SIZE, REGIONS, "queues = []"],
-            Some(MachineFault::M13),
-        ),
+        ([SPLIT, SIZE, REGIONS, "queues = []"], MachineFault::M13),
         (
             [SPLIT, SIZE, REGIONS, "queues = [[], []]"],
-            Some(MachineFault::M13),
+            MachineFault::M13,
         ),
         (
             [SPLIT, SIZE, REGIONS, "queues = [[\"200001*r4096+1\"]]"],
-            Some(MachineFault::M13),
+            MachineFault::M13,
         ),
         (
             [
@@ -401,28 +410,23 @@ fn names_the_first_broken_rule(rt: HostRuntime) -> Result<(), Fail> {
                 REGIONS,
                 "queues = [[\"4294967295*r4096+1\", \"4294967295*r4096+1\"]]",
             ],
-            Some(MachineFault::M13),
+            MachineFault::M13,
         ),
     ] {
-        let text = file(alloc, lines)?;
-        let refusal = Machine::read(alloc, text.as_bytes()).err();
-        assert!(rt;
-            refusal == want.map(|rule| ReadRefusal::Fault(rule)),
-            "at {text}"
-        );
+        let refusal = refused(rt.alloc(), lines)?;
+        assert!(rt; refusal == Some(ReadRefusal::Fault(rule)), "at {lines:?}");
     }
-    assert!(rt; Machine::read(alloc, b"\xff").err() == Some(ReadRefusal::Fault(MachineFault::M1)));
     Ok(())
 }
 
 /// A file of so many regions of one byte, with a byte between each two.
-fn regions(alloc: Global, count: u64) -> Result<String, AllocError> {
+fn regions(alloc: Global, count: u32) -> Result<String, AllocError> {
     let mut text = String::from_str(
         alloc,
         "layout = \"split\"\nsize = 4\nqueues = [[]]\nregions = [",
     )?;
     for k in 0..count {
-        let region = format!(in alloc; "{{ addr = {}, size = 1 }}, ", k * 2)?;
+        let region = format!(in alloc; "{{ addr = {}, size = 1 }}, ", u64::from(k) * 2)?;
         text.push_str(region.as_str())?;
     }
     text.push_str("]\n")?;
