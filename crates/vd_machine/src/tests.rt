@@ -3,28 +3,8 @@ use std::alloc::{AllocError, Global};
 use std::test::*;
 use vd_model::{Mode, Piece};
 
-const SPLIT: &str = "layout = \"split\"\n";
-
-const SIZE: &str = "size = 4\n";
-
-const REGIONS: &str = "regions = [{ addr = 4096, size = 8192 }]\n";
-
-const QUEUES: &str = "queues = [[\"r4096+10 w8192+64\"]]\n";
-
 const VALID: &str =
     "layout = \"split\"\nsize = 4\nregions = [{ addr = 4096, size = 8192 }]\nqueues = [[\"r4096+10 w8192+64\"]]\n";
-
-const SEVENTEEN: &str =
-    "size = 32\nqueues = [[\"r4096+1 r4096+1 r4096+1 r4096+1 r4096+1 r4096+1 r4096+1 r4096+1 r4096+1 r4096+1 r4096+1 r4096+1 r4096+1 r4096+1 r4096+1 r4096+1 r4096+1\"]]\n";
-
-/// The file of these four lines.
-fn file(alloc: Global, lines: [&str; 4]) -> Result<String, AllocError> {
-    let mut text = String::new(alloc);
-    for line in lines {
-        text.push_str(line)?;
-    }
-    Ok(text)
-}
 
 #[test]
 fn reads_what_a_file_orders(rt: HostRuntime) -> Result<(), Fail> {
@@ -85,141 +65,143 @@ fn has_its_defaults(rt: HostRuntime) -> Result<(), Fail> {
     Ok(())
 }
 
-/// What reading the file of these lines is refused with.
-fn refused(alloc: Global, lines: [&str; 4]) -> Result<Option<ReadRefusal>, AllocError> {
-    let text = file(alloc, lines)?;
-    Ok(Machine::read(alloc, text.as_bytes()).err())
-}
-
 #[test]
 fn tells_the_document_its_keys_and_its_types(rt: HostRuntime) -> Result<(), Fail> {
-    for (lines, want) in [
-        ([SPLIT, SIZE, REGIONS, QUEUES], None),
-        ([QUEUES, REGIONS, SIZE, SPLIT], None),
-        ([SPLIT, SIZE, REGIONS, "queues = [[]]"], None),
-        ([SPLIT, SIZE, "regions = []\n", "queues = [[]]"], None),
-        ([SPLIT, "size = 2\n", REGIONS, QUEUES], None),
-        ([SPLIT, SIZE, REGIONS, "queues = [[\"r12287+1\"]]"], None),
+    for (text, want) in [
         (
-            [SPLIT, SIZE, REGIONS, "queues = [[\"200000*r4096+1\"]]"],
+            "layout = \"split\"\nsize = 4\nregions = [{ addr = 4096, size = 8192 }]\nqueues = [[\"r4096+10 w8192+64\"]]\n",
             None,
         ),
         (
-            [
-                SPLIT,
-                SIZE,
-                REGIONS,
-                "queues = [[\"199999*r4096+1\", \"r4096+1\"]]",
-            ],
+            "queues = [[\"r4096+10 w8192+64\"]]\nregions = [{ addr = 4096, size = 8192 }]\nsize = 4\nlayout = \"split\"\n",
             None,
         ),
-        (["layout = \n", "", "", ""], Some(MachineFault::M1)),
-        ([SPLIT, SIZE, SIZE, ""], Some(MachineFault::M1)),
         (
-            [
-                SPLIT,
-                SIZE,
-                "regions = [{ addr = 0, size = 9223372036854775808 }]\n",
-                QUEUES,
-            ],
+            "layout = \"split\"\nsize = 4\nregions = [{ addr = 4096, size = 8192 }]\nqueues = [[]]",
+            None,
+        ),
+        (
+            "layout = \"split\"\nsize = 4\nregions = []\nqueues = [[]]",
+            None,
+        ),
+        (
+            "layout = \"split\"\nsize = 2\nregions = [{ addr = 4096, size = 8192 }]\nqueues = [[\"r4096+10 w8192+64\"]]\n",
+            None,
+        ),
+        (
+            "layout = \"split\"\nsize = 4\nregions = [{ addr = 4096, size = 8192 }]\nqueues = [[\"r12287+1\"]]",
+            None,
+        ),
+        (
+            "layout = \"split\"\nsize = 4\nregions = [{ addr = 4096, size = 8192 }]\nqueues = [[\"200000*r4096+1\"]]",
+            None,
+        ),
+        (
+            "layout = \"split\"\nsize = 4\nregions = [{ addr = 4096, size = 8192 }]\nqueues = [[\"199999*r4096+1\", \"r4096+1\"]]",
+            None,
+        ),
+        ("layout = \n", Some(MachineFault::M1)),
+        (
+            "layout = \"split\"\nsize = 4\nsize = 4\n",
             Some(MachineFault::M1),
         ),
         (
-            [SPLIT, "size = 3\ncolour = 1\n", REGIONS, ""],
+            "layout = \"split\"\nsize = 4\nregions = [{ addr = 0, size = 9223372036854775808 }]\nqueues = [[\"r4096+10 w8192+64\"]]\n",
+            Some(MachineFault::M1),
+        ),
+        (
+            "layout = \"split\"\nsize = 3\ncolour = 1\nregions = [{ addr = 4096, size = 8192 }]\n",
             Some(MachineFault::M2),
         ),
         (
-            [SPLIT, "size = 4\nstart = \"still\"\n", REGIONS, QUEUES],
+            "layout = \"split\"\nsize = 4\nstart = \"still\"\nregions = [{ addr = 4096, size = 8192 }]\nqueues = [[\"r4096+10 w8192+64\"]]\n",
             Some(MachineFault::M2),
         ),
         (
-            [SPLIT, "size = 4\niova_first = 1\n", REGIONS, QUEUES],
+            "layout = \"split\"\nsize = 4\niova_first = 1\nregions = [{ addr = 4096, size = 8192 }]\nqueues = [[\"r4096+10 w8192+64\"]]\n",
             Some(MachineFault::M2),
         ),
         (
-            [SPLIT, "size = 4\niova_last = 8191\n", REGIONS, QUEUES],
+            "layout = \"split\"\nsize = 4\niova_last = 8191\nregions = [{ addr = 4096, size = 8192 }]\nqueues = [[\"r4096+10 w8192+64\"]]\n",
             Some(MachineFault::M2),
         ),
         (
-            [SPLIT, "size = 4\nswitches = []\n", REGIONS, QUEUES],
+            "layout = \"split\"\nsize = 4\nswitches = []\nregions = [{ addr = 4096, size = 8192 }]\nqueues = [[\"r4096+10 w8192+64\"]]\n",
             Some(MachineFault::M2),
         ),
         (
-            [SPLIT, "size = 4\ncommands = [\"0101\"]\n", REGIONS, QUEUES],
+            "layout = \"split\"\nsize = 4\ncommands = [\"0101\"]\nregions = [{ addr = 4096, size = 8192 }]\nqueues = [[\"r4096+10 w8192+64\"]]\n",
             Some(MachineFault::M2),
         ),
         (
-            [
-                SPLIT,
-                SIZE,
-                "regions = [{ addr = 4096, size = 8192, colour = 1 }]\n",
-                QUEUES,
-            ],
+            "layout = \"split\"\nsize = 4\nregions = [{ addr = 4096, size = 8192, colour = 1 }]\nqueues = [[\"r4096+10 w8192+64\"]]\n",
             Some(MachineFault::M2),
         ),
-        ([SPLIT, "", REGIONS, QUEUES], Some(MachineFault::M3)),
-        (["", SIZE, REGIONS, QUEUES], Some(MachineFault::M3)),
-        ([SPLIT, SIZE, "", QUEUES], Some(MachineFault::M3)),
-        ([SPLIT, SIZE, REGIONS, ""], Some(MachineFault::M3)),
         (
-            [SPLIT, SIZE, "regions = [1, { addr = 4096 }]\n", QUEUES],
+            "layout = \"split\"\nregions = [{ addr = 4096, size = 8192 }]\nqueues = [[\"r4096+10 w8192+64\"]]\n",
             Some(MachineFault::M3),
         ),
         (
-            [SPLIT, "size = \"4\"\n", REGIONS, QUEUES],
+            "size = 4\nregions = [{ addr = 4096, size = 8192 }]\nqueues = [[\"r4096+10 w8192+64\"]]\n",
+            Some(MachineFault::M3),
+        ),
+        (
+            "layout = \"split\"\nsize = 4\nqueues = [[\"r4096+10 w8192+64\"]]\n",
+            Some(MachineFault::M3),
+        ),
+        (
+            "layout = \"split\"\nsize = 4\nregions = [{ addr = 4096, size = 8192 }]\n",
+            Some(MachineFault::M3),
+        ),
+        (
+            "layout = \"split\"\nsize = 4\nregions = [1, { addr = 4096 }]\nqueues = [[\"r4096+10 w8192+64\"]]\n",
+            Some(MachineFault::M3),
+        ),
+        (
+            "layout = \"split\"\nsize = \"4\"\nregions = [{ addr = 4096, size = 8192 }]\nqueues = [[\"r4096+10 w8192+64\"]]\n",
             Some(MachineFault::M4),
         ),
         (
-            ["layout = 1\n", SIZE, REGIONS, QUEUES],
+            "layout = 1\nsize = 4\nregions = [{ addr = 4096, size = 8192 }]\nqueues = [[\"r4096+10 w8192+64\"]]\n",
             Some(MachineFault::M4),
         ),
         (
-            [SPLIT, "size = 4\nfeatures = [1]\n", REGIONS, QUEUES],
+            "layout = \"split\"\nsize = 4\nfeatures = [1]\nregions = [{ addr = 4096, size = 8192 }]\nqueues = [[\"r4096+10 w8192+64\"]]\n",
             Some(MachineFault::M4),
         ),
         (
-            [SPLIT, "size = 4\nwindow = \"1\"\n", REGIONS, QUEUES],
+            "layout = \"split\"\nsize = 4\nwindow = \"1\"\nregions = [{ addr = 4096, size = 8192 }]\nqueues = [[\"r4096+10 w8192+64\"]]\n",
             Some(MachineFault::M4),
         ),
         (
-            [
-                SPLIT,
-                SIZE,
-                "regions = { addr = 4096, size = 8192 }\n",
-                QUEUES,
-            ],
+            "layout = \"split\"\nsize = 4\nregions = { addr = 4096, size = 8192 }\nqueues = [[\"r4096+10 w8192+64\"]]\n",
             Some(MachineFault::M4),
         ),
         (
-            [
-                SPLIT,
-                SIZE,
-                "regions = [{ addr = 4096, size = 1.5 }]\n",
-                QUEUES,
-            ],
+            "layout = \"split\"\nsize = 4\nregions = [{ addr = 4096, size = 1.5 }]\nqueues = [[\"r4096+10 w8192+64\"]]\n",
             Some(MachineFault::M4),
         ),
         (
-            [SPLIT, SIZE, REGIONS, "queues = [\"r4096+10\"]"],
+            "layout = \"split\"\nsize = 4\nregions = [{ addr = 4096, size = 8192 }]\nqueues = [\"r4096+10\"]",
             Some(MachineFault::M4),
         ),
         (
-            [SPLIT, SIZE, REGIONS, "queues = [[1]]"],
+            "layout = \"split\"\nsize = 4\nregions = [{ addr = 4096, size = 8192 }]\nqueues = [[1]]",
             Some(MachineFault::M4),
         ),
         (
-            ["layout = \"round\"\n", "size = 3\n", REGIONS, QUEUES],
+            "layout = \"round\"\nsize = 3\nregions = [{ addr = 4096, size = 8192 }]\nqueues = [[\"r4096+10 w8192+64\"]]\n",
             Some(MachineFault::M5),
         ),
         (
-            ["layout = \"packed\"\n", SIZE, REGIONS, QUEUES],
+            "layout = \"packed\"\nsize = 4\nregions = [{ addr = 4096, size = 8192 }]\nqueues = [[\"r4096+10 w8192+64\"]]\n",
             Some(MachineFault::M5),
         ),
     ] {
-        let refusal = refused(rt.alloc(), lines)?;
+        let refusal = Machine::read(rt.alloc(), text.as_bytes()).err();
         assert!(rt;
             refusal == want.map(|rule| ReadRefusal::Fault(rule)),
-            "at {lines:?}"
+            "at {text}"
         );
     }
     assert!(rt;
@@ -230,191 +212,126 @@ fn tells_the_document_its_keys_and_its_types(rt: HostRuntime) -> Result<(), Fail
 
 #[test]
 fn names_the_first_broken_rule(rt: HostRuntime) -> Result<(), Fail> {
-    for (lines, rule) in [
+    for (text, rule) in [
         (
-            [SPLIT, "size = 3\nfeatures = [\"fast\"]\n", REGIONS, QUEUES],
+            "layout = \"split\"\nsize = 3\nfeatures = [\"fast\"]\nregions = [{ addr = 4096, size = 8192 }]\nqueues = [[\"r4096+10 w8192+64\"]]\n",
             MachineFault::M6,
         ),
-        ([SPLIT, "size = 1\n", REGIONS, QUEUES], MachineFault::M6),
-        ([SPLIT, "size = 2048\n", REGIONS, QUEUES], MachineFault::M6),
-        ([SPLIT, "size = -4\n", REGIONS, QUEUES], MachineFault::M6),
         (
-            [
-                SPLIT,
-                "size = 4\nfeatures = [\"fast\"]\nwindow = 0\n",
-                REGIONS,
-                QUEUES,
-            ],
+            "layout = \"split\"\nsize = 1\nregions = [{ addr = 4096, size = 8192 }]\nqueues = [[\"r4096+10 w8192+64\"]]\n",
+            MachineFault::M6,
+        ),
+        (
+            "layout = \"split\"\nsize = 2048\nregions = [{ addr = 4096, size = 8192 }]\nqueues = [[\"r4096+10 w8192+64\"]]\n",
+            MachineFault::M6,
+        ),
+        (
+            "layout = \"split\"\nsize = -4\nregions = [{ addr = 4096, size = 8192 }]\nqueues = [[\"r4096+10 w8192+64\"]]\n",
+            MachineFault::M6,
+        ),
+        (
+            "layout = \"split\"\nsize = 4\nfeatures = [\"fast\"]\nwindow = 0\nregions = [{ addr = 4096, size = 8192 }]\nqueues = [[\"r4096+10 w8192+64\"]]\n",
             MachineFault::M7,
         ),
         (
-            [
-                SPLIT,
-                "size = 4\nfeatures = [\"in_order\", \"in_order\"]\n",
-                REGIONS,
-                QUEUES,
-            ],
+            "layout = \"split\"\nsize = 4\nfeatures = [\"in_order\", \"in_order\"]\nregions = [{ addr = 4096, size = 8192 }]\nqueues = [[\"r4096+10 w8192+64\"]]\n",
             MachineFault::M7,
         ),
         (
-            [
-                SPLIT,
-                "size = 4\nfeatures = [\"indirect\"]\n",
-                REGIONS,
-                QUEUES,
-            ],
+            "layout = \"split\"\nsize = 4\nfeatures = [\"indirect\"]\nregions = [{ addr = 4096, size = 8192 }]\nqueues = [[\"r4096+10 w8192+64\"]]\n",
             MachineFault::M7,
         ),
         (
-            [
-                SPLIT,
-                "size = 4\nfeatures = [\"in_order\", \"event_idx\"]\n",
-                REGIONS,
-                QUEUES,
-            ],
+            "layout = \"split\"\nsize = 4\nfeatures = [\"in_order\", \"event_idx\"]\nregions = [{ addr = 4096, size = 8192 }]\nqueues = [[\"r4096+10 w8192+64\"]]\n",
             MachineFault::M7,
         ),
         (
-            [
-                SPLIT,
-                "size = 4\nwindow = 0\n",
-                "regions = [{ addr = 4096, size = 0 }]\n",
-                QUEUES,
-            ],
+            "layout = \"split\"\nsize = 4\nwindow = 0\nregions = [{ addr = 4096, size = 0 }]\nqueues = [[\"r4096+10 w8192+64\"]]\n",
             MachineFault::M8,
         ),
         (
-            [SPLIT, "size = 4\nwindow = 65\n", REGIONS, QUEUES],
+            "layout = \"split\"\nsize = 4\nwindow = 65\nregions = [{ addr = 4096, size = 8192 }]\nqueues = [[\"r4096+10 w8192+64\"]]\n",
             MachineFault::M8,
         ),
         (
-            [
-                SPLIT,
-                SIZE,
-                "regions = [{ addr = 4096, size = 0 }]\n",
-                "queues = [[\"\"]]",
-            ],
+            "layout = \"split\"\nsize = 4\nregions = [{ addr = 4096, size = 0 }]\nqueues = [[\"\"]]",
             MachineFault::M9,
         ),
         (
-            [
-                SPLIT,
-                SIZE,
-                "regions = [{ addr = 4096, size = 8192 }, { addr = 4096, size = 8192 }]\n",
-                QUEUES,
-            ],
+            "layout = \"split\"\nsize = 4\nregions = [{ addr = 4096, size = 8192 }, { addr = 4096, size = 8192 }]\nqueues = [[\"r4096+10 w8192+64\"]]\n",
             MachineFault::M9,
         ),
         (
-            [
-                SPLIT,
-                SIZE,
-                "regions = [{ addr = 4096, size = 8192 }, { addr = 0, size = 4097 }]\n",
-                QUEUES,
-            ],
+            "layout = \"split\"\nsize = 4\nregions = [{ addr = 4096, size = 8192 }, { addr = 0, size = 4097 }]\nqueues = [[\"r4096+10 w8192+64\"]]\n",
             MachineFault::M9,
         ),
         (
-            [
-                SPLIT,
-                SIZE,
-                "regions = [{ addr = -4096, size = 8192 }]\n",
-                QUEUES,
-            ],
+            "layout = \"split\"\nsize = 4\nregions = [{ addr = -4096, size = 8192 }]\nqueues = [[\"r4096+10 w8192+64\"]]\n",
             MachineFault::M9,
         ),
         (
-            [
-                SPLIT,
-                SIZE,
-                "regions = [{ addr = 2, size = 9223372036854775807 }]\n",
-                QUEUES,
-            ],
+            "layout = \"split\"\nsize = 4\nregions = [{ addr = 2, size = 9223372036854775807 }]\nqueues = [[\"r4096+10 w8192+64\"]]\n",
             MachineFault::M9,
         ),
         (
-            [SPLIT, SIZE, REGIONS, "queues = [[\"w8192+64 r4096+10\"]]"],
+            "layout = \"split\"\nsize = 4\nregions = [{ addr = 4096, size = 8192 }]\nqueues = [[\"w8192+64 r4096+10\"]]",
             MachineFault::M10,
         ),
         (
-            [SPLIT, SIZE, REGIONS, "queues = [[\"r4096+0\"]]"],
+            "layout = \"split\"\nsize = 4\nregions = [{ addr = 4096, size = 8192 }]\nqueues = [[\"r4096+0\"]]",
             MachineFault::M10,
         ),
         (
-            [SPLIT, SIZE, REGIONS, "queues = [[\"\"]]"],
+            "layout = \"split\"\nsize = 4\nregions = [{ addr = 4096, size = 8192 }]\nqueues = [[\"\"]]",
             MachineFault::M10,
         ),
         (
-            [
-                SPLIT,
-                SIZE,
-                REGIONS,
-                "queues = [[\"r4096+4294967295 r4096+1\"], [\"2*\"]]",
-            ],
+            "layout = \"split\"\nsize = 4\nregions = [{ addr = 4096, size = 8192 }]\nqueues = [[\"r4096+4294967295 r4096+1\"], [\"2*\"]]",
             MachineFault::M10,
         ),
         (
-            [
-                SPLIT,
-                SIZE,
-                REGIONS,
-                "queues = [[\"r4096+1 r4096+1 r4096+1 r4096+1 r4096+1\"]]",
-            ],
+            "layout = \"split\"\nsize = 4\nregions = [{ addr = 4096, size = 8192 }]\nqueues = [[\"r4096+1 r4096+1 r4096+1 r4096+1 r4096+1\"]]",
             MachineFault::M11,
         ),
         (
-            [
-                SPLIT,
-                SIZE,
-                REGIONS,
-                "queues = [[\"r1+1\", \"r4096+4294967295 r4096+1\"]]",
-            ],
+            "layout = \"split\"\nsize = 4\nregions = [{ addr = 4096, size = 8192 }]\nqueues = [[\"r1+1\", \"r4096+4294967295 r4096+1\"]]",
             MachineFault::M11,
         ),
-        ([SPLIT, SEVENTEEN, REGIONS, ""], MachineFault::M11),
         (
-            [SPLIT, SIZE, REGIONS, "queues = [[\"r12287+2\"]]"],
+            "layout = \"split\"\nsize = 32\nqueues = [[\"r4096+1 r4096+1 r4096+1 r4096+1 r4096+1 r4096+1 r4096+1 r4096+1 r4096+1 r4096+1 r4096+1 r4096+1 r4096+1 r4096+1 r4096+1 r4096+1 r4096+1\"]]\nregions = [{ addr = 4096, size = 8192 }]\n",
+            MachineFault::M11,
+        ),
+        (
+            "layout = \"split\"\nsize = 4\nregions = [{ addr = 4096, size = 8192 }]\nqueues = [[\"r12287+2\"]]",
             MachineFault::M12,
         ),
         (
-            [
-                SPLIT,
-                SIZE,
-                "regions = [{ addr = 4096, size = 8192 }, { addr = 12288, size = 8192 }]\n",
-                "queues = [[\"r12287+2\"]]",
-            ],
+            "layout = \"split\"\nsize = 4\nregions = [{ addr = 4096, size = 8192 }, { addr = 12288, size = 8192 }]\nqueues = [[\"r12287+2\"]]",
             MachineFault::M12,
         ),
         (
-            [
-                SPLIT,
-                SIZE,
-                "regions = []\n",
-                "queues = [[\"200001*r4096+10\"]]",
-            ],
+            "layout = \"split\"\nsize = 4\nregions = []\nqueues = [[\"200001*r4096+10\"]]",
             MachineFault::M12,
         ),
-        ([SPLIT, SIZE, REGIONS, "queues = []"], MachineFault::M13),
         (
-            [SPLIT, SIZE, REGIONS, "queues = [[], []]"],
+            "layout = \"split\"\nsize = 4\nregions = [{ addr = 4096, size = 8192 }]\nqueues = []",
             MachineFault::M13,
         ),
         (
-            [SPLIT, SIZE, REGIONS, "queues = [[\"200001*r4096+1\"]]"],
+            "layout = \"split\"\nsize = 4\nregions = [{ addr = 4096, size = 8192 }]\nqueues = [[], []]",
             MachineFault::M13,
         ),
         (
-            [
-                SPLIT,
-                SIZE,
-                REGIONS,
-                "queues = [[\"4294967295*r4096+1\", \"4294967295*r4096+1\"]]",
-            ],
+            "layout = \"split\"\nsize = 4\nregions = [{ addr = 4096, size = 8192 }]\nqueues = [[\"200001*r4096+1\"]]",
+            MachineFault::M13,
+        ),
+        (
+            "layout = \"split\"\nsize = 4\nregions = [{ addr = 4096, size = 8192 }]\nqueues = [[\"4294967295*r4096+1\", \"4294967295*r4096+1\"]]",
             MachineFault::M13,
         ),
     ] {
-        let refusal = refused(rt.alloc(), lines)?;
-        assert!(rt; refusal == Some(ReadRefusal::Fault(rule)), "at {lines:?}");
+        let refusal = Machine::read(rt.alloc(), text.as_bytes()).err();
+        assert!(rt; refusal == Some(ReadRefusal::Fault(rule)), "at {text}");
     }
     Ok(())
 }
