@@ -1,7 +1,7 @@
 -- Reading each element of a list, one after the other, until one can't be read.
 use Rattle.std.proofs.Common.{◌≡◌, ℕ, ◌+◌, ◌<◌, List, [], ◌∷◌, ◌++◌, length, get_or, drop, map, Option, Some, None, option_map, refl, ap, ◌∙◌, append_assoc, append-nil}
 use Rattle.std.proofs.lemmas.List.{drop_more}
-use Rattle.vd_machine.specs.Lookup.{all_some}
+use Rattle.vd_text.specs.Grammar.{all_some}
 
 -- what was found, and what is found in the rest
 abbrev pub after : {A : Type 0} → List A → Option (List A) → Option (List A)

@@ -1,23 +1,21 @@
--- What the facts that a machine keeps say of its size, its regions and its queues.
-use Rattle.std.proofs.Common.{◌≡◌, ℕ, ◌+◌, ◌^◌, ◌<◌, ◌≤◌, ◌==◌, Bool, true, ◌||◌, nat_le, List, [], ◌∷◌, length, get_or, refl, sym, ◌∙◌, arith, inl, inr, lit≤}
-use Rattle.std.specs.List.{list_all}
-use Rattle.std.proofs.lemmas.Bool.{and_parts, leb-true, eqb-true, false≢true, true≢false, cases_Bool}
+-- What the facts that a machine keeps say of its size, its window, its regions and its queues.
+use Rattle.std.proofs.Common.{◌≡◌, ℕ, ◌+◌, ◌^◌, ◌<◌, ◌≤◌, ◌==◌, Bool, true, false, ◌&&◌, ◌||◌, cond, nat_le, List, [], ◌∷◌, length, get_or, sym, arith, inl, inr, lit≤}
+use Rattle.std.specs.List.{list_all, sum_by}
+use Rattle.std.proofs.lemmas.Bool.{and_parts, leb-true, eqb-true, false≢true, cases_Bool}
 use Rattle.std.proofs.lemmas.Bool.Decides.{nat_tests}
-use Rattle.std.proofs.lemmas.List.Folds.{list_all_at}
+use Rattle.vd_model.specs.Chains.{total, needs}
 use Rattle.vd_model.specs.declared.chain.Piece.{Piece}
+use Rattle.vd_model.specs.declared.features.Features.{Features}
 use Rattle.vd_model.specs.declared.record.Run.{Run}
 use Rattle.vd_model.specs.declared.record.Script.{Script}
-use Rattle.vd_machine.specs.Rings.{is_power}
-use Rattle.vd_machine.specs.Regions.{is_region, are_regions}
-use Rattle.vd_machine.specs.Queues.{is_single, is_run, is_script, are_scripts, holds, lies_in, run_lies_in, script_lies_in, all_lie, is_short, few}
+use Rattle.vd_text.specs.Grammar.{has_bytes, is_lawful, is_within}
+use Rattle.vd_text.proofs.Order.{all_at}
+use Rattle.vd_machine.specs.Rings.{is_power, is_lawful_size, is_window}
+use Rattle.vd_machine.specs.Regions.{is_region, all_apart, are_regions}
+use Rattle.vd_machine.specs.Queues.{most_pieces, is_script, are_scripts, holds, lies_in, run_lies_in, script_lies_in, all_lie, chains_of, is_short, few}
 use Rattle.vd_machine.specs.declared.regions.Region.{Region}
 
--- a test that each element passes, at each place
-pub all_at : {A : Type 0} (p : A → Bool) (xs : List A) (d : A) (k : ℕ) → list_all p xs ≡ true → k < length xs → p (get_or xs k d) ≡ true
-all_at p xs d k h below = elim (cases_Bool (p (get_or xs k d))) [
-  | inl e ↦ e
-  | inr e ↦ absurd (true≢false (sym h ∙ list_all_at p xs k d below e))
-]
+-- the size
 
 -- a power of two from 2 to 1,024
 pub record IsPower (n : ℕ) : Type 0 where
@@ -48,21 +46,34 @@ is_power_of n h =
     either 512 n _ i9 (power n 9 (lit≤ tt) (lit≤ tt)) (λ i10.
     either 1024 n _ i10 (power n 10 (lit≤ tt) (lit≤ tt)) (λ i. absurd (false≢true i)))))))))))
 
--- a size is from 2 to 1,024
-pub size_bounds : (n : ℕ) → is_power n ≡ true → (2 ≤ n) × (n ≤ 1024)
-size_bounds n h = grind (arith, nat_tests)
+power_bounds : (n : ℕ) → is_power n ≡ true → (2 ≤ n) × (n ≤ 1024)
+power_bounds n h = grind (arith, nat_tests)
+
+pub size_bounds : (packed : Bool) (n : ℕ) → is_lawful_size packed n ≡ true → (2 ≤ n) × (n ≤ 1024)
+size_bounds true n h = let parts = and_parts (nat_le 2 n) (nat_le n 1024) h in (leb-true 2 n parts.0, leb-true n 1024 parts.1)
+size_bounds false n h = power_bounds n h
+
+pub window_bounds : (n : ℕ) → is_window n ≡ true → (1 ≤ n) × (n ≤ 64)
+window_bounds n h = let parts = and_parts (nat_le 1 n) (nat_le n 64) h in (leb-true 1 n parts.0, leb-true n 64 parts.1)
 
 -- the regions
 
-pub one_region : (rs : List Region) → are_regions rs ≡ true → length rs ≡ 1
-one_region rs h = eqb-true (length rs) 1 (and_parts (length rs == 1) (list_all is_region rs) h).0
+region_parts : (rs : List Region) → are_regions rs ≡ true → (nat_le (length rs) 64 ≡ true) × (list_all is_region rs ≡ true) × (all_apart rs ≡ true)
+region_parts rs h =
+    let few_rest = and_parts (nat_le (length rs) 64) (list_all is_region rs && all_apart rs) h in
+    let rest = and_parts (list_all is_region rs) (all_apart rs) few_rest.1 in
+    (few_rest.0, rest.0, rest.1)
+
+pub few_regions : (rs : List Region) → are_regions rs ≡ true → length rs ≤ 64
+few_regions rs h = leb-true (length rs) 64 (region_parts rs h).0
+
+region_fits : (r : Region) → is_region r ≡ true → (1 ≤ r.size) × (r.addr + r.size ≤ 2 ^ 63)
+region_fits r h =
+    let parts = and_parts (nat_le 1 r.size) (nat_le (r.addr + r.size) 0x8000_0000_0000_0000) h in
+    (leb-true 1 r.size parts.0, leb-true (r.addr + r.size) 0x8000_0000_0000_0000 parts.1)
 
 pub region_bounds : (rs : List Region) (d : Region) (k : ℕ) → are_regions rs ≡ true → k < length rs → (1 ≤ (get_or rs k d).size) × ((get_or rs k d).addr + (get_or rs k d).size ≤ 2 ^ 63)
-region_bounds rs d k h below =
-    let r = get_or rs k d in
-    let each = (and_parts (length rs == 1) (list_all is_region rs) h).1 in
-    let parts = and_parts (nat_le 1 r.size) (nat_le (r.addr + r.size) 0x8000_0000_0000_0000) (all_at is_region rs d k each below) in
-    (leb-true 1 r.size parts.0, leb-true (r.addr + r.size) 0x8000_0000_0000_0000 parts.1)
+region_bounds rs d k h below = region_fits (get_or rs k d) (all_at is_region rs d k (region_parts rs h).1 below)
 
 -- a piece that lies in lawful regions ends at most at 2 ^ 63
 end_in : (rs : List Region) (p : Piece) → list_all is_region rs ≡ true → lies_in rs p ≡ true → p.addr + p.len ≤ 2 ^ 63
@@ -72,44 +83,73 @@ end_in (r ∷ rs) p h lies =
     elim (cases_Bool (holds p r)) [
       | inl here ↦
           let ends = leb-true (p.addr + p.len) (r.addr + r.size) (and_parts (nat_le r.addr p.addr) (nat_le (p.addr + p.len) (r.addr + r.size)) here).1 in
-          let most = leb-true (r.addr + r.size) 0x8000_0000_0000_0000 (and_parts (nat_le 1 r.size) (nat_le (r.addr + r.size) 0x8000_0000_0000_0000) all.0).1 in
-          omega (arith, ends, most)
+          omega (arith, ends, (region_fits r all.0).1)
       | inr other ↦ end_in rs p all.1 (rw other at lies)
     ]
 
 pub piece_end : (rs : List Region) (p : Piece) → are_regions rs ≡ true → lies_in rs p ≡ true → p.addr + p.len ≤ 2 ^ 63
-piece_end rs p h lies = end_in rs p (and_parts (length rs == 1) (list_all is_region rs) h).1 lies
+piece_end rs p h lies = end_in rs p (region_parts rs h).1 lies
 
 -- the queues
 
+few_parts : (qs : List Script) → few qs ≡ true → (nat_le 1 (length qs) ≡ true) × (nat_le (length qs) 1 ≡ true) × (list_all is_short qs ≡ true) × (nat_le (sum_by chains_of qs) 400000 ≡ true)
+few_parts qs h =
+    let both = and_parts (nat_le 1 (length qs) && nat_le (length qs) 1) (list_all is_short qs && nat_le (sum_by chains_of qs) 400000) h in
+    let queues = and_parts (nat_le 1 (length qs)) (nat_le (length qs) 1) both.0 in
+    let chains = and_parts (list_all is_short qs) (nat_le (sum_by chains_of qs) 400000) both.1 in
+    (queues.0, queues.1, chains.0, chains.1)
+
 pub one_queue : (qs : List Script) → few qs ≡ true → length qs ≡ 1
-one_queue qs h = eqb-true (length qs) 1 (and_parts (length qs == 1) (list_all is_short qs) h).0
+one_queue qs h = let parts = few_parts qs h in
+    let low = leb-true 1 (length qs) parts.0 in
+    let high = leb-true (length qs) 1 parts.1 in
+    omega arith
 
-pub queue_is_short : (qs : List Script) (d : Script) (k : ℕ) → few qs ≡ true → k < length qs → length (get_or qs k d).runs ≤ 200000
-queue_is_short qs d k h below = leb-true (length (get_or qs k d).runs) 200000 (all_at is_short qs d k (and_parts (length qs == 1) (list_all is_short qs) h).1 below)
+pub queue_is_short : (qs : List Script) (d : Script) (k : ℕ) → few qs ≡ true → k < length qs → chains_of (get_or qs k d) ≤ 200000
+queue_is_short qs d k h below = leb-true (chains_of (get_or qs k d)) 200000 (all_at is_short qs d k (few_parts qs h).2 below)
 
-pub queue_has_no_commands : (qs : List Script) (d : Script) (k : ℕ) → are_scripts qs ≡ true → k < length qs → length (get_or qs k d).commands ≡ 0
-queue_has_no_commands qs d k h below =
+pub all_chains : (qs : List Script) → few qs ≡ true → sum_by chains_of qs ≤ 400000
+all_chains qs h = leb-true (sum_by chains_of qs) 400000 (few_parts qs h).3
+
+pub queue_has_no_commands : (most : ℕ) (qs : List Script) (d : Script) (k : ℕ) → are_scripts most qs ≡ true → k < length qs → length (get_or qs k d).commands ≡ 0
+queue_has_no_commands most qs d k h below =
     let q = get_or qs k d in
-    eqb-true (length q.commands) 0 (and_parts (length q.commands == 0) (list_all is_run q.runs) (all_at is_script qs d k h below)).0
+    eqb-true (length q.commands) 0 (and_parts (length q.commands == 0) (list_all (is_lawful most) q.runs) (all_at (is_script most) qs d k h below)).0
 
--- one chain of one piece of at least one byte, in one region
-pub record IsOnePiece (rs : List Region) (r : Run) : Type 0 where
-  pub piece : Piece
-  pub once : r.count ≡ 1
-  pub one : r.chain ≡ piece ∷ []
-  pub some : 1 ≤ piece.len
-  pub inside : lies_in rs piece ≡ true
+-- one chain or more, of at most so many pieces, each in one region
+pub record IsRunIn (most : ℕ) (rs : List Region) (r : Run) : Type 0 where
+  pub once : 1 ≤ r.count
+  pub pieces : length r.chain ≤ 16
+  pub within : length r.chain ≤ most
+  pub bytes : total r.chain ≤ 0xffff_ffff
+  pub some : list_all has_bytes r.chain ≡ true
+  pub inside : list_all (lies_in rs) r.chain ≡ true
 
-piece_of : (rs : List Region) (n : ℕ) (ps : List Piece) → n ≡ 1 → is_single ps ≡ true → list_all (lies_in rs) ps ≡ true → IsOnePiece rs (record { count = n; chain = ps })
-piece_of rs n [] one single lies = absurd (false≢true single)
-piece_of rs n (p ∷ []) one single lies = record { piece = p; once = one; one = refl; some = leb-true 1 p.len single; inside = (and_parts (lies_in rs p) true lies).0 }
-piece_of rs n (p ∷ q ∷ ps) one single lies = absurd (false≢true single)
+run_in : (most : ℕ) (rs : List Region) (r : Run) → is_lawful most r ≡ true → run_lies_in rs r ≡ true → IsRunIn most rs r
+run_in most rs r h lies =
+    let counts = and_parts (nat_le 1 r.count) (list_all has_bytes r.chain && is_within most r.chain) h in
+    let pieces = and_parts (list_all has_bytes r.chain) (is_within most r.chain) counts.1 in
+    let bounds = and_parts (nat_le (length r.chain) 16) (nat_le (length r.chain) most && nat_le (total r.chain) 0xffff_ffff) pieces.1 in
+    let rest = and_parts (nat_le (length r.chain) most) (nat_le (total r.chain) 0xffff_ffff) bounds.1 in
+    record {
+      once = leb-true 1 r.count counts.0;
+      pieces = leb-true (length r.chain) 16 bounds.0;
+      within = leb-true (length r.chain) most rest.0;
+      bytes = leb-true (total r.chain) 0xffff_ffff rest.1;
+      some = pieces.0;
+      inside = lies;
+    }
 
-pub run_at : (rs : List Region) (qs : List Script) (d : Script) (e : Run) (k j : ℕ) → are_scripts qs ≡ true → all_lie rs qs ≡ true → k < length qs → j < length (get_or qs k d).runs → IsOnePiece rs (get_or (get_or qs k d).runs j e)
-run_at rs qs d e k j h lie below within =
+pub run_at : (most : ℕ) (rs : List Region) (qs : List Script) (d : Script) (e : Run) (k j : ℕ) → are_scripts most qs ≡ true → all_lie rs qs ≡ true → k < length qs → j < length (get_or qs k d).runs → IsRunIn most rs (get_or (get_or qs k d).runs j e)
+run_at most rs qs d e k j h lie below within =
     let q = get_or qs k d in
-    let r = get_or q.runs j e in
-    let runs = (and_parts (length q.commands == 0) (list_all is_run q.runs) (all_at is_script qs d k h below)).1 in
-    let parts = and_parts (r.count == 1) (is_single r.chain) (all_at is_run q.runs e j runs within) in
-    piece_of rs r.count r.chain (eqb-true r.count 1 parts.0) parts.1 (all_at (run_lies_in rs) q.runs e j (all_at (script_lies_in rs) qs d k lie below) within)
+    let runs = (and_parts (length q.commands == 0) (list_all (is_lawful most) q.runs) (all_at (is_script most) qs d k h below)).1 in
+    run_in most rs (get_or q.runs j e) (all_at (is_lawful most) q.runs e j runs within) (all_at (run_lies_in rs) q.runs e j (all_at (script_lies_in rs) qs d k lie below) within)
+
+needs_by : (b : Bool) (size : ℕ) (ps : List Piece) → 2 ≤ size → length ps ≤ cond b 16 size → cond b 1 (length ps) ≤ size
+needs_by true size ps low h = omega arith
+needs_by false size ps low h = h
+
+-- a chain takes no more descriptors than the ring has
+pub needs_within : (f : Features) (packed : Bool) (size : ℕ) (ps : List Piece) → is_lawful_size packed size ≡ true → length ps ≤ most_pieces f size → needs f ps ≤ size
+needs_within f packed size ps lawful h = needs_by f.indirect size ps (size_bounds packed size lawful).0 h

@@ -1,5 +1,6 @@
 -- The items of an array as a list.
-use Rattle.std.proofs.Common.{◌≡◌, ℕ, List, [], ◌∷◌, map, refl, ap, sym, ◌∙◌, String, Global, Bool, ◌&&◌, string_bytes}
+use Rattle.std.proofs.Common.{◌≡◌, ℕ, List, [], ◌∷◌, map, refl, ap, sym, ◌∙◌, String, Global, Bool, ◌&&◌, string_bytes, count_by, cond, ◌+◌}
+use Rattle.std.proofs.lemmas.List.Sums.{sum_by-cons}
 use Rattle.std.specs.List.{list_all}
 use Rattle.std.proofs.lemmas.List.Folds.{list_all-map}
 use Rattle.toml.specs.declared.value.Value.{Value}
@@ -19,3 +20,10 @@ all_names p (e ∷ es) = ap (λ b. p (string_bytes e.0) && b) (all_names p es)
 -- a test of each item, as the slice has them
 pub all_viewed : (p : Data → Bool) (vs : List Value) (ds : List Data) → map view vs ≡ ds → list_all (λ v. p (view v)) vs ≡ list_all p ds
 all_viewed p vs ds e = sym (list_all-map p view vs) ∙ ap (list_all p) e
+
+-- a count of each item, as the slice has them
+pub count_viewed : (p : Data → Bool) (vs : List Value) → count_by (λ v. p (view v)) vs ≡ count_by p (map view vs)
+count_viewed p [] = refl
+count_viewed p (v ∷ vs) = sum_by-cons (λ (w : Value). cond (p (view w)) 1 0) v vs
+    ∙ ap (λ n. cond (p (view v)) 1 0 + n) (count_viewed p vs)
+    ∙ sym (sum_by-cons (λ d. cond (p d) 1 0) (view v) (map view vs))

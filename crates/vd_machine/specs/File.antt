@@ -1,18 +1,22 @@
--- The machine that a file means, and the rule that it breaks.
-use Rattle.std.specs.Prelude.{◌≡◌, ℕ, Bool, true, not, ◌&&◌, ◌==◌, if◌then◌else◌, List, [], ◌∷◌, length, Option, Some, None, option_map, unwrap_or, is_some, find, ⊤}
+-- The machine that a file means, and the first rule that it breaks.
+use Rattle.std.specs.Prelude.{◌≡◌, ℕ, Bool, true, false, not, ◌==◌, if◌then◌else◌, List, [], ◌∷◌, length, Option, Some, None, option_map, unwrap_or, is_none, find, ⊤}
 use Rattle.std.specs.Str.Lossy.{utf8_valid_len}
 use Rattle.toml.specs.Data.{Members}
 use Rattle.toml.specs.Parse.{parse_document}
+use Rattle.vd_model.specs.declared.base.Mode.{Mode}
+use Rattle.vd_model.specs.declared.base.Mode.TheVariants.{Pass}
+use Rattle.vd_model.specs.declared.features.Features.{Features}
 use Rattle.vd_model.specs.declared.record.Script.{Script}
 use Rattle.vd_machine.specs.Keys.{known_keys, complete}
-use Rattle.vd_machine.specs.Queues.{queues_of, all_lie, few}
+use Rattle.vd_machine.specs.Queues.{most_pieces, all_write_chains, scripts_of, all_lie, few}
 use Rattle.vd_machine.specs.Regions.{regions_of}
-use Rattle.vd_machine.specs.Rings.{is_split, size_of}
+use Rattle.vd_machine.specs.Rings.{layout_of, size_of, features_of, features_in, window_of}
 use Rattle.vd_machine.specs.Types.{typed}
 use Rattle.vd_machine.specs.declared.regions.Region.{Region}
 use Rattle.vd_machine.specs.declared.machine.Machine.{Machine}
+use Rattle.vd_machine.specs.declared.machine.Switch.{Switch}
 use Rattle.vd_machine.specs.declared.machine.MachineFault.{MachineFault}
-use Rattle.vd_machine.specs.declared.machine.MachineFault.TheVariants.{M0}
+use Rattle.vd_machine.specs.declared.machine.MachineFault.TheVariants.{M1, M2, M3, M4, M5, M6, M7, M8, M9, M10, M11, M12, M13}
 use Rattle.vd_machine.specs.declared.machine.ReadRefusal.{ReadRefusal}
 use Rattle.vd_machine.specs.declared.machine.ReadRefusal.TheVariants.{Fault, Memory}
 
@@ -22,41 +26,99 @@ document bytes = if utf8_valid_len bytes == length bytes then parse_document byt
 
 -- a machine as plain data
 pub record Plan : Type 0 where
+  pub packed : Bool
   pub size : ℕ
+  pub features : Features
+  pub window : ℕ
+  pub start : Mode
+  pub first : ℕ
+  pub last : ℕ
   pub regions : List Region
   pub queues : List Script
+  pub switches : List Switch
+  pub control : Option Script
 
 abbrev pub view : Machine → Plan
-view m = record { size = m.size; regions = m.regions; queues = m.queues }
-
--- the machine that a document means, where it keeps the rules
-unfoldable pub plan : Members → Plan
-plan ms = record {
-  size = unwrap_or (size_of ms) 0;
-  regions = unwrap_or (regions_of ms) [];
-  queues = unwrap_or (queues_of ms) [];
+view m = record {
+  packed = m.packed;
+  size = m.size;
+  features = m.features;
+  window = m.window;
+  start = m.start;
+  first = m.first;
+  last = m.last;
+  regions = m.regions;
+  queues = m.queues;
+  switches = m.switches;
+  control = m.control;
 }
 
--- each piece of a document lies in its region
-abbrev pub lies : Members → Bool
-lies ms = all_lie (unwrap_or (regions_of ms) []) (unwrap_or (queues_of ms) [])
+-- the parts of the machine that a document means, where it keeps the rules; else they mean nothing
 
--- a document of the form: the known keys and all of them, their types, a split ring of a lawful size, one region, one queue of
--- chains of one piece, which lie in the region
-unfoldable pub is_of_form : Members → Bool
-is_of_form ms = known_keys ms && (complete ms && (typed ms && (is_split ms && (is_some (size_of ms) && (is_some (regions_of ms)
-    && (is_some (queues_of ms) && (lies ms && few (unwrap_or (queues_of ms) []))))))))
+abbrev pub packed_in : Members → Bool
+packed_in ms = unwrap_or (layout_of ms) false
 
--- whether a document breaks a rule
+abbrev pub size_in : Members → ℕ
+size_in ms = unwrap_or (size_of (packed_in ms) ms) 0
+
+abbrev pub features_or_none : Members → Features
+features_or_none ms = unwrap_or (features_of ms) (features_in [])
+
+abbrev pub most_in : Members → ℕ
+most_in ms = most_pieces (features_or_none ms) (size_in ms)
+
+abbrev pub regions_in : Members → List Region
+regions_in ms = unwrap_or (regions_of ms) []
+
+abbrev pub scripts_in : Members → List Script
+scripts_in ms = unwrap_or (scripts_of (most_in ms) ms) []
+
+-- the machine that a document means: it starts in the mode pass, has no switches and no control queue, and the default range of
+-- iovas
+unfoldable pub plan : Members → Plan
+plan ms = record {
+  packed = packed_in ms;
+  size = size_in ms;
+  features = features_or_none ms;
+  window = unwrap_or (window_of ms) 0;
+  start = Pass;
+  first = 4096;
+  last = 281474976710655;
+  regions = regions_in ms;
+  queues = scripts_in ms;
+  switches = [];
+  control = None;
+}
+
+-- whether a document breaks a rule; what the rules from 14 on are about, no document has yet
 abbrev pub breaks : Members → MachineFault → Bool
-breaks ms M0 = not (is_of_form ms)
+breaks ms M1 = false
+breaks ms M2 = not (known_keys ms)
+breaks ms M3 = not (complete ms)
+breaks ms M4 = not (typed ms)
+breaks ms M5 = is_none (layout_of ms)
+breaks ms M6 = is_none (size_of (packed_in ms) ms)
+breaks ms M7 = is_none (features_of ms)
+breaks ms M8 = is_none (window_of ms)
+breaks ms M9 = is_none (regions_of ms)
+breaks ms M10 = not (all_write_chains ms)
+breaks ms M11 = is_none (scripts_of (most_in ms) ms)
+breaks ms M12 = not (all_lie (regions_in ms) (scripts_in ms))
+breaks ms M13 = not (few (scripts_in ms))
+breaks ms _ = false
 
 -- the rules in their order
 abbrev pub rules : List MachineFault
-rules = M0 ∷ []
+rules = M1 ∷ M2 ∷ M3 ∷ M4 ∷ M5 ∷ M6 ∷ M7 ∷ M8 ∷ M9 ∷ M10 ∷ M11 ∷ M12 ∷ M13 ∷ []
 
+-- the first rule that a document breaks
+unfoldable pub first_in : Members → Option MachineFault
+first_in ms = find (breaks ms) rules
+
+-- the first rule is broken where there is no document
 abbrev pub is_broken_in : Option Members → MachineFault → Bool
-is_broken_in None M0 = true
+is_broken_in None M1 = true
+is_broken_in None _ = false
 is_broken_in (Some ms) rule = breaks ms rule
 
 -- the first rule that the bytes break
@@ -74,5 +136,6 @@ Refuses broken Memory = ⊤
 
 -- why no document was read
 abbrev pub ReadsTable : Option Members → ReadRefusal → Type 0
-ReadsTable doc (Fault M0) = doc ≡ None
+ReadsTable doc (Fault M1) = doc ≡ None
+ReadsTable doc (Fault _) = ⊥
 ReadsTable doc Memory = ⊤

@@ -7,7 +7,8 @@ use Rattle.toml.specs.Data.{Data, Members, as_table}
 use Rattle.vd_machine.specs.Lookup.{items_at, names_of, has}
 
 abbrev pub is_file_key : List ℕ → Bool
-is_file_key k = bytes_eq k (codes "layout") || bytes_eq k (codes "size") || bytes_eq k (codes "regions") || bytes_eq k (codes "queues")
+is_file_key k = bytes_eq k (codes "layout") || bytes_eq k (codes "size") || bytes_eq k (codes "features")
+    || bytes_eq k (codes "window") || bytes_eq k (codes "regions") || bytes_eq k (codes "queues")
 
 abbrev pub is_region_key : List ℕ → Bool
 is_region_key k = bytes_eq k (codes "addr") || bytes_eq k (codes "size")

@@ -1,5 +1,5 @@
 -- What stands where in a document of TOML.
-use Rattle.std.specs.Prelude.{ℕ, ℤ, pos, negsuc, Bool, List, [], ◌∷◌, Option, Some, None, option_and_then, option_map, unwrap_or, is_some}
+use Rattle.std.specs.Prelude.{ℕ, ℤ, pos, negsuc, Bool, List, [], ◌∷◌, Option, Some, None, option_and_then, option_map, unwrap_or, is_some, if◌then◌else◌}
 use Rattle.toml.specs.Data.{Data, Items, no_items, item, Members, no_members, member, get_member, as_integer, as_str, as_array}
 
 -- the items of an array in order
@@ -36,8 +36,6 @@ items_at key ms = unwrap_or (option_and_then list_in (get_member key ms)) []
 abbrev pub has : List ℕ → Members → Bool
 has key ms = is_some (get_member key ms)
 
--- each of them, or None where one is None
-abbrev pub all_some : {A : Type 0} → List (Option A) → Option (List A)
-all_some [] = Some []
-all_some (None ∷ os) = None
-all_some (Some x ∷ os) = option_map (λ xs. x ∷ xs) (all_some os)
+-- the whole number at a key, and this one where the key is missing
+abbrev pub natural_or : ℕ → List ℕ → Members → Option ℕ
+natural_or default key ms = if has key ms then natural_at key ms else Some default

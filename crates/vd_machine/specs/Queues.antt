@@ -1,48 +1,52 @@
 -- The queues and their chains.
-use Rattle.std.specs.Prelude.{◌+◌, Bool, false, ◌&&◌, ◌==◌, nat_le, List, [], ◌∷◌, length, map, codes, Option, option_and_then, option_map}
-use Rattle.std.specs.List.{list_all, list_any}
+use Rattle.std.specs.Prelude.{ℕ, ◌+◌, Bool, false, ◌&&◌, ◌==◌, nat_le, if◌then◌else◌, List, [], length, map, codes, Option, option_and_then, option_map, is_some}
+use Rattle.std.specs.List.{list_all, list_any, sum_by}
+use Rattle.std.specs.Option.{option_map_or}
 use Rattle.toml.specs.Data.{Data, Members, as_str}
 use Rattle.vd_model.specs.declared.chain.Piece.{Piece}
+use Rattle.vd_model.specs.declared.features.Features.{Features}
 use Rattle.vd_model.specs.declared.record.Run.{Run}
 use Rattle.vd_model.specs.declared.record.Script.{Script}
-use Rattle.vd_text.specs.Grammar.{piece}
-use Rattle.vd_machine.specs.Lookup.{items_at, list_in, all_some}
+use Rattle.vd_text.specs.Grammar.{all_some, run, run_within, is_lawful}
+use Rattle.vd_machine.specs.Lookup.{items_at, list_in}
 use Rattle.vd_machine.specs.declared.regions.Region.{Region}
 
--- one chain of one piece
-abbrev pub run : Piece → Run
-run p = record { count = 1; chain = p ∷ [] }
+-- the value is a text that writes a chain, the readable pieces first
+abbrev pub writes_chain : Data → Bool
+writes_chain d = option_map_or (λ t. is_some (run t)) (as_str d) false
+
+abbrev pub queue_writes_chains : Data → Bool
+queue_writes_chains d = option_map_or (list_all writes_chain) (list_in d) false
+
+-- each chain text has a meaning
+unfoldable pub all_write_chains : Members → Bool
+all_write_chains ms = list_all queue_writes_chains (items_at (codes "queues") ms)
+
+-- how many pieces a chain may have beside the limit of 16: the ring's size, and with tables no fewer (VIRTIO 1.2, 2.7.5.3)
+abbrev pub most_pieces : Features → ℕ → ℕ
+most_pieces f size = if f.indirect then 16 else size
 
 -- what a data queue offers
 abbrev pub script : List Run → Script
 script rs = record { runs = rs; commands = [] }
 
--- the run that a text writes: one piece
-abbrev pub run_of : Data → Option Run
-run_of d = option_map run (option_and_then piece (as_str d))
+-- the run that a text writes, where its chain has at most so many pieces and no more bytes than a chain may have
+abbrev pub run_of : ℕ → Data → Option Run
+run_of most d = option_and_then (run_within most) (as_str d)
 
-abbrev pub script_of : Data → Option Script
-script_of d = option_map script (option_and_then (λ ds. all_some (map run_of ds)) (list_in d))
+abbrev pub script_of : ℕ → Data → Option Script
+script_of most d = option_map script (option_and_then (λ ds. all_some (map (run_of most) ds)) (list_in d))
 
--- the queues, where each text writes a run
-unfoldable pub queues_of : Members → Option (List Script)
-queues_of ms = all_some (map script_of (items_at (codes "queues") ms))
+-- the queues in file order, where each text writes such a run
+unfoldable pub scripts_of : ℕ → Members → Option (List Script)
+scripts_of most ms = all_some (map (script_of most) (items_at (codes "queues") ms))
 
--- one piece of at least one byte
-abbrev pub is_single : List Piece → Bool
-is_single [] = false
-is_single (p ∷ []) = nat_le 1 p.len
-is_single (p ∷ q ∷ ps) = false
+-- no command, and lawful runs
+abbrev pub is_script : ℕ → Script → Bool
+is_script most q = (length q.commands == 0) && list_all (is_lawful most) q.runs
 
-abbrev pub is_run : Run → Bool
-is_run r = (r.count == 1) && is_single r.chain
-
--- no command, and each run one chain of one piece
-abbrev pub is_script : Script → Bool
-is_script q = (length q.commands == 0) && list_all is_run q.runs
-
-abbrev pub are_scripts : List Script → Bool
-are_scripts qs = list_all is_script qs
+abbrev pub are_scripts : ℕ → List Script → Bool
+are_scripts most qs = list_all (is_script most) qs
 
 -- the region holds each byte of the piece
 abbrev pub holds : Piece → Region → Bool
@@ -61,10 +65,13 @@ script_lies_in rs q = list_all (run_lies_in rs) q.runs
 abbrev pub all_lie : List Region → List Script → Bool
 all_lie rs qs = list_all (script_lies_in rs) qs
 
+abbrev pub chains_of : Script → ℕ
+chains_of q = sum_by (λ (r : Run). r.count) q.runs
+
 -- at most 200,000 chains
 abbrev pub is_short : Script → Bool
-is_short q = nat_le (length q.runs) 200000
+is_short q = nat_le (chains_of q) 200000
 
--- one queue, of at most 200,000 chains
+-- one queue at least and one at most, and no more chains in one queue and in all than may be
 abbrev pub few : List Script → Bool
-few qs = (length qs == 1) && list_all is_short qs
+few qs = (nat_le 1 (length qs) && nat_le (length qs) 1) && (list_all is_short qs && nat_le (sum_by chains_of qs) 400000)

@@ -1,17 +1,26 @@
 -- The regions of the guest's memory.
-use Rattle.std.specs.Prelude.{ℕ, ◌+◌, Bool, ◌&&◌, ◌==◌, nat_le, if◌then◌else◌, List, length, map, codes, Option, Some, None, option_and_then}
+use Rattle.std.specs.Prelude.{ℕ, ◌+◌, Bool, true, ◌&&◌, ◌||◌, nat_le, if◌then◌else◌, List, [], ◌∷◌, length, map, codes, Option, Some, None, option_and_then}
 use Rattle.std.specs.List.{list_all}
 use Rattle.toml.specs.Data.{Data, Members, as_table}
-use Rattle.vd_machine.specs.Lookup.{natural_at, items_at, all_some}
+use Rattle.vd_text.specs.Grammar.{all_some}
+use Rattle.vd_machine.specs.Lookup.{natural_at, items_at}
 use Rattle.vd_machine.specs.declared.regions.Region.{Region}
 
 -- at least one byte, and an end of at most 2 ^ 63
 abbrev pub is_region : Region → Bool
 is_region r = nat_le 1 r.size && nat_le (r.addr + r.size) 0x8000_0000_0000_0000
 
--- there is one region, and it is lawful
+-- the two have no address in common
+abbrev pub are_apart : Region → Region → Bool
+are_apart r s = nat_le (r.addr + r.size) s.addr || nat_le (s.addr + s.size) r.addr
+
+abbrev pub all_apart : List Region → Bool
+all_apart [] = true
+all_apart (r ∷ rs) = list_all (are_apart r) rs && all_apart rs
+
+-- at most 64 regions, each of them lawful, no two that overlap
 abbrev pub are_regions : List Region → Bool
-are_regions rs = (length rs == 1) && list_all is_region rs
+are_regions rs = nat_le (length rs) 64 && (list_all is_region rs && all_apart rs)
 
 abbrev pub region_at : Option ℕ → Option ℕ → Option Region
 region_at None size = None

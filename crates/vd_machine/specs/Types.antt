@@ -27,8 +27,18 @@ abbrev pub queue_is_typed : Data → Bool
 queue_is_typed d = option_map_or (list_all is_text) (list_in d) false
 
 abbrev pub file_is_typed : Members → Bool
-file_is_typed ms = ((is_text_at (codes "layout") ms && is_number_at (codes "size") ms) && is_list_at (codes "regions") ms) && is_list_at (codes "queues") ms
+file_is_typed ms = ((((is_text_at (codes "layout") ms && is_number_at (codes "size") ms) && is_list_at (codes "features") ms)
+    && is_number_at (codes "window") ms) && is_list_at (codes "regions") ms) && is_list_at (codes "queues") ms
+
+abbrev pub features_are_typed : Members → Bool
+features_are_typed ms = list_all is_text (items_at (codes "features") ms)
+
+abbrev pub regions_are_typed : Members → Bool
+regions_are_typed ms = list_all region_is_typed (items_at (codes "regions") ms)
+
+abbrev pub queues_are_typed : Members → Bool
+queues_are_typed ms = list_all queue_is_typed (items_at (codes "queues") ms)
 
 -- each value has its type
 unfoldable pub typed : Members → Bool
-typed ms = (file_is_typed ms && list_all region_is_typed (items_at (codes "regions") ms)) && list_all queue_is_typed (items_at (codes "queues") ms)
+typed ms = ((file_is_typed ms && features_are_typed ms) && regions_are_typed ms) && queues_are_typed ms

@@ -12,7 +12,12 @@ use toml::{Table, Value};
 fn is_file_key(key: &str) -> bool
     ensures { result ≡ is_file_key key.now }
 {
-    key == "layout" || key == "size" || key == "regions" || key == "queues"
+    key == "layout"
+        || key == "size"
+        || key == "features"
+        || key == "window"
+        || key == "regions"
+        || key == "queues"
 }
 
 fn is_region_key(key: &str) -> bool

@@ -2,6 +2,7 @@
 #![tactic(auto)]
 
 mod keys;
+mod limits;
 mod lookup;
 mod machine;
 mod queues;
@@ -10,7 +11,7 @@ mod regions;
 mod rings;
 mod types;
 
-pub use machine::{Machine, MachineFault, ReadRefusal};
+pub use machine::{Machine, MachineFault, ReadRefusal, Switch, To};
 pub use regions::Region;
 
 #[cfg(test)]

@@ -2,7 +2,7 @@
 ghost use Rattle.std.specs.Prelude.{◌≡◌, option_map, option_copied, map};
 ghost use Rattle.toml.specs.Data.{get_member};
 ghost use Rattle.toml.specs.View.{view, table_view};
-ghost use Rattle.vd_machine.specs.Lookup.{natural, natural_at, text_at, items_at, list_in, has};
+ghost use Rattle.vd_machine.specs.Lookup.{natural, natural_at, text_at, natural_or, items_at, list_in, has};
 
 use toml::{Table, Value};
 
@@ -39,6 +39,17 @@ pub fn natural_at(table: &Table, key: &str) -> Option<u64>
             None => None,
             Some(number) => natural(number),
         },
+    }
+}
+
+/// That number, and `default` where the key is missing.
+pub fn natural_or(default: u64, table: &Table, key: &str) -> Option<u64>
+    ensures { result ≡ natural_or default key.now (table_view table.now) }
+{
+    if has(table, key) {
+        natural_at(table, key)
+    } else {
+        Some(default)
     }
 }
 

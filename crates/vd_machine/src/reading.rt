@@ -1,17 +1,20 @@
-//! Reading a machine file.
-ghost use Rattle.std.specs.Prelude.{◌≡◌, IfOk, IfErr, Some, None, find};
+//! Reading a machine file: its rules in their order.
+ghost use Rattle.std.specs.Prelude.{◌≡◌, IfOk, IfErr, OnOk, Some, None, Err, true, false};
 ghost use Rattle.toml.specs.View.{table_view};
-ghost use Rattle.vd_machine.specs.File.{document, first, means, plan, view, breaks, rules, Refuses, ReadsTable};
-ghost use Rattle.vd_machine.specs.declared.machine.ReadRefusal.TheVariants.{Memory};
+ghost use Rattle.vd_machine.specs.File.{document, first, means, plan, view, first_in, Refuses, ReadsTable};
+ghost use Rattle.vd_machine.specs.declared.machine.ReadRefusal.TheVariants.{Fault, Memory};
 
 use crate::keys::{complete, known_keys};
-use crate::queues::{all_lie, few, queues_of};
+use crate::limits::{all_lie, few, most_pieces};
+use crate::queues::{all_write_chains, scripts_of};
 use crate::regions::regions_of;
-use crate::rings::{is_split, size_of};
+use crate::rings::{features_of, layout_of, size_of, window_of};
 use crate::types::typed;
 use crate::{Machine, MachineFault, ReadRefusal};
+use sqlite_items::Items;
 use std::alloc::{AllocError, Global};
 use toml::Table;
+use vd_model::Mode;
 
 impl From<AllocError> for ReadRefusal {
     ghost from_gives = { λ _ e. e ≡ Memory };
@@ -28,51 +31,83 @@ fn table_of(alloc: Global, bytes: &[u8]) -> Result<Table, ReadRefusal>
     ensures err { IfErr result (ReadsTable (document bytes.now)) }
 {
     match std::str::from_utf8(bytes) {
-        Err(_) => Err(ReadRefusal::Fault(MachineFault::M0)),
+        Err(_) => Err(ReadRefusal::Fault(MachineFault::M1)),
         Ok(text) => match toml::table_from_str(alloc, text) {
             Ok(table) => Ok(table),
             Err(e) => {
                 if e.is_memory() {
                     Err(ReadRefusal::Memory)
                 } else {
-                    Err(ReadRefusal::Fault(MachineFault::M0))
+                    Err(ReadRefusal::Fault(MachineFault::M1))
                 }
             }
         },
     }
 }
 
-/// The machine that the document means.
-#[tactic(auto, unfolding(crate::specs::File::is_of_form, crate::specs::File::plan))]
-fn machine_of(alloc: Global, file: &Table) -> Result<Machine, ReadRefusal>
-    ensures ok { IfOk result (λ m. (find (breaks (table_view file.now)) rules ≡ None) × (plan (table_view file.now) ≡ view m)) }
-    ensures err { IfErr result (Refuses (find (breaks (table_view file.now)) rules)) }
+/// Ok where the rule is kept.
+fn keep(kept: bool, rule: MachineFault) -> Result<(), ReadRefusal>
+    ensures ok { OnOk result (kept ≡ true) }
+    ensures err { IfErr result (λ e. (kept ≡ false) × (e ≡ Fault rule)) }
 {
-    if !known_keys(file) || !complete(file) || !typed(file) || !is_split(file) {
-        return Err(ReadRefusal::Fault(MachineFault::M0));
+    if kept {
+        Ok(())
+    } else {
+        Err(ReadRefusal::Fault(rule))
     }
-    let Some(size) = size_of(file) else {
-        return Err(ReadRefusal::Fault(MachineFault::M0));
-    };
-    let Some(regions) = regions_of(alloc, file)? else {
-        return Err(ReadRefusal::Fault(MachineFault::M0));
-    };
-    let Some(queues) = queues_of(alloc, file)? else {
-        return Err(ReadRefusal::Fault(MachineFault::M0));
-    };
-    if !all_lie(regions.as_slice(), queues.as_slice()) || !few(queues.as_slice()) {
-        return Err(ReadRefusal::Fault(MachineFault::M0));
+}
+
+/// The value of a rule that is kept.
+fn given<T: Drop>(value: Option<T>, rule: MachineFault) -> Result<T, ReadRefusal>
+    ensures ok { IfOk result (λ x. value ≡ Some x) }
+    ensures err { IfErr result (λ e. (value ≡ None) × (e ≡ Fault rule)) }
+{
+    match value {
+        Some(x) => Ok(x),
+        None => Err(ReadRefusal::Fault(rule)),
     }
+}
+
+/// The machine that the document means, or the first rule that it breaks.
+#[tactic(auto, unfolding(crate::specs::File::first_in, crate::specs::File::plan))]
+fn machine_of(alloc: Global, file: &Table) -> Result<Machine, ReadRefusal>
+    ensures ok { IfOk result (λ m. (first_in (table_view file.now) ≡ None) × (plan (table_view file.now) ≡ view m)) }
+    ensures err { IfErr result (Refuses (first_in (table_view file.now))) }
+{
+    keep(known_keys(file), MachineFault::M2)?;
+    keep(complete(file), MachineFault::M3)?;
+    keep(typed(file), MachineFault::M4)?;
+    let packed = given(layout_of(file), MachineFault::M5)?;
+    let size = given(size_of(packed, file), MachineFault::M6)?;
+    let features = given(features_of(file), MachineFault::M7)?;
+    let window = given(window_of(file), MachineFault::M8)?;
+    let regions = given(regions_of(alloc, file)?, MachineFault::M9)?;
+    keep(all_write_chains(file), MachineFault::M10)?;
+    let most = most_pieces(features, size);
+    let queues = given(scripts_of(alloc, most, file)?, MachineFault::M11)?;
+    keep(
+        all_lie(regions.as_slice(), queues.as_slice()),
+        MachineFault::M12,
+    )?;
+    keep(few(queues.as_slice()), MachineFault::M13)?;
     Ok(Machine {
+        packed,
         size,
+        features,
+        window,
+        start: Mode::Pass,
+        first: 4096,
+        last: 281474976710655,
         regions,
         queues,
+        switches: Items::new(alloc),
+        control: None,
     })
 }
 
 impl Machine {
-    /// The machine that the bytes mean, or the rule that they break.
-    #[tactic(auto, unfolding(crate::specs::File::first, crate::specs::File::means))]
+    /// The machine that the bytes mean, or the first rule that they break.
+    #[tactic(auto, unfolding(crate::specs::File::first, crate::specs::File::means, crate::specs::File::first_in))]
     pub fn read(alloc: Global, bytes: &[u8]) -> Result<Machine, ReadRefusal>
         ensures ok { IfOk result (λ m. (first bytes.now ≡ None) × (means bytes.now ≡ Some (view m))) }
         ensures err { IfErr result (Refuses (first bytes.now)) }

@@ -2,8 +2,8 @@
 ghost use Rattle.std.specs.Prelude.{◌≡◌, map, option_map, IfOk, IfSome, true};
 ghost use Rattle.std.specs.List.{list_all};
 ghost use Rattle.toml.specs.View.{view, table_view};
-ghost use Rattle.vd_machine.specs.Lookup.{all_some};
-ghost use Rattle.vd_machine.specs.Regions.{is_region, are_regions, region_of, regions_of};
+ghost use Rattle.vd_text.specs.Grammar.{all_some};
+ghost use Rattle.vd_machine.specs.Regions.{is_region, are_apart, all_apart, are_regions, region_of, regions_of};
 
 use crate::lookup::{items_at, natural_at};
 use sqlite_items::Items;
@@ -44,10 +44,34 @@ fn each_is_region(regions: &[Region]) -> bool
     regions.iter().all(|region| is_region(region))
 }
 
+fn are_apart(first: &Region, second: &Region) -> bool
+    ensures { result ≡ are_apart first.now second.now }
+{
+    first.addr as u128 + first.size as u128 <= second.addr as u128
+        || second.addr as u128 + second.size as u128 <= first.addr as u128
+}
+
+fn is_apart_from(first: &Region, others: &[Region]) -> bool
+    ensures { result ≡ list_all (are_apart first.now) others.now }
+{
+    others.iter().all(|other| are_apart(first, other))
+}
+
+fn all_apart(regions: &[Region]) -> bool
+    ensures { result ≡ all_apart regions.now }
+{
+    for i in 0..regions.len() {
+        if !is_apart_from(&regions[i], &regions[i + 1..]) {
+            return false;
+        }
+    }
+    true
+}
+
 fn are_regions(regions: &[Region]) -> bool
     ensures { result ≡ are_regions regions.now }
 {
-    regions.len() == 1 && each_is_region(regions)
+    regions.len() <= 64 && each_is_region(regions) && all_apart(regions)
 }
 
 fn all_regions(alloc: Global, values: &[Value]) -> Result<Option<Vec<Region>>, AllocError>

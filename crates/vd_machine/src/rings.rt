@@ -1,41 +1,137 @@
-//! The layout and the size of the rings.
-ghost use Rattle.std.specs.Prelude.{◌≡◌, ◌<◌, ◌^◌, IfSome, true};
+//! The layout and the size of the rings, their features and the window.
+ghost use Rattle.std.specs.Prelude.{◌≡◌, ◌<◌, ◌^◌, codes, count_by, map, IfSome, true, false};
 ghost use Rattle.std.specs.Bool.{OnTrue};
-ghost use Rattle.toml.specs.View.{table_view};
-ghost use Rattle.vd_machine.specs.Rings.{is_split, is_power, size_of};
+ghost use Rattle.std.specs.List.{list_all};
+ghost use Rattle.toml.specs.View.{view, table_view};
+ghost use Rattle.vd_machine.specs.Rings.{layout, layout_of, is_power, is_lawful_size, size_of, is_named, times_of, are_features, features_in, features_of, is_window, window_of};
 
-use crate::lookup::{natural_at, text_at};
-use toml::Table;
+use crate::lookup::{items_at, natural_at, natural_or, text_at};
+use toml::{Table, Value};
+use vd_model::Features;
 
-/// Whether the layout is split.
-#[tactic(auto, unfolding(crate::specs::Rings::is_split))]
-pub fn is_split(file: &Table) -> bool
-    ensures { result ≡ is_split (table_view file.now) }
+fn layout(text: &str) -> Option<bool>
+    ensures value { result ≡ layout text.now }
+    ensures split { IfSome result (λ packed. packed ≡ false) }
+{
+    if text == "split" { Some(false) } else { None }
+}
+
+/// Whether the layout is packed, or `None` where there is no such layout.
+#[tactic(auto, unfolding(crate::specs::Rings::layout_of))]
+pub fn layout_of(file: &Table) -> Option<bool>
+    ensures value { result ≡ layout_of (table_view file.now) }
+    ensures split { IfSome result (λ packed. packed ≡ false) }
 {
     match text_at(file, "layout") {
-        None => false,
-        Some(text) => text == "split",
+        None => None,
+        Some(text) => layout(text),
     }
 }
 
-fn is_power(size: u64) -> bool
-    ensures value { result ≡ is_power size }
+fn is_lawful_size(packed: bool, size: u64) -> bool
+    ensures value { result ≡ is_lawful_size packed size }
     ensures small { OnTrue result (size < 2 ^ 32) }
 {
-    matches!(size, 2 | 4 | 8 | 16 | 32 | 64 | 128 | 256 | 512 | 1024)
+    if packed {
+        2 <= size && size <= 1024
+    } else {
+        matches!(size, 2 | 4 | 8 | 16 | 32 | 64 | 128 | 256 | 512 | 1024)
+    }
 }
 
-/// The size, where it is lawful.
+/// The size, where a ring of the layout may have it.
 #[tactic(auto, unfolding(crate::specs::Rings::size_of))]
-pub fn size_of(file: &Table) -> Option<u32>
-    ensures value { result ≡ size_of (table_view file.now) }
-    ensures lawful { IfSome result (λ n. is_power n ≡ true) }
+pub fn size_of(packed: bool, file: &Table) -> Option<u32>
+    ensures value { result ≡ size_of packed (table_view file.now) }
+    ensures lawful { IfSome result (λ n. is_lawful_size packed n ≡ true) }
 {
     match natural_at(file, "size") {
         None => None,
         Some(size) => {
-            if is_power(size) {
+            if is_lawful_size(packed, size) {
                 Some(size as u32)
+            } else {
+                None
+            }
+        }
+    }
+}
+
+fn is_named(name: &str, value: &Value) -> bool
+    ensures { result ≡ is_named name.now (view value.now) }
+{
+    match value.as_str() {
+        None => false,
+        Some(text) => text == name,
+    }
+}
+
+fn all_named(name: &str, values: &[Value]) -> bool
+    ensures { result ≡ list_all (λ v. is_named name.now (view v)) values.now }
+{
+    values.iter().all(|value| is_named(name, value))
+}
+
+fn each_is_named(name: &str, values: &[Value]) -> bool
+    ensures { result ≡ list_all (is_named name.now) (map view values.now) }
+{
+    all_named(name, values)
+}
+
+fn count_named(name: &str, values: &[Value]) -> usize
+    ensures { result ≡ count_by (λ v. is_named name.now (view v)) values.now }
+{
+    values.iter().filter(|value| is_named(name, value)).count()
+}
+
+fn times_of(name: &str, values: &[Value]) -> usize
+    ensures { result ≡ times_of name.now (map view values.now) }
+{
+    count_named(name, values)
+}
+
+fn are_features(values: &[Value]) -> bool
+    ensures { result ≡ are_features (map view values.now) }
+{
+    each_is_named("in_order", values) && times_of("in_order", values) <= 1
+}
+
+fn features_in(values: &[Value]) -> Features
+    ensures { result ≡ features_in (map view values.now) }
+{
+    Features {
+        indirect: false,
+        event_idx: false,
+        in_order: 1 <= times_of("in_order", values),
+    }
+}
+
+/// The features, where each is one that there is and none stands twice.
+#[tactic(auto, unfolding(crate::specs::Rings::features_of))]
+pub fn features_of(file: &Table) -> Option<Features>
+    ensures value { result ≡ features_of (table_view file.now) }
+    ensures direct { IfSome result (λ f. f.indirect ≡ false) }
+    ensures eventless { IfSome result (λ f. f.event_idx ≡ false) }
+{
+    let values = items_at(file, "features");
+    if are_features(values) {
+        Some(features_in(values))
+    } else {
+        None
+    }
+}
+
+/// The window, where it is 1 to 64.
+#[tactic(auto, unfolding(crate::specs::Rings::window_of))]
+pub fn window_of(file: &Table) -> Option<u32>
+    ensures value { result ≡ window_of (table_view file.now) }
+    ensures lawful { IfSome result (λ n. is_window n ≡ true) }
+{
+    match natural_or(1, file, "window") {
+        None => None,
+        Some(window) => {
+            if 1 <= window && window <= 64 {
+                Some(window as u32)
             } else {
                 None
             }

@@ -1,231 +1,382 @@
 use super::*;
 use std::alloc::{AllocError, Global};
 use std::test::*;
-
-const SPLIT: &str = "layout = \"split\"\n";
-
-const SIZE: &str = "size = 4\n";
-
-const REGIONS: &str = "regions = [{ addr = 4096, size = 8192 }]\n";
-
-const QUEUES: &str = "queues = [[\"r4096+10\"]]\n";
+use vd_model::{Mode, Piece};
 
 const VALID: &str =
-    "layout = \"split\"\nsize = 4\nregions = [{ addr = 4096, size = 8192 }]\nqueues = [[\"r4096+10\"]]\n";
+    "layout = \"split\"\nsize = 4\nregions = [{ addr = 4096, size = 8192 }]\nqueues = [[\"r4096+10 w8192+64\"]]\n";
 
-/// The file of these four lines.
-fn file(alloc: Global, lines: [&str; 4]) -> Result<String, AllocError> {
-    let mut text = String::new(alloc);
-    for line in lines {
-        text.push_str(line)?;
+#[test]
+fn reads_what_a_file_orders(rt: HostRuntime) -> Result<(), Fail> {
+    let text =
+        "layout = \"split\"\nsize = 1024\nfeatures = [\"in_order\"]\nwindow = 64\nregions = [{ addr = 9223372036854775807, size = 1 }, { addr = 0, size = 8192 }]\nqueues = [[\"3*r4096+10 w4096+64\", \"w09223372036854775807+01\", \"w09223372036854775807+01\"]]";
+    let machine = Machine::read(rt.alloc(), text.as_bytes())?;
+    assert!(rt; !machine.packed && machine.size == 1024 && machine.window == 64);
+    assert!(rt;
+        !machine.features.indirect && !machine.features.event_idx && machine.features.in_order
+    );
+    assert!(rt;
+        machine.start == Mode::Pass && machine.first == 4096 && machine.last == 281474976710655
+    );
+    assert!(rt; machine.switches.is_empty() && machine.control.is_none());
+    let regions = [
+        Region {
+            addr: 9223372036854775807,
+            size: 1,
+        },
+        Region {
+            addr: 0,
+            size: 8192,
+        },
+    ];
+    assert!(rt; machine.regions.as_slice() == regions.as_slice());
+    assert_eq!(rt; machine.queues.len(), 1);
+    let script = machine.queues.get(0).ok_or("no queue")?;
+    assert!(rt; script.commands.is_empty());
+    let runs = script.runs.as_slice();
+    assert_eq!(rt; runs.len(), 3);
+    let last = Piece {
+        addr: 9223372036854775807,
+        len: 1,
+        write: true,
+    };
+    let pieces = [
+        Piece {
+            addr: 4096,
+            len: 10,
+            write: false,
+        },
+        Piece {
+            addr: 4096,
+            len: 64,
+            write: true,
+        },
+    ];
+    assert!(rt; runs[0].count == 3 && runs[0].chain.pieces() == pieces.as_slice());
+    assert!(rt; runs[1].count == 1 && runs[1].chain.pieces() == [last].as_slice());
+    assert!(rt; runs[2].count == 1 && runs[2].chain.pieces() == [last].as_slice());
+    Ok(())
+}
+
+#[test]
+fn has_its_defaults(rt: HostRuntime) -> Result<(), Fail> {
+    let machine = Machine::read(rt.alloc(), VALID.as_bytes())?;
+    assert!(rt; machine.window == 1 && !machine.features.in_order);
+    Ok(())
+}
+
+#[test]
+fn tells_the_document_its_keys_and_its_types(rt: HostRuntime) -> Result<(), Fail> {
+    for (text, want) in [
+        (
+            "layout = \"split\"\nsize = 4\nregions = [{ addr = 4096, size = 8192 }]\nqueues = [[\"r4096+10 w8192+64\"]]\n",
+            None,
+        ),
+        (
+            "queues = [[\"r4096+10 w8192+64\"]]\nregions = [{ addr = 4096, size = 8192 }]\nsize = 4\nlayout = \"split\"\n",
+            None,
+        ),
+        (
+            "layout = \"split\"\nsize = 4\nregions = [{ addr = 4096, size = 8192 }]\nqueues = [[]]",
+            None,
+        ),
+        (
+            "layout = \"split\"\nsize = 4\nregions = []\nqueues = [[]]",
+            None,
+        ),
+        (
+            "layout = \"split\"\nsize = 2\nregions = [{ addr = 4096, size = 8192 }]\nqueues = [[\"r4096+10 w8192+64\"]]\n",
+            None,
+        ),
+        (
+            "layout = \"split\"\nsize = 4\nregions = [{ addr = 4096, size = 8192 }]\nqueues = [[\"r12287+1\"]]",
+            None,
+        ),
+        (
+            "layout = \"split\"\nsize = 4\nregions = [{ addr = 4096, size = 8192 }]\nqueues = [[\"200000*r4096+1\"]]",
+            None,
+        ),
+        (
+            "layout = \"split\"\nsize = 4\nregions = [{ addr = 4096, size = 8192 }]\nqueues = [[\"199999*r4096+1\", \"r4096+1\"]]",
+            None,
+        ),
+        ("layout = \n", Some(MachineFault::M1)),
+        (
+            "layout = \"split\"\nsize = 4\nsize = 4\n",
+            Some(MachineFault::M1),
+        ),
+        (
+            "layout = \"split\"\nsize = 4\nregions = [{ addr = 0, size = 9223372036854775808 }]\nqueues = [[\"r4096+10 w8192+64\"]]\n",
+            Some(MachineFault::M1),
+        ),
+        (
+            "layout = \"split\"\nsize = 3\ncolour = 1\nregions = [{ addr = 4096, size = 8192 }]\n",
+            Some(MachineFault::M2),
+        ),
+        (
+            "layout = \"split\"\nsize = 4\nstart = \"still\"\nregions = [{ addr = 4096, size = 8192 }]\nqueues = [[\"r4096+10 w8192+64\"]]\n",
+            Some(MachineFault::M2),
+        ),
+        (
+            "layout = \"split\"\nsize = 4\niova_first = 1\nregions = [{ addr = 4096, size = 8192 }]\nqueues = [[\"r4096+10 w8192+64\"]]\n",
+            Some(MachineFault::M2),
+        ),
+        (
+            "layout = \"split\"\nsize = 4\niova_last = 8191\nregions = [{ addr = 4096, size = 8192 }]\nqueues = [[\"r4096+10 w8192+64\"]]\n",
+            Some(MachineFault::M2),
+        ),
+        (
+            "layout = \"split\"\nsize = 4\nswitches = []\nregions = [{ addr = 4096, size = 8192 }]\nqueues = [[\"r4096+10 w8192+64\"]]\n",
+            Some(MachineFault::M2),
+        ),
+        (
+            "layout = \"split\"\nsize = 4\ncommands = [\"0101\"]\nregions = [{ addr = 4096, size = 8192 }]\nqueues = [[\"r4096+10 w8192+64\"]]\n",
+            Some(MachineFault::M2),
+        ),
+        (
+            "layout = \"split\"\nsize = 4\nregions = [{ addr = 4096, size = 8192, colour = 1 }]\nqueues = [[\"r4096+10 w8192+64\"]]\n",
+            Some(MachineFault::M2),
+        ),
+        (
+            "layout = \"split\"\nregions = [{ addr = 4096, size = 8192 }]\nqueues = [[\"r4096+10 w8192+64\"]]\n",
+            Some(MachineFault::M3),
+        ),
+        (
+            "size = 4\nregions = [{ addr = 4096, size = 8192 }]\nqueues = [[\"r4096+10 w8192+64\"]]\n",
+            Some(MachineFault::M3),
+        ),
+        (
+            "layout = \"split\"\nsize = 4\nqueues = [[\"r4096+10 w8192+64\"]]\n",
+            Some(MachineFault::M3),
+        ),
+        (
+            "layout = \"split\"\nsize = 4\nregions = [{ addr = 4096, size = 8192 }]\n",
+            Some(MachineFault::M3),
+        ),
+        (
+            "layout = \"split\"\nsize = 4\nregions = [1, { addr = 4096 }]\nqueues = [[\"r4096+10 w8192+64\"]]\n",
+            Some(MachineFault::M3),
+        ),
+        (
+            "layout = \"split\"\nsize = \"4\"\nregions = [{ addr = 4096, size = 8192 }]\nqueues = [[\"r4096+10 w8192+64\"]]\n",
+            Some(MachineFault::M4),
+        ),
+        (
+            "layout = 1\nsize = 4\nregions = [{ addr = 4096, size = 8192 }]\nqueues = [[\"r4096+10 w8192+64\"]]\n",
+            Some(MachineFault::M4),
+        ),
+        (
+            "layout = \"split\"\nsize = 4\nfeatures = [1]\nregions = [{ addr = 4096, size = 8192 }]\nqueues = [[\"r4096+10 w8192+64\"]]\n",
+            Some(MachineFault::M4),
+        ),
+        (
+            "layout = \"split\"\nsize = 4\nwindow = \"1\"\nregions = [{ addr = 4096, size = 8192 }]\nqueues = [[\"r4096+10 w8192+64\"]]\n",
+            Some(MachineFault::M4),
+        ),
+        (
+            "layout = \"split\"\nsize = 4\nregions = { addr = 4096, size = 8192 }\nqueues = [[\"r4096+10 w8192+64\"]]\n",
+            Some(MachineFault::M4),
+        ),
+        (
+            "layout = \"split\"\nsize = 4\nregions = [{ addr = 4096, size = 1.5 }]\nqueues = [[\"r4096+10 w8192+64\"]]\n",
+            Some(MachineFault::M4),
+        ),
+        (
+            "layout = \"split\"\nsize = 4\nregions = [{ addr = 4096, size = 8192 }]\nqueues = [\"r4096+10\"]",
+            Some(MachineFault::M4),
+        ),
+        (
+            "layout = \"split\"\nsize = 4\nregions = [{ addr = 4096, size = 8192 }]\nqueues = [[1]]",
+            Some(MachineFault::M4),
+        ),
+        (
+            "layout = \"round\"\nsize = 3\nregions = [{ addr = 4096, size = 8192 }]\nqueues = [[\"r4096+10 w8192+64\"]]\n",
+            Some(MachineFault::M5),
+        ),
+        (
+            "layout = \"packed\"\nsize = 4\nregions = [{ addr = 4096, size = 8192 }]\nqueues = [[\"r4096+10 w8192+64\"]]\n",
+            Some(MachineFault::M5),
+        ),
+    ] {
+        let refusal = Machine::read(rt.alloc(), text.as_bytes()).err();
+        assert!(rt;
+            refusal == want.map(|rule| ReadRefusal::Fault(rule)),
+            "at {text}"
+        );
     }
+    assert!(rt;
+        Machine::read(rt.alloc(), b"\xff").err() == Some(ReadRefusal::Fault(MachineFault::M1))
+    );
+    Ok(())
+}
+
+#[test]
+fn names_the_first_broken_rule(rt: HostRuntime) -> Result<(), Fail> {
+    for (text, rule) in [
+        (
+            "layout = \"split\"\nsize = 3\nfeatures = [\"fast\"]\nregions = [{ addr = 4096, size = 8192 }]\nqueues = [[\"r4096+10 w8192+64\"]]\n",
+            MachineFault::M6,
+        ),
+        (
+            "layout = \"split\"\nsize = 1\nregions = [{ addr = 4096, size = 8192 }]\nqueues = [[\"r4096+10 w8192+64\"]]\n",
+            MachineFault::M6,
+        ),
+        (
+            "layout = \"split\"\nsize = 2048\nregions = [{ addr = 4096, size = 8192 }]\nqueues = [[\"r4096+10 w8192+64\"]]\n",
+            MachineFault::M6,
+        ),
+        (
+            "layout = \"split\"\nsize = -4\nregions = [{ addr = 4096, size = 8192 }]\nqueues = [[\"r4096+10 w8192+64\"]]\n",
+            MachineFault::M6,
+        ),
+        (
+            "layout = \"split\"\nsize = 4\nfeatures = [\"fast\"]\nwindow = 0\nregions = [{ addr = 4096, size = 8192 }]\nqueues = [[\"r4096+10 w8192+64\"]]\n",
+            MachineFault::M7,
+        ),
+        (
+            "layout = \"split\"\nsize = 4\nfeatures = [\"in_order\", \"in_order\"]\nregions = [{ addr = 4096, size = 8192 }]\nqueues = [[\"r4096+10 w8192+64\"]]\n",
+            MachineFault::M7,
+        ),
+        (
+            "layout = \"split\"\nsize = 4\nfeatures = [\"indirect\"]\nregions = [{ addr = 4096, size = 8192 }]\nqueues = [[\"r4096+10 w8192+64\"]]\n",
+            MachineFault::M7,
+        ),
+        (
+            "layout = \"split\"\nsize = 4\nfeatures = [\"in_order\", \"event_idx\"]\nregions = [{ addr = 4096, size = 8192 }]\nqueues = [[\"r4096+10 w8192+64\"]]\n",
+            MachineFault::M7,
+        ),
+        (
+            "layout = \"split\"\nsize = 4\nwindow = 0\nregions = [{ addr = 4096, size = 0 }]\nqueues = [[\"r4096+10 w8192+64\"]]\n",
+            MachineFault::M8,
+        ),
+        (
+            "layout = \"split\"\nsize = 4\nwindow = 65\nregions = [{ addr = 4096, size = 8192 }]\nqueues = [[\"r4096+10 w8192+64\"]]\n",
+            MachineFault::M8,
+        ),
+        (
+            "layout = \"split\"\nsize = 4\nregions = [{ addr = 4096, size = 0 }]\nqueues = [[\"\"]]",
+            MachineFault::M9,
+        ),
+        (
+            "layout = \"split\"\nsize = 4\nregions = [{ addr = 4096, size = 8192 }, { addr = 4096, size = 8192 }]\nqueues = [[\"r4096+10 w8192+64\"]]\n",
+            MachineFault::M9,
+        ),
+        (
+            "layout = \"split\"\nsize = 4\nregions = [{ addr = 4096, size = 8192 }, { addr = 0, size = 4097 }]\nqueues = [[\"r4096+10 w8192+64\"]]\n",
+            MachineFault::M9,
+        ),
+        (
+            "layout = \"split\"\nsize = 4\nregions = [{ addr = -4096, size = 8192 }]\nqueues = [[\"r4096+10 w8192+64\"]]\n",
+            MachineFault::M9,
+        ),
+        (
+            "layout = \"split\"\nsize = 4\nregions = [{ addr = 2, size = 9223372036854775807 }]\nqueues = [[\"r4096+10 w8192+64\"]]\n",
+            MachineFault::M9,
+        ),
+        (
+            "layout = \"split\"\nsize = 4\nregions = [{ addr = 4096, size = 8192 }]\nqueues = [[\"w8192+64 r4096+10\"]]",
+            MachineFault::M10,
+        ),
+        (
+            "layout = \"split\"\nsize = 4\nregions = [{ addr = 4096, size = 8192 }]\nqueues = [[\"r4096+0\"]]",
+            MachineFault::M10,
+        ),
+        (
+            "layout = \"split\"\nsize = 4\nregions = [{ addr = 4096, size = 8192 }]\nqueues = [[\"\"]]",
+            MachineFault::M10,
+        ),
+        (
+            "layout = \"split\"\nsize = 4\nregions = [{ addr = 4096, size = 8192 }]\nqueues = [[\"r4096+4294967295 r4096+1\"], [\"2*\"]]",
+            MachineFault::M10,
+        ),
+        (
+            "layout = \"split\"\nsize = 4\nregions = [{ addr = 4096, size = 8192 }]\nqueues = [[\"r4096+1 r4096+1 r4096+1 r4096+1 r4096+1\"]]",
+            MachineFault::M11,
+        ),
+        (
+            "layout = \"split\"\nsize = 4\nregions = [{ addr = 4096, size = 8192 }]\nqueues = [[\"r1+1\", \"r4096+4294967295 r4096+1\"]]",
+            MachineFault::M11,
+        ),
+        (
+            "layout = \"split\"\nsize = 32\nqueues = [[\"r4096+1 r4096+1 r4096+1 r4096+1 r4096+1 r4096+1 r4096+1 r4096+1 r4096+1 r4096+1 r4096+1 r4096+1 r4096+1 r4096+1 r4096+1 r4096+1 r4096+1\"]]\nregions = [{ addr = 4096, size = 8192 }]\n",
+            MachineFault::M11,
+        ),
+        (
+            "layout = \"split\"\nsize = 4\nregions = [{ addr = 4096, size = 8192 }]\nqueues = [[\"r12287+2\"]]",
+            MachineFault::M12,
+        ),
+        (
+            "layout = \"split\"\nsize = 4\nregions = [{ addr = 4096, size = 8192 }, { addr = 12288, size = 8192 }]\nqueues = [[\"r12287+2\"]]",
+            MachineFault::M12,
+        ),
+        (
+            "layout = \"split\"\nsize = 4\nregions = []\nqueues = [[\"200001*r4096+10\"]]",
+            MachineFault::M12,
+        ),
+        (
+            "layout = \"split\"\nsize = 4\nregions = [{ addr = 4096, size = 8192 }]\nqueues = []",
+            MachineFault::M13,
+        ),
+        (
+            "layout = \"split\"\nsize = 4\nregions = [{ addr = 4096, size = 8192 }]\nqueues = [[], []]",
+            MachineFault::M13,
+        ),
+        (
+            "layout = \"split\"\nsize = 4\nregions = [{ addr = 4096, size = 8192 }]\nqueues = [[\"200001*r4096+1\"]]",
+            MachineFault::M13,
+        ),
+        (
+            "layout = \"split\"\nsize = 4\nregions = [{ addr = 4096, size = 8192 }]\nqueues = [[\"4294967295*r4096+1\", \"4294967295*r4096+1\"]]",
+            MachineFault::M13,
+        ),
+    ] {
+        let refusal = Machine::read(rt.alloc(), text.as_bytes()).err();
+        assert!(rt; refusal == Some(ReadRefusal::Fault(rule)), "at {text}");
+    }
+    Ok(())
+}
+
+/// A file of so many regions of one byte, with a byte between each two.
+fn regions(alloc: Global, count: u32) -> Result<String, AllocError> {
+    let mut text = String::from_str(
+        alloc,
+        "layout = \"split\"\nsize = 4\nqueues = [[]]\nregions = [",
+    )?;
+    for k in 0..count {
+        let region = format!(in alloc; "{{ addr = {}, size = 1 }}, ", u64::from(k) * 2)?;
+        text.push_str(region.as_str())?;
+    }
+    text.push_str("]\n")?;
     Ok(text)
 }
 
 #[test]
-fn reads_a_file_of_the_form(rt: HostRuntime) -> Result<(), Fail> {
-    let text =
-        "layout = \"split\"\nsize = 1024\nregions = [{ addr = 9223372036854775807, size = 1 }]\nqueues = [[\"r9223372036854775807+1\", \"w09223372036854775807+01\", \"r9223372036854775807+1\"]]";
-    let machine = Machine::read(rt.alloc(), text.as_bytes())?;
-    assert_eq!(rt; machine.size, 1024);
-    assert!(rt;
-        machine.regions.as_slice()
-            == [Region {
-                addr: 9223372036854775807,
-                size: 1
-            }]
-            .as_slice()
-    );
-    assert_eq!(rt; machine.queues.len(), 1);
-    let script = machine.queues.get(0).ok_or("no queue")?;
-    assert!(rt; script.commands.is_empty());
-    assert_eq!(rt; script.runs.len(), 3);
-    for (run, write) in script
-        .runs
-        .as_slice()
-        .iter()
-        .zip([false, true, false].as_slice())
-    {
-        assert_eq!(rt; run.count, 1);
-        let pieces = run.chain.pieces();
-        assert_eq!(rt; pieces.len(), 1);
-        assert!(rt;
-            pieces[0].addr == 9223372036854775807 && pieces[0].len == 1 && pieces[0].write == *write
-        );
-    }
-    Ok(())
-}
-
-#[test]
-fn refuses_what_is_not_of_the_form(rt: HostRuntime) -> Result<(), Fail> {
+fn takes_64_regions_and_no_more(rt: HostRuntime) -> Result<(), Fail> {
     let alloc = rt.alloc();
-    for (lines, fits) in [
-        ([SPLIT, SIZE, REGIONS, QUEUES], true),
-        ([QUEUES, REGIONS, SIZE, SPLIT], true),
-        ([SPLIT, SIZE, REGIONS, "queues = [[]]"], true),
-        ([SPLIT, "size = 2\n", REGIONS, QUEUES], true),
-        ([SPLIT, SIZE, REGIONS, "queues = [[\"r12287+1\"]]"], true),
-        (
-            [
-                SPLIT,
-                SIZE,
-                "regions = [{ size = 9223372036854775807, addr = 1 }]\n",
-                "queues = [[\"w1+4294967295\"]]",
-            ],
-            true,
-        ),
-        (["layout = \n", "", "", ""], false),
-        (["layout = \"packed\"\n", SIZE, REGIONS, QUEUES], false),
-        (["layout = \"round\"\n", SIZE, REGIONS, QUEUES], false),
-        (["", SIZE, REGIONS, QUEUES], false),
-        ([SPLIT, "", REGIONS, QUEUES], false),
-        ([SPLIT, SIZE, "", QUEUES], false),
-        ([SPLIT, SIZE, REGIONS, ""], false),
-        (
-            ["layout = \"split\"\ncolour = 1\n", SIZE, REGIONS, QUEUES],
-            false,
-        ),
-        (
-            ["layout = \"split\"\nwindow = 1\n", SIZE, REGIONS, QUEUES],
-            false,
-        ),
-        (["layout = 1\n", SIZE, REGIONS, QUEUES], false),
-        ([SPLIT, "size = \"4\"\n", REGIONS, QUEUES], false),
-        ([SPLIT, "size = 1\n", REGIONS, QUEUES], false),
-        ([SPLIT, "size = 3\n", REGIONS, QUEUES], false),
-        ([SPLIT, "size = 2048\n", REGIONS, QUEUES], false),
-        ([SPLIT, "size = -4\n", REGIONS, QUEUES], false),
-        ([SPLIT, "size = 4\nsize = 4\n", REGIONS, QUEUES], false),
-        ([SPLIT, SIZE, "regions = []\n", "queues = [[]]"], false),
-        (
-            [SPLIT, SIZE, "regions = [{ addr = 4096 }]\n", QUEUES],
-            false,
-        ),
-        (
-            [
-                SPLIT,
-                SIZE,
-                "regions = [{ addr = 4096, size = 8192, colour = 1 }]\n",
-                QUEUES,
-            ],
-            false,
-        ),
-        (
-            [
-                SPLIT,
-                SIZE,
-                "regions = [{ addr = 4096, size = 8192 }, { addr = 20480, size = 1 }]\n",
-                QUEUES,
-            ],
-            false,
-        ),
-        (
-            [
-                SPLIT,
-                SIZE,
-                "regions = [{ addr = 4096, size = 0 }]\n",
-                "queues = [[]]",
-            ],
-            false,
-        ),
-        (
-            [
-                SPLIT,
-                SIZE,
-                "regions = [{ addr = -4096, size = 8192 }]\n",
-                QUEUES,
-            ],
-            false,
-        ),
-        (
-            [
-                SPLIT,
-                SIZE,
-                "regions = [{ addr = 2, size = 9223372036854775807 }]\n",
-                QUEUES,
-            ],
-            false,
-        ),
-        (
-            [
-                SPLIT,
-                SIZE,
-                "regions = [{ addr = 0, size = 9223372036854775808 }]\n",
-                QUEUES,
-            ],
-            false,
-        ),
-        (
-            [
-                SPLIT,
-                SIZE,
-                "regions = { addr = 4096, size = 8192 }\n",
-                QUEUES,
-            ],
-            false,
-        ),
-        ([SPLIT, SIZE, REGIONS, "queues = []"], false),
-        ([SPLIT, SIZE, REGIONS, "queues = [\"r4096+10\"]"], false),
-        ([SPLIT, SIZE, REGIONS, "queues = [[1]]"], false),
-        (
-            [SPLIT, SIZE, REGIONS, "queues = [[\"r4096+10\"], []]"],
-            false,
-        ),
-        (
-            [SPLIT, SIZE, REGIONS, "queues = [[\"r4096+10 w8192+64\"]]"],
-            false,
-        ),
-        ([SPLIT, SIZE, REGIONS, "queues = [[\"1*r4096+10\"]]"], false),
-        (
-            [SPLIT, SIZE, REGIONS, "queues = [[\"r4096+10\", \"\"]]"],
-            false,
-        ),
-        ([SPLIT, SIZE, REGIONS, "queues = [[\"r4096+0\"]]"], false),
-        ([SPLIT, SIZE, REGIONS, "queues = [[\"r12287+2\"]]"], false),
-        ([SPLIT, SIZE, REGIONS, "queues = [[\"r4095+2\"]]"], false),
-        (
-            [
-                SPLIT,
-                SIZE,
-                REGIONS,
-                "queues = [[\"r18446744073709555712+10\"]]",
-            ],
-            false,
-        ),
-        (
-            [
-                SPLIT,
-                SIZE,
-                REGIONS,
-                "queues = [[\"r000000000000000004096+10\"]]",
-            ],
-            false,
-        ),
-    ] {
-        let text = file(alloc, lines)?;
-        let refusal = Machine::read(alloc, text.as_bytes()).err();
-        let want = if fits {
-            None
-        } else {
-            Some(ReadRefusal::Fault(MachineFault::M0))
-        };
-        assert!(rt; refusal == want, "at {text}");
-    }
-    assert!(rt; Machine::read(alloc, b"\xff").err() == Some(ReadRefusal::Fault(MachineFault::M0)));
+    let most = regions(alloc, 64)?;
+    assert_eq!(rt; Machine::read(alloc, most.as_bytes())?.regions.len(), 64);
+    let more = regions(alloc, 65)?;
+    assert!(rt;
+        Machine::read(alloc, more.as_bytes()).err() == Some(ReadRefusal::Fault(MachineFault::M9))
+    );
     Ok(())
 }
 
 #[test]
-fn reads_a_file_cut_short_only_behind_its_last_bracket(rt: HostRuntime) -> Result<(), Fail> {
+fn reads_a_file_cut_anywhere_or_names_a_rule(rt: HostRuntime) -> Result<(), Fail> {
     let bytes = VALID.as_bytes();
+    // within a line it is no document, behind a line what is missing is named
     for end in 0..bytes.len() {
         let refusal = Machine::read(rt.alloc(), &bytes[..end]).err();
-        let want = if end + 1 < bytes.len() {
-            Some(ReadRefusal::Fault(MachineFault::M0))
-        } else {
-            None
+        let rule = match end {
+            0 | 16 | 17 | 25 | 26 | 66 | 67 => Some(MachineFault::M3),
+            99 => None,
+            _ => Some(MachineFault::M1),
         };
-        assert!(rt; refusal == want, "cut at {end}");
+        assert!(rt;
+            refusal == rule.map(|rule| ReadRefusal::Fault(rule)),
+            "cut at {end}"
+        );
     }
     Ok(())
 }

@@ -3,7 +3,7 @@ ghost use Rattle.std.specs.Prelude.{◌≡◌, codes};
 ghost use Rattle.std.specs.List.{list_all};
 ghost use Rattle.toml.specs.View.{view, table_view};
 ghost use Rattle.vd_machine.specs.Lookup.{items_at};
-ghost use Rattle.vd_machine.specs.Types.{typed, is_number_at, is_text_at, is_list_at, file_is_typed, region_is_typed, is_text, queue_is_typed};
+ghost use Rattle.vd_machine.specs.Types.{typed, is_number_at, is_text_at, is_list_at, file_is_typed, features_are_typed, region_is_typed, regions_are_typed, is_text, queue_is_typed, queues_are_typed};
 
 use crate::lookup::{items_at, list_in, member};
 use toml::{Table, Value};
@@ -51,7 +51,7 @@ fn all_are_typed(regions: &[Value]) -> bool
 }
 
 fn regions_are_typed(file: &Table) -> bool
-    ensures { result ≡ list_all region_is_typed (items_at (codes "regions") (table_view file.now)) }
+    ensures { result ≡ regions_are_typed (table_view file.now) }
 {
     all_are_typed(items_at(file, "regions"))
 }
@@ -78,9 +78,15 @@ fn all_queues_are_typed(queues: &[Value]) -> bool
 }
 
 fn queues_are_typed(file: &Table) -> bool
-    ensures { result ≡ list_all queue_is_typed (items_at (codes "queues") (table_view file.now)) }
+    ensures { result ≡ queues_are_typed (table_view file.now) }
 {
     all_queues_are_typed(items_at(file, "queues"))
+}
+
+fn features_are_typed(file: &Table) -> bool
+    ensures { result ≡ features_are_typed (table_view file.now) }
+{
+    all_are_texts(items_at(file, "features"))
 }
 
 fn file_is_typed(file: &Table) -> bool
@@ -88,6 +94,8 @@ fn file_is_typed(file: &Table) -> bool
 {
     is_text_at(file, "layout")
         && is_number_at(file, "size")
+        && is_list_at(file, "features")
+        && is_number_at(file, "window")
         && is_list_at(file, "regions")
         && is_list_at(file, "queues")
 }
@@ -97,5 +105,8 @@ fn file_is_typed(file: &Table) -> bool
 pub fn typed(file: &Table) -> bool
     ensures { result ≡ typed (table_view file.now) }
 {
-    file_is_typed(file) && regions_are_typed(file) && queues_are_typed(file)
+    file_is_typed(file)
+        && features_are_typed(file)
+        && regions_are_typed(file)
+        && queues_are_typed(file)
 }

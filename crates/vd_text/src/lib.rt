@@ -1,9 +1,10 @@
 //! Chain texts: the words by which a machine file writes buffer chains.
 #![tactic(auto)]
 
+mod chains;
 mod reading;
 
-pub use reading::read_piece;
+pub use chains::{is_chain, read_run};
 
 #[cfg(test)]
 mod tests;

@@ -1,11 +1,11 @@
 //! Reading a piece: `rADDR+LEN` for the device to read, `wADDR+LEN` for it to write.
-ghost use Rattle.std.specs.Prelude.{◌≡◌, ◌<◌, ◌≤◌, ◌^◌, option_map};
+ghost use Rattle.std.specs.Prelude.{◌≡◌, ◌<◌, ◌≤◌, ◌^◌, option_map, IfSome};
 ghost use Rattle.vd_text.specs.Grammar.{cut, number, address, positive, range, piece};
 
 use vd_model::Piece;
 
 /// What stands before and after the first such byte.
-fn cut_at(bytes: &[u8], at: u8) -> Option<(&[u8], &[u8])>
+pub fn cut_at(bytes: &[u8], at: u8) -> Option<(&[u8], &[u8])>
     ensures { option_map (λ p. (p.0.now, p.1.now)) result ≡ cut at bytes.now }
 {
     for i in 0..bytes.len() {
@@ -17,8 +17,9 @@ fn cut_at(bytes: &[u8], at: u8) -> Option<(&[u8], &[u8])>
 }
 
 /// The number that 1 to 20 digits write, where it is at least `low` and at most `most`.
-fn number_in(digits: &[u8], low: u64, most: u64) -> Option<u64>
-    ensures { result ≡ number low most digits.now }
+pub fn number_in(digits: &[u8], low: u64, most: u64) -> Option<u64>
+    ensures value { result ≡ number low most digits.now }
+    ensures least { IfSome result (λ n. low ≤ n) }
 {
     if digits.is_empty() || digits.len() > 20 {
         return None;
@@ -38,7 +39,8 @@ fn number_in(digits: &[u8], low: u64, most: u64) -> Option<u64>
 }
 
 fn range_in(write: bool, text: &[u8]) -> Option<Piece>
-    ensures { result ≡ range write (cut 43 text.now) }
+    ensures value { result ≡ range write (cut 43 text.now) }
+    ensures some { IfSome result (λ p. 1 ≤ p.len) }
 {
     let (front, back) = cut_at(text, b'+')?;
     let addr = number_in(front, 0, 0x7fff_ffff_ffff_ffff)?;
@@ -52,7 +54,8 @@ fn range_in(write: bool, text: &[u8]) -> Option<Piece>
 
 /// The piece that the text writes, or `None` where it writes none.
 pub fn read_piece(text: &[u8]) -> Option<Piece>
-    ensures { result ≡ piece text.now }
+    ensures value { result ≡ piece text.now }
+    ensures some { IfSome result (λ p. 1 ≤ p.len) }
 {
     match text {
         [b'r', rest @ ..] => range_in(false, rest),

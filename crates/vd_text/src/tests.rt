@@ -1,4 +1,5 @@
 use super::*;
+use crate::reading::read_piece;
 use std::test::*;
 use vd_model::Piece;
 
@@ -37,5 +38,72 @@ fn reads_pieces_and_nothing_else(rt: HostRuntime) -> Result<(), Fail> {
     ] {
         assert!(rt; read_piece(text.as_bytes()) == want, "at {text}");
     }
+    Ok(())
+}
+
+const SIXTEEN: &str =
+    "r1+1 r2+1 r3+1 r4+1 r5+1 r6+1 r7+1 r8+1 r9+1 r10+1 r11+1 r12+1 r13+1 r14+1 w15+1 w16+1";
+
+const SEVENTEEN: &str =
+    "r1+1 r2+1 r3+1 r4+1 r5+1 r6+1 r7+1 r8+1 r9+1 r10+1 r11+1 r12+1 r13+1 r14+1 w15+1 w16+1 w17+1";
+
+const MOST_BYTES: &str = "r4096+4294967294 w8192+1";
+
+const TOO_MANY_BYTES: &str = "r4096+4294967294 w8192+2";
+
+#[test]
+fn tells_meaning_from_bounds(rt: HostRuntime) -> Result<(), Fail> {
+    // the text, whether it writes a chain, and of a run of at most 4 and of at most 16 pieces the count
+    for (text, chain, of_four, of_sixteen) in [
+        ("r4096+10", true, Some(1), Some(1)),
+        ("r4096+10 w8192+64", true, Some(1), Some(1)),
+        ("1*r4096+10", true, Some(1), Some(1)),
+        ("4294967295*w1+1", true, Some(4294967295), Some(4294967295)),
+        ("00000000000000000007*r1+1", true, Some(7), Some(7)),
+        ("r1+1 r1+1 w1+1 w1+1", true, Some(1), Some(1)),
+        ("r1+1 r1+1 r1+1 w1+1 w1+1", true, None, Some(1)),
+        (SIXTEEN, true, None, Some(1)),
+        (SEVENTEEN, true, None, None),
+        (MOST_BYTES, true, Some(1), Some(1)),
+        (TOO_MANY_BYTES, true, None, None),
+        ("w8192+64 r4096+10", false, None, None),
+        ("r1+1 w1+1 r1+1", false, None, None),
+        ("", false, None, None),
+        ("2*", false, None, None),
+        ("*r1+1", false, None, None),
+        ("0*r1+1", false, None, None),
+        ("4294967296*r1+1", false, None, None),
+        ("000000000000000000007*r1+1", false, None, None),
+        ("2*2*r1+1", false, None, None),
+        ("2 *r1+1", false, None, None),
+        (" r1+1", false, None, None),
+        ("r1+1 ", false, None, None),
+        ("r1+1  w1+1", false, None, None),
+        ("r1+1\tw1+1", false, None, None),
+    ] {
+        assert!(rt; is_chain(text.as_bytes()) == chain, "at {text}");
+        assert!(rt;
+            read_run(text.as_bytes(), 4).map(|run| run.count) == of_four,
+            "four at {text}"
+        );
+        assert!(rt;
+            read_run(text.as_bytes(), 16).map(|run| run.count) == of_sixteen,
+            "sixteen at {text}"
+        );
+    }
+    let run = read_run(b"3*r4096+10 w8192+64", 2).ok_or("no run")?;
+    let want = [
+        Piece {
+            addr: 4096,
+            len: 10,
+            write: false,
+        },
+        Piece {
+            addr: 8192,
+            len: 64,
+            write: true,
+        },
+    ];
+    assert!(rt; run.count == 3 && run.chain.pieces() == want.as_slice());
     Ok(())
 }

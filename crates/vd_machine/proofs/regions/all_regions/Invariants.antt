@@ -1,6 +1,6 @@
 use Rattle.std.proofs.Common.{◌≡◌, map}
 use Rattle.toml.specs.View.{view}
-use Rattle.vd_machine.specs.Lookup.{all_some}
+use Rattle.vd_text.specs.Grammar.{all_some}
 use Rattle.vd_machine.specs.Regions.{region_of}
 use Rattle.vd_machine.proofs.Collect.{after, read_rest}
 use Rattle.vd_machine.proofs.regions.all_regions.Given as goal
