@@ -1,8 +1,8 @@
 -- What a device's acts do to what it has taken, runs and gave.
-use Rattle.std.proofs.Common.{◌≡◌, ◌≢◌, ℕ, ◌+◌, ◌<◌, ◌≤◌, Bool, true, List, [], ◌∷◌, ◌++◌, length, take, Some, if◌then◌else◌, nat_lt, slice_index, refl, sym, ap, ◌∙◌, subst, arith, inl, inr}
+use Rattle.std.proofs.Common.{◌≡◌, ◌≢◌, ℕ, zero, suc, ◌+◌, ◌<◌, ◌≤◌, Bool, true, List, [], ◌∷◌, ◌++◌, length, take, Some, if◌then◌else◌, nat_lt, slice_index, refl, sym, ap, ◌∙◌, subst, arith, inl, inr}
 use Rattle.std.specs.List.{sum_by}
 use Rattle.std.proofs.lemmas.Bool.{cases_eq, cases_lt, eq-eqb, ne_eqb}
-use Rattle.std.proofs.lemmas.List.{length_push, length-map, take_more, take-append-le, take-take, length-take-le, get_or_append_left, get_or_push, get_or-take}
+use Rattle.std.proofs.lemmas.List.{length_push, length-map, take_more, take_all, map-append, take-append-le, take-take, length-take-le, get_or_append_left, get_or_push, get_or-take}
 use Rattle.std.proofs.lemmas.List.Sums.{sum_by_push}
 use Rattle.vd_model.specs.declared.chain.Piece.{Piece}
 use Rattle.vd_model.specs.Chains.{needs}
@@ -11,7 +11,8 @@ use Rattle.vd_ring.specs.declared.frame.Used.{Used}
 use Rattle.vd_ring.specs.declared.driver.DriverDone.{DriverDone}
 use Rattle.vd_ring.specs.declared.device.DeviceDone.{DeviceDone}
 use Rattle.vd_ring.specs.declared.device.DeviceDone.TheVariants.{Take, Give, Rest, StoreAck, LoadCommand}
-use Rattle.vd_ring.specs.History.{offers, collects, takes, gives, heads, running, running_size, open_at, open_size, head, taken_head, chain, chain_at, numbers, occurs, used_at, last_used, entry, batch, IsWhole}
+use Rattle.vd_ring.specs.History.{offers, collects, takes, gives, heads, running, running_size, open_at, open_size, head, taken_head, chain, chain_at, numbers, occurs, used_at, last_used, entry, batch, upto, IsWhole}
+use Rattle.vd_ring.specs.Account.{Ordered}
 use Rattle.vd_ring.specs.Places.{Places}
 use Rattle.vd_ring.specs.Lists.{Lists, entry_at}
 use Rattle.vd_ring.proofs.Counts.{one, one_same, one_other, one_below, one_above, one_small, one_more, occurs_push, occurs_without, length_without, occurs_rest, sum_same, sum_within}
@@ -170,3 +171,27 @@ lists_commanded f o s k i x l = record { taken = l.taken; some = l.some; as_many
 
 pub lists_acked : (f : Frame) (o : List DriverDone) (s : List DeviceDone) (h x : ℕ) → Lists f o s → Lists f o (StoreAck h x ∷ s)
 lists_acked f o s h x l = record { taken = l.taken; some = l.some; as_many = l.as_many; heads = l.heads; given = l.given; count = l.count; entries = l.entries; collected = l.collected; fewer = l.fewer; cut = l.cut; in_order = l.in_order }
+
+-- ---- the order under IN_ORDER
+
+numbers_upto : (us : List Used) (n : ℕ) → n ≤ length us → ((j : ℕ) → j < length us → (used_at us j).number ≡ j) → numbers (take n us) ≡ upto n
+numbers_upto us zero h each = refl
+numbers_upto us (suc n) h each =
+    let below : n < length us = omega arith in
+    let longer : n + 1 ≡ suc n = omega arith in
+    subst (λ (m : ℕ). numbers (take m us) ≡ upto n ++ n ∷ []) longer
+    (ap numbers (take_more us n (entry 0 0) below)
+    ∙ map-append (λ (u : Used). u.number) (take n us) (used_at us n ∷ [])
+    ∙ ap (λ (l : List ℕ). l ++ (used_at us n).number ∷ []) (numbers_upto us n (omega arith) each)
+    ∙ ap (λ (k : ℕ). upto n ++ k ∷ []) (each n below))
+
+pub ordered_given : (f : Frame) (o : List DriverDone) (s : List DeviceDone) → Lists f o s → f.features.in_order ≡ true → Ordered (gives s)
+ordered_given f o s l on = ap numbers (sym (take_all (length (gives s)) (gives s) (omega arith))) ∙ numbers_upto (gives s) (length (gives s)) (omega arith) (l.in_order on)
+
+pub ordered_collected : (f : Frame) (o : List DriverDone) (s : List DeviceDone) → Lists f o s → f.features.in_order ≡ true → Ordered (collects o)
+ordered_collected f o s l on = ap numbers l.collected ∙ numbers_upto (gives s) (length (collects o)) l.fewer (l.in_order on)
+
+pub last_push : (us : List Used) (u : Used) → last_used (us ++ u ∷ []) ≡ u
+last_push [] u = refl
+last_push (v ∷ []) u = refl
+last_push (v ∷ w ∷ us) u = last_push (w ∷ us) u

@@ -1,2 +1,10 @@
 pub mod Areas
 pub mod Descriptors
+pub mod Direct
+pub mod DeviceParts
+pub mod DeviceTakes
+pub mod DeviceGives
+pub mod DeviceControl
+pub mod DeviceViews
+pub mod DeviceKeeping
+pub mod DeviceAnswers

@@ -2,3 +2,4 @@ pub mod SplitWords
 pub mod SplitDriver
 pub mod SplitDevice
 pub mod SplitRing
+pub mod SplitDeviceLaws
