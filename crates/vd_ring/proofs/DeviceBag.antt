@@ -12,14 +12,11 @@ use Rattle.vd_ring.specs.History.{offers, takes, gives, running, numbers, occurs
 use Rattle.vd_ring.specs.Bag.{State, offered, returned, state, back, IsBegin, IsEnd, IsTakeBack, Stands}
 use Rattle.vd_ring.specs.Bag.{running as runs_now}
 use Rattle.vd_ring.specs.Lists.{Lists}
+use Rattle.vd_ring.specs.Steps.{StandsFor}
 use Rattle.vd_ring.proofs.Counts.{one_same, one_above}
 use Rattle.vd_ring.proofs.HeldPlaces.{numbers_push}
 use Rattle.vd_ring.proofs.ListSteps.{number_in, given_below}
 use Rattle.vd_ring.proofs.DeviceLists.{running_below}
-
--- the bag stands for what both sides did
-abbrev pub StandsFor : List DriverDone → List DeviceDone → List State → Type 0
-StandsFor o s b = Stands (length (offers o)) (length (takes s)) (gives s) b
 
 pub begin_step : (f : Frame) (o : List DriverDone) (s : List DeviceDone) (c : List Piece) (h : ℕ) (b : List State) → Lists f o s → length (takes s) < length (offers o) → StandsFor o s b
     → (b2 : List State) × IsBegin (length (takes s)) b b2 × StandsFor o (Take c h ∷ s) b2

@@ -172,24 +172,7 @@ lists_commanded f o s k i x l = record { taken = l.taken; some = l.some; as_many
 pub lists_acked : (f : Frame) (o : List DriverDone) (s : List DeviceDone) (h x : ℕ) → Lists f o s → Lists f o (StoreAck h x ∷ s)
 lists_acked f o s h x l = record { taken = l.taken; some = l.some; as_many = l.as_many; heads = l.heads; given = l.given; count = l.count; entries = l.entries; collected = l.collected; fewer = l.fewer; cut = l.cut; in_order = l.in_order }
 
--- ---- the order under IN_ORDER
-
-numbers_upto : (us : List Used) (n : ℕ) → n ≤ length us → ((j : ℕ) → j < length us → (used_at us j).number ≡ j) → numbers (take n us) ≡ upto n
-numbers_upto us zero h each = refl
-numbers_upto us (suc n) h each =
-    let below : n < length us = omega arith in
-    let longer : n + 1 ≡ suc n = omega arith in
-    subst (λ (m : ℕ). numbers (take m us) ≡ upto n ++ n ∷ []) longer
-    (ap numbers (take_more us n (entry 0 0) below)
-    ∙ map-append (λ (u : Used). u.number) (take n us) (used_at us n ∷ [])
-    ∙ ap (λ (l : List ℕ). l ++ (used_at us n).number ∷ []) (numbers_upto us n (omega arith) each)
-    ∙ ap (λ (k : ℕ). upto n ++ k ∷ []) (each n below))
-
-pub ordered_given : (f : Frame) (o : List DriverDone) (s : List DeviceDone) → Lists f o s → f.features.in_order ≡ true → Ordered (gives s)
-ordered_given f o s l on = ap numbers (sym (take_all (length (gives s)) (gives s) (omega arith))) ∙ numbers_upto (gives s) (length (gives s)) (omega arith) (l.in_order on)
-
-pub ordered_collected : (f : Frame) (o : List DriverDone) (s : List DeviceDone) → Lists f o s → f.features.in_order ≡ true → Ordered (collects o)
-ordered_collected f o s l on = ap numbers l.collected ∙ numbers_upto (gives s) (length (collects o)) l.fewer (l.in_order on)
+-- ---- the last entry
 
 pub last_push : (us : List Used) (u : Used) → last_used (us ++ u ∷ []) ≡ u
 last_push [] u = refl

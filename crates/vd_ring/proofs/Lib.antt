@@ -1,7 +1,9 @@
 pub mod Counts
 pub mod HeldPlaces
+pub mod HeldInside
 pub mod ListSteps
 pub mod ControlSteps
+pub mod DriverBag
 pub mod DeviceLists
 pub mod DeviceAcks
 pub mod DeviceBag

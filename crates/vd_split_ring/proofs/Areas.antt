@@ -1,12 +1,12 @@
--- Who stores which word, and lanes of the driver area.
-use Rattle.std.proofs.Common.{◌≡◌, ◌≢◌, ℕ, ◌+◌, ◌*◌, ◌/◌, ◌%◌, ◌<◌, ◌≤◌, true, false, List, length, if◌then◌else◌, slice_index, slice_set, sym, ap, ◌∙◌, subst, arith, inl, inr}
+-- Who stores which word, and lanes of the areas.
+use Rattle.std.proofs.Common.{◌≡◌, ◌≢◌, ℕ, ◌+◌, ◌*◌, ◌/◌, ◌%◌, ◌<◌, ◌≤◌, Bool, true, false, List, length, if◌then◌else◌, slice_index, slice_set, sym, ap, ◌∙◌, subst, arith, inl, inr}
 use Rattle.std.proofs.lemmas.Bool.{cases_eq, cases_lt, eqb-true, eqb-false, false_from_ne_true}
 use Rattle.std.proofs.lemmas.List.{get_or-set_other, get_or-set_same, length-set}
 use Rattle.std.proofs.lemmas.Nat.{div-add-mod', mul-le, mod_below}
 use Rattle.vd_bits.specs.Lanes.{lane16, set_lane16, lane32, set_lane32}
 use Rattle.vd_bits.proofs.LaneLaws.{set_same, set_other, high_low, low_high, low_lane, lane_high}
 use Rattle.vd_ring.specs.declared.frame.Frame.{Frame}
-use Rattle.vd_split_ring.specs.SplitWords.{IsDrivers, IsDevices, width, avail_from, used_from, tables_from, commands_from, acks_from, kick_at, lane_at, lane_word, with_lane, entry_lane}
+use Rattle.vd_split_ring.specs.SplitWords.{IsDrivers, IsDevices, command_word, ack_word, shown_from, width, avail_from, used_from, tables_from, commands_from, acks_from, kick_at, lane_at, lane_word, with_lane, entry_lane}
 use Rattle.vd_split_ring.specs.SplitWords.{shows}
 use Rattle.vd_split_ring.specs.SplitRing.{Words}
 
@@ -157,3 +157,27 @@ high_after_index ws p q v h small = elim (cases_eq q p) [
 -- a word elsewhere
 pub other_word : (ws : List ℕ) (p q x : ℕ) (g : ℕ → ℕ) → q ≢ p → g (slice_index (slice_set ws p x) q) ≡ g (slice_index ws q)
 other_word ws p q x g ne = ap g (get_or-set_other ws p q x 0 ne)
+
+-- ---- where a word past the driver area leaves the lanes
+
+pub lane_past : (f : Frame) (ws : List ℕ) (p x j : ℕ) → used_from f ≤ p → j ≤ f.size + 2 → lane_at f (slice_set ws p x) j ≡ lane_at f ws j
+lane_past f ws p x j past h = ap (λ w. lane16 w (j % 4)) (get_or-set_other ws p (lane_word f j) x 0 (λ e. omega (arith, lane_inside f j h)))
+
+-- ---- commands and acks
+
+pub acks_follow : (f : Frame) → f.control ≡ true → (acks_from f ≡ commands_from f + 2 * f.size) × (kick_at f ≡ acks_from f + f.size)
+acks_follow f on = (ap (λ (b : Bool). commands_from f + (if b then 2 * f.size else 0)) on, ap (λ (b : Bool). acks_from f + (if b then f.size else 0)) on)
+
+pub commands_apart : (f : Frame) (g h i j : ℕ) → i < 2 → j < 2 → command_word f g + i ≡ command_word f h + j → (g ≡ h) × (i ≡ j)
+commands_apart f g h i j a b e = (omega arith, omega arith)
+
+pub command_drivers : (f : Frame) (h i : ℕ) → f.control ≡ true → h < f.size → i < 2 → IsDrivers f (command_word f h + i)
+command_drivers f h i on low two = inr (inl (omega (arith, areas f), omega (arith, acks_follow f on)))
+
+pub ack_devices : (f : Frame) (h : ℕ) → f.control ≡ true → h < f.size → IsDevices f (ack_word f h)
+ack_devices f h on low = inr (inl (omega arith, omega (arith, acks_follow f on)))
+
+-- ---- what a loaded index means
+
+pub shown_is : (r n g : ℕ) → lane16 r 1 ≡ g % 65536 → n ≤ g → g < n + 65536 → shown_from r n ≡ g
+shown_is r n g lane low near = omega (arith, lane)

@@ -1,6 +1,8 @@
 -- What each answer of the device's step means: the bag step, the used entry given, when nothing is left, order and rest.
-use Rattle.std.proofs.Common.{◌≡◌, ℕ, ◌+◌, ◌%◌, ◌<◌, ◌≤◌, Bool, true, false, List, [], ◌∷◌, ◌++◌, length, if◌then◌else◌, slice_index, slice_set, None, refl, sym, ap, ◌∙◌, subst, arith, inl, inr}
+use Rattle.std.proofs.Common.{◌≡◌, ℕ, ◌+◌, ◌%◌, ◌<◌, ◌≤◌, Bool, true, false, List, [], ◌∷◌, ◌++◌, length, if◌then◌else◌, slice_index, slice_set, Some, refl, sym, ap, ◌∙◌, subst, arith, inl, inr}
+use Rattle.std.specs.List.{Contains}
 use Rattle.std.proofs.lemmas.Bool.{eqb-true, eq-eqb}
+use Rattle.std.proofs.lemmas.List.{append-nil, length_push, get_or_push, get_or-take}
 use Rattle.std.proofs.lemmas.Nat.{mod_below}
 use Rattle.vd_bits.specs.Lanes.{lane16, lane32}
 use Rattle.vd_model.specs.declared.chain.Piece.{Piece}
@@ -8,7 +10,6 @@ use Rattle.vd_words.specs.declared.access.Access.{Access}
 use Rattle.vd_words.specs.declared.access.Access.TheVariants.{Load, Store}
 use Rattle.vd_words.specs.declared.access.Op.{Op}
 use Rattle.vd_words.specs.declared.access.Op.TheVariants as op
-use Rattle.vd_words.specs.Step.{written}
 use Rattle.vd_ring.specs.declared.act.DeviceAct.{DeviceAct}
 use Rattle.vd_ring.specs.declared.act.DeviceAct.TheVariants as act
 use Rattle.vd_ring.specs.declared.frame.Frame.{Frame}
@@ -20,44 +21,56 @@ use Rattle.vd_ring.specs.declared.device.DeviceDone.TheVariants.{Take, Give, Res
 use Rattle.vd_ring.specs.declared.device.DeviceNow.{DeviceNow}
 use Rattle.vd_ring.specs.declared.device.DeviceNow.TheVariants.{Idle, Taking, Giving}
 use Rattle.vd_ring.specs.declared.device.DeviceView.{DeviceView}
-use Rattle.vd_ring.specs.Bag.{State, Stands, IsEnd}
-use Rattle.vd_ring.specs.DeviceSteps.{StepsBag}
-use Rattle.vd_ring.specs.History.{offers, collects, takes, gives, running, taken_head, occurs, given, entry, last_used}
-use Rattle.vd_ring.specs.Lists.{Rested}
-use Rattle.vd_split_ring.specs.SplitWords.{used_from, id_word, len_word, used_id, used_len, used_index, shows, shown_from, is_whole, chain_of}
-use Rattle.vd_split_ring.specs.SplitDevice.{DeviceNextAt, DeviceNext, device_takes, loaded_head, take_act, BeginsRest}
+use Rattle.vd_ring.specs.Bag.{State, Stands}
+use Rattle.vd_ring.specs.DeviceSteps.{Did}
+use Rattle.vd_ring.specs.History.{offers, collects, takes, gives, heads, running, taken_head, head, chain, chain_at, occurs, given, entry, last_used}
+use Rattle.vd_ring.specs.Lists.{Lists, Rested, entry_at}
+use Rattle.vd_ring.specs.Steps.{StandsFor, DeviceBagStep}
+use Rattle.vd_split_ring.specs.SplitWords.{IsLawful, used_from, id_word, len_word, shows, shown_from, is_whole, chain_of}
+use Rattle.vd_split_ring.specs.SplitDevice.{DeviceNextAt, DeviceNext, device_after, device_act, device_takes, loaded_head, BeginsRest}
 use Rattle.vd_split_ring.specs.SplitRing.{Ring, Gives, HasSeen}
-use Rattle.vd_split_ring.specs.SplitDeviceLaws.{device_answer, device_then, StandsFor, DeviceBag, EntryStands, LooksNothing, InOrder, HasRested, IsRest}
+use Rattle.vd_split_ring.specs.SplitDeviceLaws.{device_answer, device_done, DeviceAlone, DeviceBags, IsTaken, IsGiven, LooksNothing, IsResting, HasRested}
 use Rattle.vd_ring.proofs.Counts.{occurs_from}
 use Rattle.vd_ring.proofs.DeviceBag.{begin_step, end_step, take_back_step}
-use Rattle.vd_ring.proofs.DeviceLists.{running_head, entry_new, lists_rested, ordered_given, ordered_collected, last_push}
+use Rattle.vd_ring.proofs.DeviceLists.{running_head, entry_new, lists_rested}
 use Rattle.vd_split_ring.proofs.DeviceTakes.{nothing_left}
 use Rattle.vd_split_ring.proofs.DeviceGives.{given_is, publishes}
 use Rattle.vd_split_ring.proofs.DeviceKeeping.{index_shown, device_keeps}
+use Rattle.vd_split_ring.proofs.DeviceViews.{device_inside, device_frame, device_did}
+
+-- ---- from the view alone
+
+pub alone : (e : DeviceView) (o : Op) (a : Access) → IsLawful e.frame → DeviceNext e o a → DeviceAlone e o a
+alone e o a l h = record { inside = device_inside e o a l h; frame = λ r. device_frame e o a r; did = λ r. device_did e o a r }
 
 -- ---- the bag
 
 -- a bag after a step, from the acts alone
 record Moves (answer : DeviceAct) (in_order : Bool) (o : List DriverDone) (s t : List DeviceDone) (b : List State) : Type 0 where
+  entries : List Used
+  given : gives t ≡ gives s ++ entries
   bag : List State
-  step : StepsBag answer in_order s t b bag
-  stands : Stands (length (offers o)) (length (takes t)) (gives t) bag
+  step : DeviceBagStep in_order entries answer b bag
+  stands : StandsFor o t bag
 
-looks_bag : (in_order : Bool) (o : List DriverDone) (s : List DeviceDone) (v w : DeviceView) (b : List State) (c : Bool) → v.done ≡ s → w.done ≡ s → Stands (length (offers o)) (length (takes s)) (gives s) b
+none_given : (s t : List DeviceDone) → t ≡ s → gives t ≡ gives s ++ []
+none_given s t is = ap gives is ∙ sym (append-nil (gives s))
+
+looks_bag : (in_order : Bool) (o : List DriverDone) (s : List DeviceDone) (v w : DeviceView) (b : List State) (c : Bool) → v.done ≡ s → w.done ≡ s → StandsFor o s b
     → Moves (if c then act.Nothing else act.Moved) in_order o s (if c then v else w).done b
-looks_bag in_order o s v w b true is also st = record { bag = b; step = refl; stands = subst (λ (t : List DeviceDone). Stands (length (offers o)) (length (takes t)) (gives t) b) (sym is) st }
-looks_bag in_order o s v w b false is also st = record { bag = b; step = refl; stands = subst (λ (t : List DeviceDone). Stands (length (offers o)) (length (takes t)) (gives t) b) (sym also) st }
+looks_bag in_order o s v w b true is also st = record { entries = []; given = none_given s v.done is; bag = b; step = refl; stands = subst (λ (t : List DeviceDone). StandsFor o t b) (sym is) st }
+looks_bag in_order o s v w b false is also st = record { entries = []; given = none_given s w.done also; bag = b; step = refl; stands = subst (λ (t : List DeviceDone). StandsFor o t b) (sym also) st }
 
-loads_bag : (ws : List ℕ) (d : DriverView) (e : DeviceView) (g w : ℕ) (ss us : List ℕ) (b : List State) (c : Bool) → Ring ws d (record e { frame = d.frame; doing = Taking (g ∷ w ∷ ss) }) → Stands (length (offers d.done)) (length (takes e.done)) (gives e.done) b
+loads_bag : (ws : List ℕ) (d : DriverView) (e : DeviceView) (g w : ℕ) (ss us : List ℕ) (b : List State) (c : Bool) → Ring ws d (record e { frame = d.frame; doing = Taking (g ∷ w ∷ ss) }) → StandsFor d.done e.done b
     → Moves (if c then act.Taken (length (takes e.done)) (chain_of d.frame us) else act.Moved) d.frame.features.in_order d.done e.done
       (if c then device_takes (record e { frame = d.frame; doing = Taking (g ∷ w ∷ ss) }) g w us else record e { frame = d.frame; doing = Taking (g ∷ w ∷ us) }).done b
 loads_bag ws d e g w ss us b true r st =
     let seen : HasSeen g e.seen (length (takes e.done)) = r.device_doing.0 in
     let begun = begin_step d.frame d.done e.done (chain_of d.frame us) (loaded_head d.frame (length (takes e.done)) w) b r.lists (omega (arith, seen.more, r.device_seen)) st in
-    record { bag = begun.0; step = begun.1; stands = begun.2 }
-loads_bag ws d e g w ss us b false r st = record { bag = b; step = refl; stands = st }
+    record { entries = []; given = none_given e.done e.done refl; bag = begun.0; step = begun.1; stands = begun.2 }
+loads_bag ws d e g w ss us b false r st = record { entries = []; given = none_given e.done e.done refl; bag = b; step = refl; stands = st }
 
-gives_bag : (ws : List ℕ) (d : DriverView) (e : DeviceView) (a b : ℕ) (bag : List State) → Ring ws d (record e { frame = d.frame; doing = Giving (a ∷ b ∷ []) }) → Stands (length (offers d.done)) (length (takes e.done)) (gives e.done) bag
+gives_bag : (ws : List ℕ) (d : DriverView) (e : DeviceView) (a b : ℕ) (bag : List State) → Ring ws d (record e { frame = d.frame; doing = Giving (a ∷ b ∷ []) }) → StandsFor d.done e.done bag
     → let us = given d.frame e.done (lane32 a 1) (lane32 b 0) in Moves (act.Given (last_used us).number) d.frame.features.in_order d.done e.done (Give us ∷ e.done) bag
 gives_bag ws d e a b bag r st =
     let f : Frame = d.frame in let s : List DeviceDone = e.done in let o : List DriverDone = d.done in
@@ -66,35 +79,61 @@ gives_bag ws d e a b bag r st =
     let u : Used = entry now.number (lane32 b 0) in
     let ended = end_step f o s u bag r.lists (occurs_from now.number (running s) now.runs) st in
     subst (λ (us : List Used). Moves (act.Given (last_used us).number) f.features.in_order o s (Give us ∷ s) bag) (sym (given_is ws d E a (lane32 b 0) r now))
-    record { bag = ended.0; step = (record { entries = u ∷ []; given = refl; last = refl }, ended.1); stands = ended.2 }
+    record { entries = u ∷ []; given = refl; bag = ended.0; step = (refl, ended.1); stands = ended.2 }
+
+still : (ws : List ℕ) (d : DriverView) (e : DeviceView) (o : Op) (a : Access) (b : List State) → gives (device_done ws e o a) ≡ gives e.done → takes (device_done ws e o a) ≡ takes e.done → device_answer ws e o a ≡ act.Moved → StandsFor d.done e.done b → DeviceBags ws d e o a b
+still ws d e o a b same also is st = record {
+  entries = [];
+  given = same ∙ sym (append-nil (gives e.done));
+  bag = b;
+  step = subst (λ (x : DeviceAct). DeviceBagStep d.frame.features.in_order [] x b b) (sym is) refl;
+  stands = subst (λ (us : List Used). Stands (length (offers d.done)) (length (takes (device_done ws e o a))) us b) (sym same) (subst (λ (cs : List (List Piece)). Stands (length (offers d.done)) (length cs) (gives e.done) b) (sym also) st);
+}
 
 bag_at : (ws : List ℕ) (d : DriverView) (e : DeviceView) (doing : DeviceNow) (o : Op) (a : Access) (b : List State) → Ring ws d (record e { frame = d.frame; doing = doing }) → DeviceNextAt doing (record e { frame = d.frame; doing = doing }) o a
-    → StandsFor d e b → DeviceBag ws d (record e { frame = d.frame; doing = doing }) o a b
+    → StandsFor d.done e.done b → DeviceBags ws d (record e { frame = d.frame; doing = doing }) o a b
 bag_at ws d e Idle op.Take (Load p) b r h st =
     let g : ℕ = slice_index ws p in let t : ℕ = length (takes e.done) in
     let E : DeviceView = record e { frame = d.frame; doing = Idle } in
     let m = looks_bag d.frame.features.in_order d.done e.done (record E { seen = shown_from g t; shown = false }) (record E { seen = shown_from g t; shown = true; doing = Taking (g ∷ []) }) b (shows g t) refl refl st in
-    record { bag = m.bag; step = m.step; stands = m.stands }
-bag_at ws d e (Taking (g ∷ [])) op.Take (Load p) b r h st = record { bag = b; step = refl; stands = st }
+    record { entries = m.entries; given = m.given; bag = m.bag; step = m.step; stands = m.stands }
+bag_at ws d e (Taking (g ∷ [])) op.Take (Load p) b r h st = still ws d (record e { frame = d.frame; doing = Taking (g ∷ []) }) op.Take (Load p) b refl refl refl st
 bag_at ws d e (Taking (g ∷ w ∷ ss)) op.Take (Load p) b r h st =
     let us : List ℕ = ss ++ slice_index ws p ∷ [] in
     let m = loads_bag ws d e g w ss us b (is_whole d.frame us) r st in
-    record { bag = m.bag; step = m.step; stands = m.stands }
-bag_at ws d e Idle op.Give (Store p x) b r h st = record { bag = b; step = refl; stands = st }
-bag_at ws d e (Giving (a ∷ [])) op.Give (Store p x) b r h st = record { bag = b; step = refl; stands = st }
+    record { entries = m.entries; given = m.given; bag = m.bag; step = m.step; stands = m.stands }
+bag_at ws d e Idle op.Give (Store p x) b r h st = still ws d (record e { frame = d.frame; doing = Idle }) op.Give (Store p x) b refl refl refl st
+bag_at ws d e (Giving (a ∷ [])) op.Give (Store p x) b r h st = still ws d (record e { frame = d.frame; doing = Giving (a ∷ []) }) op.Give (Store p x) b refl refl refl st
 bag_at ws d e (Giving (a ∷ c ∷ [])) op.Give (Store p x) b r h st =
-    let m = gives_bag ws d e a c b r st in record { bag = m.bag; step = m.step; stands = m.stands }
+    let m = gives_bag ws d e a c b r st in record { entries = m.entries; given = m.given; bag = m.bag; step = m.step; stands = m.stands }
 bag_at ws d e Idle op.Rest (Load p) b r h st =
     let n : BeginsRest d.frame e.done p = h in
     let back = take_back_step d.frame d.done e.done b r.lists (lists_rested d.frame d.done e.done r.lists n.whole) n.whole st in
-    record { bag = back.0; step = back.1; stands = back.2 }
-bag_at ws d e Idle op.Control (Load p) b r h st = record { bag = b; step = refl; stands = st }
-bag_at ws d e Idle op.Control (Store p x) b r h st = record { bag = b; step = refl; stands = st }
+    record { entries = []; given = none_given e.done e.done refl; bag = back.0; step = back.1; stands = back.2 }
+bag_at ws d e Idle op.Control (Load p) b r h st = still ws d (record e { frame = d.frame; doing = Idle }) op.Control (Load p) b refl refl refl st
+bag_at ws d e Idle op.Control (Store p x) b r h st = still ws d (record e { frame = d.frame; doing = Idle }) op.Control (Store p x) b refl refl refl st
 bag_at ws d e _ _ _ b r h st = absurd h
 
-pub device_bag : (ws : List ℕ) (d : DriverView) (e : DeviceView) (o : Op) (a : Access) (b : List State) → Ring ws d e → DeviceNext e o a → StandsFor d e b → DeviceBag ws d e o a b
-device_bag ws d e o a b r h st =
-    subst (λ (f : Frame). Ring ws d (record e { frame = f }) → DeviceNext (record e { frame = f }) o a → StandsFor d (record e { frame = f }) b → DeviceBag ws d (record e { frame = f }) o a b) (sym r.same) (bag_at ws d e e.doing o a b) r h st
+pub bags : (ws : List ℕ) (d : DriverView) (e : DeviceView) (o : Op) (a : Access) (b : List State) → Ring ws d e → DeviceNext e o a → StandsFor d.done e.done b → DeviceBags ws d e o a b
+bags ws d e o a b r h st =
+    subst (λ (f : Frame). Ring ws d (record e { frame = f }) → DeviceNext (record e { frame = f }) o a → DeviceBags ws d (record e { frame = f }) o a b) (sym r.same) (λ ring next. bag_at ws d e e.doing o a b ring next st) r h
+
+-- ---- the chain taken
+
+taken_of : (f : Frame) (o : List DriverDone) (s t : List DeviceDone) (k : ℕ) (c : List Piece) → k ≡ length (takes s) → takes t ≡ takes s ++ c ∷ [] → Lists f o t → (k < length (offers o)) × (c ≡ chain o k) × (taken_head t k ≡ head f o k)
+taken_of f o s t k c number taken l =
+    let longer : length (takes t) ≡ k + 1 = ap (λ (cs : List (List Piece)). length cs) taken ∙ length_push (takes s) c ∙ ap (λ (n : ℕ). n + 1) (sym number) in
+    let below : k < length (takes t) = omega arith in (
+      omega (arith, l.some),
+      sym (ap (λ (cs : List (List Piece)). chain_at cs k) taken ∙ get_or_push (takes s) c [] k (sym number)) ∙ ap (λ (cs : List (List Piece)). chain_at cs k) l.taken ∙ get_or-take (length (takes t)) (offers o) k [] below,
+      l.heads k below,
+    )
+
+pub is_taken : (ws : List ℕ) (d : DriverView) (e : DeviceView) (o : Op) (a : Access) (k : ℕ) (c : List Piece) → Ring ws d e → DeviceNext e o a → device_answer ws e o a ≡ act.Taken k c → IsTaken ws d e o a k c
+is_taken ws d e o a k c r h is =
+    let did = subst (λ (x : DeviceAct). Did x e.done (device_done ws e o a)) is (device_did e o a (Rattle.vd_words.specs.Step.answered ws a)) in
+    let after = taken_of d.frame d.done e.done (device_done ws e o a) k c did.0 did.1 (device_keeps ws d e o a r h).keeps.lists in
+    record { number = did.0; offered = after.0; chain = after.1; taken = did.1; is_head = after.2 }
 
 -- ---- the used entry
 
@@ -108,48 +147,47 @@ take_no_give true j k ch e = cc
 take_no_give false j k ch e = cc
 
 -- the words after the store of the index
-stands_given : (us : List ℕ) (d : DriverView) (v : DeviceView) (s : List DeviceDone) (u : Used) (es : List Used) (k : ℕ) → es ≡ u ∷ [] → (last_used es).number ≡ k → taken_head s u.number ≡ Rattle.vd_ring.specs.History.head d.frame d.done u.number
-    → v.done ≡ Give es ∷ s → length (collects d.done) ≤ length (gives s) → Ring us d v → EntryStands d.frame us s v.done k
-stands_given us d v s u es k one number hd is low r =
-    let f : Frame = d.frame in let g : ℕ = length (gives s) in
+gives_at : (ws : List ℕ) (d : DriverView) (e : DeviceView) (a b p x k : ℕ) → Ring ws d (record e { frame = d.frame; doing = Giving (a ∷ b ∷ []) }) → (h : DeviceNextAt (Giving (a ∷ b ∷ [])) (record e { frame = d.frame; doing = Giving (a ∷ b ∷ []) }) op.Give (Store p x))
+    → (last_used (given d.frame e.done (lane32 a 1) (lane32 b 0))).number ≡ k → IsGiven ws d (record e { frame = d.frame; doing = Giving (a ∷ b ∷ []) }) op.Give (Store p x) k
+gives_at ws d e a b p x k r h is =
+    let f : Frame = d.frame in let s : List DeviceDone = e.done in let g : ℕ = length (gives s) in
+    let E : DeviceView = record e { frame = d.frame; doing = Giving (a ∷ b ∷ []) } in
+    let now : Gives f s e.stored a = r.device_doing.0 in
+    let us : List Used = given f s (lane32 a 1) (lane32 b 0) in
+    let number : now.number ≡ k = sym (ap (λ (es : List Used). (last_used es).number) (given_is ws d E a (lane32 b 0) r now)) ∙ is in
+    let runs : Contains (running s) k = subst (λ (j : ℕ). Contains (running s) j) number now.runs in
+    let hd = running_head f d.done s k r.places r.lists (occurs_from k (running s) runs) in
     let slot = mod_below g f.size r.lawful.some_place in
-    let last : last_used es ≡ u = ap last_used one in
-    let k_is : k ≡ u.number = sym number ∙ ap (λ (w : Used). w.number) last in
-    let at : Rattle.vd_ring.specs.Lists.entry_at v.done g ≡ Rattle.std.proofs.Common.Some u = ap (λ (t : List DeviceDone). Rattle.vd_ring.specs.Lists.entry_at t g) is ∙ entry_new s es g refl ∙ ap (λ (w : Used). Rattle.std.proofs.Common.Some w) last in
-    let after : gives v.done ≡ gives s ++ u ∷ [] = ap gives is ∙ ap (λ (l : List Used). gives s ++ l) one in
-    let top : last_used (gives v.done) ≡ u = ap last_used after ∙ last_push (gives s) u in
+    let after : Ring (slice_set ws p x) d (device_after E op.Give (Store p x) 0) = publishes ws d e a b p x r h in
+    let at : entry_at (Give us ∷ s) g ≡ Some (last_used us) = entry_new s us g refl in
+    let low = r.lists.fewer in
     record {
-      number = k_is ∙ ap (λ (w : Used). w.number) (sym top);
-      id = ap (λ (w : ℕ). lane32 w 1) (r.words.devices (id_word f g) (inl (omega arith, omega arith))) ∙ r.served.ids g u low at ∙ sym hd ∙ ap (taken_head s) (sym k_is);
-      len = ap (λ (w : ℕ). lane32 w 0) (r.words.devices (len_word f g) (inl (omega arith, omega arith))) ∙ r.served.lens g u low at ∙ ap (λ (w : Used). w.len) (sym top);
-      index = ap (λ (w : ℕ). lane16 w 1) (r.words.devices (used_from f) (inl (omega arith, omega arith))) ∙ r.served.index;
+      runs = runs;
+      entries = us;
+      given = refl;
+      last = is;
+      id = ap (λ (w : ℕ). lane32 w 1) (after.words.devices (id_word f g) (inl (omega arith, omega arith))) ∙ after.served.ids g (last_used us) low at ∙ ap (head f d.done) is ∙ sym hd.0;
+      len = ap (λ (w : ℕ). lane32 w 0) (after.words.devices (len_word f g) (inl (omega arith, omega arith))) ∙ after.served.lens g (last_used us) low at;
+      index = ap (λ (w : ℕ). lane16 w 1) (after.words.devices (used_from f) (inl (omega arith, omega arith))) ∙ after.served.index;
     }
 
 given_at : (ws : List ℕ) (d : DriverView) (e : DeviceView) (doing : DeviceNow) (o : Op) (a : Access) (k : ℕ) → Ring ws d (record e { frame = d.frame; doing = doing }) → DeviceNextAt doing (record e { frame = d.frame; doing = doing }) o a
-    → device_answer ws (record e { frame = d.frame; doing = doing }) o a ≡ act.Given k → EntryStands d.frame (written ws a) e.done (device_then ws (record e { frame = d.frame; doing = doing }) o a).done k
+    → device_answer ws (record e { frame = d.frame; doing = doing }) o a ≡ act.Given k → IsGiven ws d (record e { frame = d.frame; doing = doing }) o a k
 given_at ws d e Idle op.Take (Load p) k r h is = absurd (no_give (shows (slice_index ws p) (length (takes e.done))) k is)
 given_at ws d e (Taking (g ∷ [])) op.Take (Load p) k r h is = absurd cc
 given_at ws d e (Taking (g ∷ w ∷ ss)) op.Take (Load p) k r h is =
     let us : List ℕ = ss ++ slice_index ws p ∷ [] in absurd (take_no_give (is_whole d.frame us) (length (takes e.done)) k (chain_of d.frame us) is)
 given_at ws d e Idle op.Give (Store p x) k r h is = absurd cc
 given_at ws d e (Giving (a ∷ [])) op.Give (Store p x) k r h is = absurd cc
-given_at ws d e (Giving (a ∷ b ∷ [])) op.Give (Store p x) k r h is =
-    let f : Frame = d.frame in let s : List DeviceDone = e.done in
-    let E : DeviceView = record e { frame = d.frame; doing = Giving (a ∷ b ∷ []) } in
-    let now : Gives f s e.stored a = r.device_doing.0 in
-    let u : Used = entry now.number (lane32 b 0) in
-    let es : List Used = given f s (lane32 a 1) (lane32 b 0) in
-    let number : (last_used es).number ≡ k = cc in
-    let hd = running_head f d.done s now.number r.places r.lists (occurs_from now.number (running s) now.runs) in
-    stands_given (slice_set ws p x) d (device_then ws E op.Give (Store p x)) s u es k (given_is ws d E a (lane32 b 0) r now) number hd.0 refl r.lists.fewer (publishes ws d e a b p x r h)
+given_at ws d e (Giving (a ∷ b ∷ [])) op.Give (Store p x) k r h is = gives_at ws d e a b p x k r h (let number : (last_used (given d.frame e.done (lane32 a 1) (lane32 b 0))).number ≡ k = cc in number)
 given_at ws d e Idle op.Rest (Load p) k r h is = absurd cc
 given_at ws d e Idle op.Control (Load p) k r h is = absurd cc
 given_at ws d e Idle op.Control (Store p x) k r h is = absurd cc
 given_at ws d e _ _ _ k r h is = absurd h
 
-pub device_given : (ws : List ℕ) (d : DriverView) (e : DeviceView) (o : Op) (a : Access) (k : ℕ) → Ring ws d e → DeviceNext e o a → device_answer ws e o a ≡ act.Given k → EntryStands d.frame (written ws a) e.done (device_then ws e o a).done k
-device_given ws d e o a k r h is =
-    subst (λ (f : Frame). Ring ws d (record e { frame = f }) → DeviceNext (record e { frame = f }) o a → device_answer ws (record e { frame = f }) o a ≡ act.Given k → EntryStands d.frame (written ws a) e.done (device_then ws (record e { frame = f }) o a).done k) (sym r.same) (given_at ws d e e.doing o a k) r h is
+pub is_given : (ws : List ℕ) (d : DriverView) (e : DeviceView) (o : Op) (a : Access) (k : ℕ) → Ring ws d e → DeviceNext e o a → device_answer ws e o a ≡ act.Given k → IsGiven ws d e o a k
+is_given ws d e o a k r h is =
+    subst (λ (f : Frame). Ring ws d (record e { frame = f }) → DeviceNext (record e { frame = f }) o a → device_answer ws (record e { frame = f }) o a ≡ act.Given k → IsGiven ws d (record e { frame = f }) o a k) (sym r.same) (given_at ws d e e.doing o a k) r h is
 
 -- ---- nothing left
 
@@ -186,19 +224,16 @@ nothing_at ws d e Idle op.Control (Load p) r h = other_answer ws d (record e { f
 nothing_at ws d e Idle op.Control (Store p x) r h = other_answer ws d (record e { frame = d.frame; doing = Idle }) op.Control (Store p x) (λ is. cc) (λ idle take. cc)
 nothing_at ws d e _ _ _ r h = absurd h
 
-pub device_nothing : (ws : List ℕ) (d : DriverView) (e : DeviceView) (o : Op) (a : Access) → Ring ws d e → DeviceNext e o a → LooksNothing ws d e o a
-device_nothing ws d e o a r h =
+pub looks_nothing : (ws : List ℕ) (d : DriverView) (e : DeviceView) (o : Op) (a : Access) → Ring ws d e → DeviceNext e o a → LooksNothing ws d e o a
+looks_nothing ws d e o a r h =
     subst (λ (f : Frame). Ring ws d (record e { frame = f }) → DeviceNext (record e { frame = f }) o a → LooksNothing ws d (record e { frame = f }) o a) (sym r.same) (nothing_at ws d e e.doing o a) r h
 
--- ---- order and rest
-
-pub in_order : (ws : List ℕ) (d : DriverView) (e : DeviceView) → Ring ws d e → InOrder d e
-in_order ws d e r = record { given = ordered_given d.frame d.done e.done r.lists; collected = ordered_collected d.frame d.done e.done r.lists }
+-- ---- rest
 
 rested_at : (s : List DeviceDone) (older : List DeviceDone) → s ≡ Rest ∷ older → Rested s → HasRested s
-rested_at s older is r = subst (λ (t : List DeviceDone). HasRested t) (sym is) (let both : Rested (Rest ∷ older) = subst Rested is r in record { even = both.0; whole = both.1 })
+rested_at s older is r = subst (λ (t : List DeviceDone). HasRested t) (sym is) (let both : Rested (Rest ∷ older) = subst Rested is r in record { even = both.0; whole = both.1; none = refl })
 
-pub has_rested : (ws : List ℕ) (d : DriverView) (e : DeviceView) → Ring ws d e → IsRest e.done → HasRested e.done
+pub has_rested : (ws : List ℕ) (d : DriverView) (e : DeviceView) → Ring ws d e → IsResting e.done → HasRested e.done
 has_rested ws d e r rest = rested_at e.done rest.0 rest.1 r.rested
 
 look_not_rested : (c : Bool) → (if c then act.Nothing else act.Moved) ≡ act.Rested → ⊥
@@ -209,12 +244,12 @@ take_not_rested : (c : Bool) (j : ℕ) (ch : List Piece) → (if c then act.Take
 take_not_rested true j ch is = cc
 take_not_rested false j ch is = cc
 
-rests_at : (ws : List ℕ) (e : DeviceView) (doing : DeviceNow) (o : Op) (a : Access) → device_answer ws (record e { doing = doing }) o a ≡ act.Rested → IsRest (device_then ws (record e { doing = doing }) o a).done
+rests_at : (ws : List ℕ) (e : DeviceView) (doing : DeviceNow) (o : Op) (a : Access) → device_answer ws (record e { doing = doing }) o a ≡ act.Rested → IsResting (device_done ws (record e { doing = doing }) o a)
 rests_at ws e Idle op.Rest (Load p) is = (e.done, refl)
 rests_at ws e Idle op.Take (Load p) is = absurd (look_not_rested (shows (slice_index ws p) (length (takes e.done))) is)
 rests_at ws e (Taking (g ∷ w ∷ ss)) op.Take (Load p) is = let us : List ℕ = ss ++ slice_index ws p ∷ [] in absurd (take_not_rested (is_whole e.frame us) (length (takes e.done)) (chain_of e.frame us) is)
 rests_at ws e (Giving (a ∷ b ∷ [])) op.Give (Store p x) is = absurd cc
 rests_at ws e _ _ _ is = absurd cc
 
-pub device_rests : (ws : List ℕ) (e : DeviceView) (o : Op) (a : Access) → device_answer ws e o a ≡ act.Rested → IsRest (device_then ws e o a).done
-device_rests ws e o a is = rests_at ws e e.doing o a is
+pub rests : (ws : List ℕ) (e : DeviceView) (o : Op) (a : Access) → device_answer ws e o a ≡ act.Rested → IsResting (device_done ws e o a)
+rests ws e o a is = rests_at ws e e.doing o a is

@@ -1,55 +1,72 @@
--- What the laws of a split ring's device say of one access that is next, made on words that meet the ring invariant.
-use Rattle.std.specs.Prelude.{◌≡◌, ℕ, ◌%◌, true, List, ◌∷◌, length}
+-- What the laws of a split ring's device say. Each is the contract of a function in src/device_laws.rt.
+use Rattle.std.specs.Prelude.{◌≡◌, ℕ, ◌%◌, ◌<◌, List, [], ◌∷◌, ◌++◌, length}
+use Rattle.std.specs.List.{Contains}
 use Rattle.vd_bits.specs.Lanes.{lane16}
+use Rattle.vd_model.specs.declared.chain.Piece.{Piece}
 use Rattle.vd_words.specs.declared.access.Access.{Access}
 use Rattle.vd_words.specs.declared.access.Op.{Op}
 use Rattle.vd_words.specs.declared.access.Op.TheVariants as op
-use Rattle.vd_words.specs.Step.{answered}
+use Rattle.vd_words.specs.Step.{place_of, answered, written}
 use Rattle.vd_ring.specs.declared.act.DeviceAct.{DeviceAct}
 use Rattle.vd_ring.specs.declared.act.DeviceAct.TheVariants as act
-use Rattle.vd_ring.specs.declared.frame.Frame.{Frame}
+use Rattle.vd_ring.specs.declared.frame.Used.{Used}
 use Rattle.vd_ring.specs.declared.driver.DriverView.{DriverView}
 use Rattle.vd_ring.specs.declared.device.DeviceDone.{DeviceDone}
 use Rattle.vd_ring.specs.declared.device.DeviceDone.TheVariants.{Rest}
 use Rattle.vd_ring.specs.declared.device.DeviceNow.TheVariants.{Idle}
 use Rattle.vd_ring.specs.declared.device.DeviceView.{DeviceView}
-use Rattle.vd_ring.specs.Account.{Ordered}
-use Rattle.vd_ring.specs.Bag.{State, Stands}
-use Rattle.vd_ring.specs.DeviceSteps.{StepsBag}
-use Rattle.vd_ring.specs.History.{offers, collects, takes, gives, taken_head, last_used, IsWhole}
-use Rattle.vd_ring.specs.Steps.{Keeps}
-use Rattle.vd_split_ring.specs.SplitWords.{used_index, used_id, used_len}
+use Rattle.vd_ring.specs.Bag.{State}
+use Rattle.vd_ring.specs.DeviceSteps.{Did}
+use Rattle.vd_ring.specs.History.{offers, takes, gives, running, taken_head, head, chain, last_used, IsWhole}
+use Rattle.vd_ring.specs.Steps.{Keeps, StandsFor, DeviceBagStep}
+use Rattle.vd_split_ring.specs.SplitWords.{used_index, used_id, used_len, width}
 use Rattle.vd_split_ring.specs.SplitDevice.{device_side, device_after, device_act}
 use Rattle.vd_split_ring.specs.SplitRing.{Ring}
 
--- its place is a word, the ring invariant stands with the driver's view unchanged, and the answer tells what the view says
+-- the access keeps the invariant with the driver's view as it was, and its answer tells what the device's view says
 abbrev pub DeviceKeeps : List ℕ → DriverView → DeviceView → Op → Access → Type 0
 DeviceKeeps ws d e o a = Keeps device_side (λ us v. Ring us d v) ws e o a
 
--- what the access answers over these words, and the view after it
+-- from the device's view alone: the access is to one of the ring's words, it leaves the frame, and the step's answer says what was
+-- taken and given
+pub record DeviceAlone (e : DeviceView) (o : Op) (a : Access) : Type 0 where
+  pub inside : place_of a < width e.frame
+  pub frame : (r : ℕ) → (device_after e o a r).frame ≡ e.frame
+  pub did : (r : ℕ) → Did (device_act e o a r) e.done (device_after e o a r).done
+
+-- what the step answers over these words, and the acts after it
 abbrev pub device_answer : List ℕ → DeviceView → Op → Access → DeviceAct
 device_answer ws e o a = device_act e o a (answered ws a)
 
-abbrev pub device_then : List ℕ → DeviceView → Op → Access → DeviceView
-device_then ws e o a = device_after e o a (answered ws a)
+abbrev pub device_done : List ℕ → DeviceView → Op → Access → List DeviceDone
+device_done ws e o a = (device_after e o a (answered ws a)).done
 
--- the bag has what the two sides did
-abbrev pub StandsFor : DriverView → DeviceView → List State → Type 0
-StandsFor d e b = Stands (length (offers d.done)) (length (takes e.done)) (gives e.done) b
-
--- the answer's bag step leads to a bag that has what the two sides did then
-pub record DeviceBag (ws : List ℕ) (d : DriverView) (e : DeviceView) (o : Op) (a : Access) (b : List State) : Type 0 where
+-- from any bag that stands for the two sides, the step's answer makes the bag that stands for them after it; only Given gives
+pub record DeviceBags (ws : List ℕ) (d : DriverView) (e : DeviceView) (o : Op) (a : Access) (b : List State) : Type 0 where
+  pub entries : List Used
+  pub given : gives (device_done ws e o a) ≡ gives e.done ++ entries
   pub bag : List State
-  pub step : StepsBag (device_answer ws e o a) d.frame.features.in_order e.done (device_then ws e o a).done b bag
-  pub stands : StandsFor d (device_then ws e o a) bag
+  pub step : DeviceBagStep d.frame.features.in_order entries (device_answer ws e o a) b bag
+  pub stands : StandsFor d.done (device_done ws e o a) bag
 
--- the used entry of the chain given stands (VIRTIO 1.2, 2.7.8): its id is the chain's head, its length the one given, and the
--- index counts it
-pub record EntryStands (f : Frame) (ws : List ℕ) (before after : List DeviceDone) (k : ℕ) : Type 0 where
-  pub number : k ≡ (last_used (gives after)).number
-  pub id : used_id f ws (length (gives before)) ≡ taken_head before k
-  pub len : used_len f ws (length (gives before)) ≡ (last_used (gives after)).len
-  pub index : used_index f ws ≡ length (gives after) % 65536
+-- `Taken(k, c)` is the next chain offered, with its head; k is the count of chains taken before
+pub record IsTaken (ws : List ℕ) (d : DriverView) (e : DeviceView) (o : Op) (a : Access) (k : ℕ) (c : List Piece) : Type 0 where
+  pub number : k ≡ length (takes e.done)
+  pub offered : k < length (offers d.done)
+  pub chain : c ≡ chain d.done k
+  pub taken : takes (device_done ws e o a) ≡ takes e.done ++ c ∷ []
+  pub is_head : taken_head (device_done ws e o a) k ≡ head d.frame d.done k
+
+-- after `Given(k)`, where chain k ran, the used entry stands (VIRTIO 1.2, 2.7.8): its id is the chain's head, its length the one
+-- given, and the index counts it
+pub record IsGiven (ws : List ℕ) (d : DriverView) (e : DeviceView) (o : Op) (a : Access) (k : ℕ) : Type 0 where
+  pub runs : Contains (running e.done) k
+  pub entries : List Used
+  pub given : gives (device_done ws e o a) ≡ gives e.done ++ entries
+  pub last : (last_used entries).number ≡ k
+  pub id : used_id d.frame (written ws a) (length (gives e.done)) ≡ taken_head e.done k
+  pub len : used_len d.frame (written ws a) (length (gives e.done)) ≡ (last_used entries).len
+  pub index : used_index d.frame (written ws a) ≡ length (gives (device_done ws e o a)) % 65536
 
 -- Nothing is the answer of a take's look alone, exactly where the loaded index is the count taken modulo 65,536; then all chains
 -- offered are taken
@@ -59,16 +76,12 @@ pub record LooksNothing (ws : List ℕ) (d : DriverView) (e : DeviceView) (o : O
   pub shown : e.doing ≡ Idle → o ≡ op.Take → lane16 (answered ws a) 1 ≡ length (takes e.done) % 65536 → device_answer ws e o a ≡ act.Nothing
   pub all : device_answer ws e o a ≡ act.Nothing → takes e.done ≡ offers d.done
 
--- under IN_ORDER the entries given and those collected are of chains 0, 1, 2 and so on (VIRTIO 1.2, 2.7.9)
-pub record InOrder (d : DriverView) (e : DeviceView) : Type 0 where
-  pub given : d.frame.features.in_order ≡ true → Ordered (gives e.done)
-  pub collected : d.frame.features.in_order ≡ true → Ordered (collects d.done)
+-- the last act is a rest
+abbrev pub IsResting : List DeviceDone → Type 0
+IsResting s = (older : List DeviceDone) × (s ≡ Rest ∷ older)
 
 -- nothing runs: as many chains are taken as given, and those given are the ones below that number
 pub record HasRested (s : List DeviceDone) : Type 0 where
   pub even : length (takes s) ≡ length (gives s)
   pub whole : IsWhole s
-
--- a device whose last act is a rest has rested, and a step that answers Rested makes it its last act
-abbrev pub IsRest : List DeviceDone → Type 0
-IsRest s = (older : List DeviceDone) × (s ≡ Rest ∷ older)
+  pub none : running s ≡ []
