@@ -9,7 +9,7 @@ use Rattle.vd_ring.specs.declared.driver.DriverDone.TheVariants.{Offer, Collect,
 use Rattle.vd_ring.specs.declared.device.DeviceDone.{DeviceDone}
 use Rattle.vd_ring.specs.declared.device.DeviceDone.TheVariants.{Take, Give, Rest, StoreAck, LoadCommand}
 use Rattle.vd_model.specs.declared.chain.Piece.{Piece}
-use Rattle.vd_ring.specs.History.{offers, collects, gives, running, open_at, held, free, places, places_at, places_back, head, taken_head, chain, numbers, occurs, used_at, last_used, entry}
+use Rattle.vd_ring.specs.History.{offers, collects, takes, gives, running, open_at, held, free, places, places_at, places_back, head, taken_head, chain, numbers, occurs, used_at, last_used, entry}
 use Rattle.vd_ring.specs.Control.{last_collected, last_ack, ack_of, command_of, AcksAgree, Acks}
 use Rattle.vd_ring.specs.Places.{Places}
 use Rattle.vd_ring.specs.Lists.{Lists}
@@ -50,7 +50,7 @@ uncollected_open f o s j p l low high =
     let before : occurs k (numbers (collects o)) ≡ occurs k (take m (numbers g)) = ap (λ (us : List Used). occurs k (numbers us)) l.collected ∙ ap (occurs k) (sym (take-map (λ (u : Used). u.number) m g)) in
     let shorter : occurs k (take m (take j (numbers g))) ≡ occurs k (take m (numbers g)) = ap (occurs k) (take-take m j (numbers g) low) in
     let once = occurs_before (numbers g) j k (omega (arith, length-map g (λ (u : Used). u.number))) (number_at g j high) in
-    omega (arith, p.is_open k, one_below k (length (offers o)) (omega (arith, l.some)), l.given k, one_small (nat_lt k (length (Rattle.vd_ring.specs.History.takes s))), once, before, shorter, occurs_parts k m (take j (numbers g)))
+    omega (arith, p.is_open k, one_below k (length (offers o)) (omega (arith, l.some)), l.given k, one_small (nat_lt k (length (takes s))), once, before, shorter, occurs_parts k m (take j (numbers g)))
 
 -- ---- what was loaded agrees
 

@@ -9,7 +9,7 @@ use Rattle.vd_ring.specs.declared.driver.DriverDone.{DriverDone}
 use Rattle.vd_ring.specs.declared.device.DeviceDone.{DeviceDone}
 use Rattle.vd_ring.specs.declared.device.DeviceDone.TheVariants.{Take, Give, Rest}
 use Rattle.vd_ring.specs.History.{offers, takes, gives, running, numbers, occurs, used_at, entry, IsWhole}
-use Rattle.vd_ring.specs.Bag.{State, offered, returned, state, back, IsBegin, IsEnd, IsTakeBack, Stands}
+use Rattle.vd_ring.specs.Bag.{State, offered, returned, state, back, IsBegin, IsEnd, IsTakeBack}
 use Rattle.vd_ring.specs.Bag.{running as runs_now}
 use Rattle.vd_ring.specs.Lists.{Lists}
 use Rattle.vd_ring.specs.Steps.{StandsFor}

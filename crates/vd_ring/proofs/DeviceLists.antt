@@ -1,8 +1,8 @@
 -- What a device's acts do to what it has taken, runs and gave.
-use Rattle.std.proofs.Common.{◌≡◌, ◌≢◌, ℕ, zero, suc, ◌+◌, ◌<◌, ◌≤◌, Bool, true, List, [], ◌∷◌, ◌++◌, length, take, Some, if◌then◌else◌, nat_lt, slice_index, refl, sym, ap, ◌∙◌, subst, arith, inl, inr}
+use Rattle.std.proofs.Common.{◌≡◌, ◌≢◌, ℕ, ◌+◌, ◌<◌, ◌≤◌, Bool, true, List, [], ◌∷◌, ◌++◌, length, take, Some, if◌then◌else◌, nat_lt, slice_index, refl, sym, ap, ◌∙◌, subst, arith, inl, inr}
 use Rattle.std.specs.List.{sum_by}
 use Rattle.std.proofs.lemmas.Bool.{cases_eq, cases_lt, eq-eqb, ne_eqb}
-use Rattle.std.proofs.lemmas.List.{length_push, length-map, take_more, take_all, map-append, take-append-le, take-take, length-take-le, get_or_append_left, get_or_push, get_or-take}
+use Rattle.std.proofs.lemmas.List.{length_push, length-map, take_more, take-append-le, take-take, length-take-le, get_or_append_left, get_or_push, get_or-take}
 use Rattle.std.proofs.lemmas.List.Sums.{sum_by_push}
 use Rattle.vd_model.specs.declared.chain.Piece.{Piece}
 use Rattle.vd_model.specs.Chains.{needs}
@@ -11,8 +11,7 @@ use Rattle.vd_ring.specs.declared.frame.Used.{Used}
 use Rattle.vd_ring.specs.declared.driver.DriverDone.{DriverDone}
 use Rattle.vd_ring.specs.declared.device.DeviceDone.{DeviceDone}
 use Rattle.vd_ring.specs.declared.device.DeviceDone.TheVariants.{Take, Give, Rest, StoreAck, LoadCommand}
-use Rattle.vd_ring.specs.History.{offers, collects, takes, gives, heads, running, running_size, open_at, open_size, head, taken_head, chain, chain_at, numbers, occurs, used_at, last_used, entry, batch, upto, IsWhole}
-use Rattle.vd_ring.specs.Account.{Ordered}
+use Rattle.vd_ring.specs.History.{offers, collects, takes, gives, heads, running, running_size, open_at, open_size, head, taken_head, chain, chain_at, numbers, occurs, used_at, last_used, entry, batch, IsWhole}
 use Rattle.vd_ring.specs.Places.{Places}
 use Rattle.vd_ring.specs.Lists.{Lists, entry_at}
 use Rattle.vd_ring.proofs.Counts.{one, one_same, one_other, one_below, one_above, one_small, one_more, occurs_push, occurs_without, length_without, occurs_rest, sum_same, sum_within}

@@ -1,8 +1,8 @@
--- What each answer of the device's step means: the bag step, the used entry given, when nothing is left, order and rest.
-use Rattle.std.proofs.Common.{◌≡◌, ℕ, ◌+◌, ◌%◌, ◌<◌, ◌≤◌, Bool, true, false, List, [], ◌∷◌, ◌++◌, length, if◌then◌else◌, slice_index, slice_set, Some, refl, sym, ap, ◌∙◌, subst, arith, inl, inr}
+-- What each answer of the device means: the chain taken, the used entry given, when nothing is left, and a rest.
+use Rattle.std.proofs.Common.{◌≡◌, ℕ, ◌+◌, ◌%◌, ◌<◌, Bool, true, false, List, [], ◌∷◌, ◌++◌, length, if◌then◌else◌, slice_index, slice_set, Some, refl, sym, ap, ◌∙◌, subst, arith, inl}
 use Rattle.std.specs.List.{Contains}
 use Rattle.std.proofs.lemmas.Bool.{eqb-true, eq-eqb}
-use Rattle.std.proofs.lemmas.List.{append-nil, length_push, get_or_push, get_or-take}
+use Rattle.std.proofs.lemmas.List.{length_push, get_or_push, get_or-take}
 use Rattle.std.proofs.lemmas.Nat.{mod_below}
 use Rattle.vd_bits.specs.Lanes.{lane16, lane32}
 use Rattle.vd_model.specs.declared.chain.Piece.{Piece}
@@ -10,6 +10,7 @@ use Rattle.vd_words.specs.declared.access.Access.{Access}
 use Rattle.vd_words.specs.declared.access.Access.TheVariants.{Load, Store}
 use Rattle.vd_words.specs.declared.access.Op.{Op}
 use Rattle.vd_words.specs.declared.access.Op.TheVariants as op
+use Rattle.vd_words.specs.Step.{answered}
 use Rattle.vd_ring.specs.declared.act.DeviceAct.{DeviceAct}
 use Rattle.vd_ring.specs.declared.act.DeviceAct.TheVariants as act
 use Rattle.vd_ring.specs.declared.frame.Frame.{Frame}
@@ -17,23 +18,20 @@ use Rattle.vd_ring.specs.declared.frame.Used.{Used}
 use Rattle.vd_ring.specs.declared.driver.DriverDone.{DriverDone}
 use Rattle.vd_ring.specs.declared.driver.DriverView.{DriverView}
 use Rattle.vd_ring.specs.declared.device.DeviceDone.{DeviceDone}
-use Rattle.vd_ring.specs.declared.device.DeviceDone.TheVariants.{Take, Give, Rest, StoreAck, LoadCommand}
+use Rattle.vd_ring.specs.declared.device.DeviceDone.TheVariants.{Give, Rest}
 use Rattle.vd_ring.specs.declared.device.DeviceNow.{DeviceNow}
 use Rattle.vd_ring.specs.declared.device.DeviceNow.TheVariants.{Idle, Taking, Giving}
 use Rattle.vd_ring.specs.declared.device.DeviceView.{DeviceView}
-use Rattle.vd_ring.specs.Bag.{State, Stands}
 use Rattle.vd_ring.specs.DeviceSteps.{Did}
-use Rattle.vd_ring.specs.History.{offers, collects, takes, gives, heads, running, taken_head, head, chain, chain_at, occurs, given, entry, last_used}
+use Rattle.vd_ring.specs.History.{offers, takes, gives, running, taken_head, head, chain, chain_at, given, last_used}
 use Rattle.vd_ring.specs.Lists.{Lists, Rested, entry_at}
-use Rattle.vd_ring.specs.Steps.{StandsFor, DeviceBagStep}
-use Rattle.vd_split_ring.specs.SplitWords.{IsLawful, used_from, id_word, len_word, shows, shown_from, is_whole, chain_of}
-use Rattle.vd_split_ring.specs.SplitDevice.{DeviceNextAt, DeviceNext, device_after, device_act, device_takes, loaded_head, BeginsRest}
-use Rattle.vd_split_ring.specs.SplitRing.{Ring, Gives, HasSeen}
-use Rattle.vd_split_ring.specs.SplitDeviceLaws.{device_answer, device_done, DeviceAlone, DeviceBags, IsTaken, IsGiven, LooksNothing, IsResting, HasRested}
+use Rattle.vd_split_ring.specs.SplitWords.{IsLawful, used_from, id_word, len_word, shows, is_whole, chain_of}
+use Rattle.vd_split_ring.specs.SplitDevice.{DeviceNextAt, DeviceNext, device_after}
+use Rattle.vd_split_ring.specs.SplitRing.{Ring, Gives}
+use Rattle.vd_split_ring.specs.SplitDeviceLaws.{device_answer, device_done, DeviceAlone, IsTaken, IsGiven, LooksNothing, IsResting, HasRested}
 use Rattle.vd_ring.proofs.Counts.{occurs_from}
-use Rattle.vd_ring.proofs.DeviceBag.{begin_step, end_step, take_back_step}
-use Rattle.vd_ring.proofs.DeviceLists.{running_head, entry_new, lists_rested}
-use Rattle.vd_split_ring.proofs.DeviceTakes.{nothing_left}
+use Rattle.vd_ring.proofs.DeviceLists.{running_head, entry_new}
+use Rattle.vd_split_ring.proofs.DeviceLooks.{nothing_left}
 use Rattle.vd_split_ring.proofs.DeviceGives.{given_is, publishes}
 use Rattle.vd_split_ring.proofs.DeviceKeeping.{index_shown, device_keeps}
 use Rattle.vd_split_ring.proofs.DeviceViews.{device_inside, device_frame, device_did}
@@ -42,81 +40,6 @@ use Rattle.vd_split_ring.proofs.DeviceViews.{device_inside, device_frame, device
 
 pub alone : (e : DeviceView) (o : Op) (a : Access) → IsLawful e.frame → DeviceNext e o a → DeviceAlone e o a
 alone e o a l h = record { inside = device_inside e o a l h; frame = λ r. device_frame e o a r; did = λ r. device_did e o a r }
-
--- ---- the bag
-
--- a bag after a step, from the acts alone
-record Moves (answer : DeviceAct) (in_order : Bool) (o : List DriverDone) (s t : List DeviceDone) (b : List State) : Type 0 where
-  entries : List Used
-  given : gives t ≡ gives s ++ entries
-  bag : List State
-  step : DeviceBagStep in_order entries answer b bag
-  stands : StandsFor o t bag
-
-none_given : (s t : List DeviceDone) → t ≡ s → gives t ≡ gives s ++ []
-none_given s t is = ap gives is ∙ sym (append-nil (gives s))
-
-looks_bag : (in_order : Bool) (o : List DriverDone) (s : List DeviceDone) (v w : DeviceView) (b : List State) (c : Bool) → v.done ≡ s → w.done ≡ s → StandsFor o s b
-    → Moves (if c then act.Nothing else act.Moved) in_order o s (if c then v else w).done b
-looks_bag in_order o s v w b true is also st = record { entries = []; given = none_given s v.done is; bag = b; step = refl; stands = subst (λ (t : List DeviceDone). StandsFor o t b) (sym is) st }
-looks_bag in_order o s v w b false is also st = record { entries = []; given = none_given s w.done also; bag = b; step = refl; stands = subst (λ (t : List DeviceDone). StandsFor o t b) (sym also) st }
-
-loads_bag : (ws : List ℕ) (d : DriverView) (e : DeviceView) (g w : ℕ) (ss us : List ℕ) (b : List State) (c : Bool) → Ring ws d (record e { frame = d.frame; doing = Taking (g ∷ w ∷ ss) }) → StandsFor d.done e.done b
-    → Moves (if c then act.Taken (length (takes e.done)) (chain_of d.frame us) else act.Moved) d.frame.features.in_order d.done e.done
-      (if c then device_takes (record e { frame = d.frame; doing = Taking (g ∷ w ∷ ss) }) g w us else record e { frame = d.frame; doing = Taking (g ∷ w ∷ us) }).done b
-loads_bag ws d e g w ss us b true r st =
-    let seen : HasSeen g e.seen (length (takes e.done)) = r.device_doing.0 in
-    let begun = begin_step d.frame d.done e.done (chain_of d.frame us) (loaded_head d.frame (length (takes e.done)) w) b r.lists (omega (arith, seen.more, r.device_seen)) st in
-    record { entries = []; given = none_given e.done e.done refl; bag = begun.0; step = begun.1; stands = begun.2 }
-loads_bag ws d e g w ss us b false r st = record { entries = []; given = none_given e.done e.done refl; bag = b; step = refl; stands = st }
-
-gives_bag : (ws : List ℕ) (d : DriverView) (e : DeviceView) (a b : ℕ) (bag : List State) → Ring ws d (record e { frame = d.frame; doing = Giving (a ∷ b ∷ []) }) → StandsFor d.done e.done bag
-    → let us = given d.frame e.done (lane32 a 1) (lane32 b 0) in Moves (act.Given (last_used us).number) d.frame.features.in_order d.done e.done (Give us ∷ e.done) bag
-gives_bag ws d e a b bag r st =
-    let f : Frame = d.frame in let s : List DeviceDone = e.done in let o : List DriverDone = d.done in
-    let E : DeviceView = record e { frame = d.frame; doing = Giving (a ∷ b ∷ []) } in
-    let now : Gives f s e.stored a = r.device_doing.0 in
-    let u : Used = entry now.number (lane32 b 0) in
-    let ended = end_step f o s u bag r.lists (occurs_from now.number (running s) now.runs) st in
-    subst (λ (us : List Used). Moves (act.Given (last_used us).number) f.features.in_order o s (Give us ∷ s) bag) (sym (given_is ws d E a (lane32 b 0) r now))
-    record { entries = u ∷ []; given = refl; bag = ended.0; step = (refl, ended.1); stands = ended.2 }
-
-still : (ws : List ℕ) (d : DriverView) (e : DeviceView) (o : Op) (a : Access) (b : List State) → gives (device_done ws e o a) ≡ gives e.done → takes (device_done ws e o a) ≡ takes e.done → device_answer ws e o a ≡ act.Moved → StandsFor d.done e.done b → DeviceBags ws d e o a b
-still ws d e o a b same also is st = record {
-  entries = [];
-  given = same ∙ sym (append-nil (gives e.done));
-  bag = b;
-  step = subst (λ (x : DeviceAct). DeviceBagStep d.frame.features.in_order [] x b b) (sym is) refl;
-  stands = subst (λ (us : List Used). Stands (length (offers d.done)) (length (takes (device_done ws e o a))) us b) (sym same) (subst (λ (cs : List (List Piece)). Stands (length (offers d.done)) (length cs) (gives e.done) b) (sym also) st);
-}
-
-bag_at : (ws : List ℕ) (d : DriverView) (e : DeviceView) (doing : DeviceNow) (o : Op) (a : Access) (b : List State) → Ring ws d (record e { frame = d.frame; doing = doing }) → DeviceNextAt doing (record e { frame = d.frame; doing = doing }) o a
-    → StandsFor d.done e.done b → DeviceBags ws d (record e { frame = d.frame; doing = doing }) o a b
-bag_at ws d e Idle op.Take (Load p) b r h st =
-    let g : ℕ = slice_index ws p in let t : ℕ = length (takes e.done) in
-    let E : DeviceView = record e { frame = d.frame; doing = Idle } in
-    let m = looks_bag d.frame.features.in_order d.done e.done (record E { seen = shown_from g t; shown = false }) (record E { seen = shown_from g t; shown = true; doing = Taking (g ∷ []) }) b (shows g t) refl refl st in
-    record { entries = m.entries; given = m.given; bag = m.bag; step = m.step; stands = m.stands }
-bag_at ws d e (Taking (g ∷ [])) op.Take (Load p) b r h st = still ws d (record e { frame = d.frame; doing = Taking (g ∷ []) }) op.Take (Load p) b refl refl refl st
-bag_at ws d e (Taking (g ∷ w ∷ ss)) op.Take (Load p) b r h st =
-    let us : List ℕ = ss ++ slice_index ws p ∷ [] in
-    let m = loads_bag ws d e g w ss us b (is_whole d.frame us) r st in
-    record { entries = m.entries; given = m.given; bag = m.bag; step = m.step; stands = m.stands }
-bag_at ws d e Idle op.Give (Store p x) b r h st = still ws d (record e { frame = d.frame; doing = Idle }) op.Give (Store p x) b refl refl refl st
-bag_at ws d e (Giving (a ∷ [])) op.Give (Store p x) b r h st = still ws d (record e { frame = d.frame; doing = Giving (a ∷ []) }) op.Give (Store p x) b refl refl refl st
-bag_at ws d e (Giving (a ∷ c ∷ [])) op.Give (Store p x) b r h st =
-    let m = gives_bag ws d e a c b r st in record { entries = m.entries; given = m.given; bag = m.bag; step = m.step; stands = m.stands }
-bag_at ws d e Idle op.Rest (Load p) b r h st =
-    let n : BeginsRest d.frame e.done p = h in
-    let back = take_back_step d.frame d.done e.done b r.lists (lists_rested d.frame d.done e.done r.lists n.whole) n.whole st in
-    record { entries = []; given = none_given e.done e.done refl; bag = back.0; step = back.1; stands = back.2 }
-bag_at ws d e Idle op.Control (Load p) b r h st = still ws d (record e { frame = d.frame; doing = Idle }) op.Control (Load p) b refl refl refl st
-bag_at ws d e Idle op.Control (Store p x) b r h st = still ws d (record e { frame = d.frame; doing = Idle }) op.Control (Store p x) b refl refl refl st
-bag_at ws d e _ _ _ b r h st = absurd h
-
-pub bags : (ws : List ℕ) (d : DriverView) (e : DeviceView) (o : Op) (a : Access) (b : List State) → Ring ws d e → DeviceNext e o a → StandsFor d.done e.done b → DeviceBags ws d e o a b
-bags ws d e o a b r h st =
-    subst (λ (f : Frame). Ring ws d (record e { frame = f }) → DeviceNext (record e { frame = f }) o a → DeviceBags ws d (record e { frame = f }) o a b) (sym r.same) (λ ring next. bag_at ws d e e.doing o a b ring next st) r h
 
 -- ---- the chain taken
 
@@ -131,7 +54,7 @@ taken_of f o s t k c number taken l =
 
 pub is_taken : (ws : List ℕ) (d : DriverView) (e : DeviceView) (o : Op) (a : Access) (k : ℕ) (c : List Piece) → Ring ws d e → DeviceNext e o a → device_answer ws e o a ≡ act.Taken k c → IsTaken ws d e o a k c
 is_taken ws d e o a k c r h is =
-    let did = subst (λ (x : DeviceAct). Did x e.done (device_done ws e o a)) is (device_did e o a (Rattle.vd_words.specs.Step.answered ws a)) in
+    let did = subst (λ (x : DeviceAct). Did x e.done (device_done ws e o a)) is (device_did e o a (answered ws a)) in
     let after = taken_of d.frame d.done e.done (device_done ws e o a) k c did.0 did.1 (device_keeps ws d e o a r h).keeps.lists in
     record { number = did.0; offered = after.0; chain = after.1; taken = did.1; is_head = after.2 }
 

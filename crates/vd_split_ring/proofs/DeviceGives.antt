@@ -1,5 +1,5 @@
 -- The accesses of a give and of a rest keep the ring invariant.
-use Rattle.std.proofs.Common.{◌≡◌, ◌≢◌, ℕ, ◌+◌, ◌%◌, ◌<◌, ◌≤◌, Bool, true, List, [], ◌∷◌, ◌++◌, length, take, nat_lt, Option, Some, slice_index, slice_set, None, refl, sym, ap, ◌∙◌, subst, arith, inl, inr}
+use Rattle.std.proofs.Common.{◌≡◌, ◌≢◌, ℕ, ◌+◌, ◌%◌, ◌<◌, ◌≤◌, true, List, [], ◌∷◌, ◌++◌, length, take, Some, slice_index, slice_set, None, refl, sym, ap, ◌∙◌, subst, arith, inl, inr}
 use Rattle.std.proofs.lemmas.Bool.{cases_eq}
 use Rattle.std.proofs.lemmas.List.{length_push, length-take-le, get_or-set_same, get_or-set_other}
 use Rattle.std.proofs.lemmas.Nat.{mod_below}
@@ -13,11 +13,11 @@ use Rattle.vd_ring.specs.declared.device.DeviceDone.{DeviceDone}
 use Rattle.vd_ring.specs.declared.device.DeviceDone.TheVariants.{Give, Rest}
 use Rattle.vd_ring.specs.declared.device.DeviceNow.TheVariants.{Idle, Giving}
 use Rattle.vd_ring.specs.declared.device.DeviceView.{DeviceView}
-use Rattle.vd_ring.specs.History.{collects, takes, gives, running, taken_head, head, chain_at, occurs, given, entry, with_head, IsWhole}
-use Rattle.vd_ring.specs.Lists.{Lists, entry_at}
-use Rattle.vd_split_ring.specs.SplitWords.{IsDevices, width, used_from, id_word, len_word, used_index, used_id, used_len, call_at, ack_word}
+use Rattle.vd_ring.specs.History.{collects, takes, gives, running, taken_head, head, chain_at, occurs, given, entry, batch, with_head, IsWhole}
+use Rattle.vd_ring.specs.Lists.{entry_at}
+use Rattle.vd_split_ring.specs.SplitWords.{IsDevices, width, used_from, id_word, len_word, used_id, used_len, ack_word}
 use Rattle.vd_split_ring.specs.SplitDevice.{Names, Measures, PublishesUsed, device_gives, device_rests}
-use Rattle.vd_split_ring.specs.SplitRing.{Ring, Gives, DeviceSignals, Served}
+use Rattle.vd_split_ring.specs.SplitRing.{Ring, Gives}
 use Rattle.vd_ring.proofs.Counts.{occurs_from, with_head_is}
 use Rattle.vd_ring.proofs.ListSteps.{some_same, batch_one, entry_is}
 use Rattle.vd_ring.proofs.DeviceLists.{give_room, running_head, same_taken_head, entry_new, entry_old, lists_given, lists_rested}
@@ -134,7 +134,7 @@ measures ws d e a p x r n =
             is_id = now.is_id;
             stands = high_after_len e.stored q (id_word f g) n.len inside small ∙ now.stands;
           },
-          ap (λ w. lane32 w 0) (get_or-set_same e.stored q y 0 inside) ,
+          ap (λ w. lane32 w 0) (get_or-set_same e.stored q y 0 inside),
         );
         driver_seen = r.driver_seen;
         device_seen = r.device_seen;
@@ -154,7 +154,7 @@ given_is ws d e a len r now =
     let runs = occurs_from k (running s) now.runs in
     let number : with_head (taken_head s) (running s) (lane32 a 1) ≡ k =
     with_head_is (taken_head s) (running s) (lane32 a 1) k (sym now.is_id) runs (λ j c e'. same_taken_head f o s j k r.places r.lists c runs (e' ∙ now.is_id)) in
-    ap (λ (n : ℕ). Rattle.vd_ring.specs.History.batch f (chain_at (takes s)) (length (gives s)) n len) number ∙ batch_one f (chain_at (takes s)) (length (gives s)) k len now.in_order
+    ap (λ (n : ℕ). batch f (chain_at (takes s)) (length (gives s)) n len) number ∙ batch_one f (chain_at (takes s)) (length (gives s)) k len now.in_order
 
 -- a give of one entry
 gives_entry : (ws : List ℕ) (d : DriverView) (e : DeviceView) (a b : ℕ) (us : List Used) (u : Used) → us ≡ u ∷ [] → Ring ws d (record e { frame = d.frame; doing = Giving (a ∷ b ∷ []) }) → (now : Gives d.frame e.done e.stored a) → u ≡ entry now.number (lane32 b 0)

@@ -1,5 +1,5 @@
 -- Each access of the device that is next keeps the ring invariant, and what it tells.
-use Rattle.std.proofs.Common.{◌≡◌, ℕ, ◌%◌, ◌<◌, List, [], ◌∷◌, ◌++◌, length, slice_index, refl, sym, ap, ◌∙◌, subst, arith, inl, inr}
+use Rattle.std.proofs.Common.{◌≡◌, ℕ, ◌%◌, ◌<◌, List, [], ◌∷◌, ◌++◌, length, slice_index, sym, ap, ◌∙◌, subst, arith, inl, inr}
 use Rattle.vd_bits.specs.Lanes.{lane16}
 use Rattle.vd_words.specs.declared.access.Access.{Access}
 use Rattle.vd_words.specs.declared.access.Access.TheVariants.{Load, Store}
@@ -12,12 +12,13 @@ use Rattle.vd_ring.specs.declared.device.DeviceNow.TheVariants.{Idle, Taking, Gi
 use Rattle.vd_ring.specs.declared.device.DeviceView.{DeviceView}
 use Rattle.vd_ring.specs.History.{offers, takes}
 use Rattle.vd_split_ring.specs.SplitWords.{IsDrivers, IsDescriptors, used_from, lane_word, entry_lane}
-use Rattle.vd_split_ring.specs.SplitDevice.{DeviceNextAt, DeviceNext, device_loads, loaded_head, BeginsChain, Names, Measures, PublishesUsed, BeginsRest}
+use Rattle.vd_split_ring.specs.SplitDevice.{DeviceNextAt, DeviceNext, device_loads, loaded_head, BeginsChain, BeginsRest}
 use Rattle.vd_split_ring.specs.SplitDeviceLaws.{DeviceKeeps}
 use Rattle.vd_split_ring.specs.SplitRing.{Ring}
 use Rattle.vd_split_ring.proofs.Areas.{areas, lane_inside, entry_inside, drivers_inside}
 use Rattle.vd_split_ring.proofs.DeviceParts.{knows}
-use Rattle.vd_split_ring.proofs.DeviceTakes.{looks, look_tells, shows_offers, finds_head, loads}
+use Rattle.vd_split_ring.proofs.DeviceLooks.{looks, look_tells, shows_offers, finds_head}
+use Rattle.vd_split_ring.proofs.DeviceTakes.{loads}
 use Rattle.vd_split_ring.proofs.DeviceGives.{names, measures, publishes, rests}
 use Rattle.vd_split_ring.proofs.DeviceControl.{commands, acks}
 

@@ -1,5 +1,5 @@
 -- What an access of the device leaves of the ring invariant, and what it has to show anew.
-use Rattle.std.proofs.Common.{◌≡◌, ◌≢◌, ℕ, ◌+◌, ◌%◌, ◌<◌, ◌≤◌, true, false, List, [], ◌∷◌, length, Option, Some, slice_index, slice_set, sym, ap, ◌∙◌, arith, inl, inr}
+use Rattle.std.proofs.Common.{◌≡◌, ◌≢◌, ℕ, ◌+◌, ◌<◌, ◌≤◌, true, List, [], ◌∷◌, length, Option, Some, slice_index, slice_set, ◌∙◌, subst, arith}
 use Rattle.vd_bits.specs.Lanes.{lane16}
 use Rattle.vd_words.specs.declared.access.Access.{Access}
 use Rattle.vd_words.specs.declared.access.Access.TheVariants.{Load, Store}
@@ -15,7 +15,7 @@ use Rattle.vd_ring.specs.declared.device.DeviceView.{DeviceView}
 use Rattle.vd_ring.specs.History.{offers, collects, takes, gives}
 use Rattle.vd_ring.specs.Control.{Acks}
 use Rattle.vd_ring.specs.Lists.{Lists, Rested, entry_at}
-use Rattle.vd_split_ring.specs.SplitWords.{IsDevices, used_from, acks_from, kick_at, call_at, ack_word}
+use Rattle.vd_split_ring.specs.SplitWords.{IsDevices, used_from, call_at, ack_word}
 use Rattle.vd_split_ring.specs.SplitDevice.{DeviceKnows}
 use Rattle.vd_split_ring.specs.SplitRing.{Words, Served, DeviceSignals, DriverDoing, DeviceDoing, Ring}
 use Rattle.vd_split_ring.proofs.Areas.{areas, other_word}
@@ -75,7 +75,7 @@ pub knows : (ws : List ℕ) (d : DriverView) (e : DeviceView) (a : Access) → R
 knows ws d e (Load p) r = λ own. r.words.devices p (own_of d.frame e.frame r.same own)
   where
     own_of : (f g : Frame) → g ≡ f → IsDevices g p → IsDevices f p
-    own_of f g is own = Rattle.std.proofs.Common.subst (λ (h : Frame). IsDevices h p) is own
+    own_of f g is own = subst (λ (h : Frame). IsDevices h p) is own
 knows ws d e (Store p x) r = tt
 
 -- a store that leaves flags, event lane and bell as they are

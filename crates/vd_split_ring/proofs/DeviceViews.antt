@@ -1,5 +1,5 @@
 -- What holds of the device's view alone: the place of an access that is next, the frame, and what an answer says.
-use Rattle.std.proofs.Common.{◌≡◌, ℕ, ◌+◌, ◌%◌, ◌<◌, ◌≤◌, Bool, true, false, List, [], ◌∷◌, ◌++◌, length, if◌then◌else◌, refl, sym, ap, ◌∙◌, subst, arith, inl, inr}
+use Rattle.std.proofs.Common.{◌≡◌, ℕ, ◌<◌, Bool, true, false, List, [], ◌∷◌, ◌++◌, length, if◌then◌else◌, refl, ap, arith, inl, inr}
 use Rattle.std.proofs.lemmas.Nat.{mod_below}
 use Rattle.vd_bits.specs.Lanes.{lane32}
 use Rattle.vd_words.specs.declared.access.Access.{Access}
@@ -7,17 +7,16 @@ use Rattle.vd_words.specs.declared.access.Access.TheVariants.{Load, Store}
 use Rattle.vd_words.specs.declared.access.Op.{Op}
 use Rattle.vd_words.specs.declared.access.Op.TheVariants as op
 use Rattle.vd_words.specs.Step.{place_of}
-use Rattle.vd_ring.specs.declared.act.DeviceAct.{DeviceAct}
 use Rattle.vd_ring.specs.declared.act.DeviceAct.TheVariants as act
 use Rattle.vd_ring.specs.declared.frame.Frame.{Frame}
 use Rattle.vd_ring.specs.declared.device.DeviceNow.{DeviceNow}
 use Rattle.vd_ring.specs.declared.device.DeviceNow.TheVariants.{Idle, Taking, Giving}
 use Rattle.vd_ring.specs.declared.device.DeviceView.{DeviceView}
 use Rattle.vd_ring.specs.Control.{LoadsCommand, StoresAck}
-use Rattle.vd_ring.specs.DeviceSteps.{Gave, Did}
-use Rattle.vd_ring.specs.History.{takes, gives, given, taken_head, last_used}
-use Rattle.vd_split_ring.specs.SplitWords.{IsLawful, IsDescriptors, width, entry_lane, shows, shown_from, is_whole, command_word, ack_word}
-use Rattle.vd_split_ring.specs.SplitDevice.{DeviceNextAt, DeviceNext, Names, Measures, PublishesUsed, BeginsRest, LoadsChain, loaded_head, device_after_at, device_after, device_takes, take_act, device_act_at, device_act}
+use Rattle.vd_ring.specs.DeviceSteps.{Did}
+use Rattle.vd_ring.specs.History.{takes, gives, given}
+use Rattle.vd_split_ring.specs.SplitWords.{IsLawful, IsDescriptors, width, entry_lane, shows, shown_from, is_whole, chain_of, command_word, ack_word}
+use Rattle.vd_split_ring.specs.SplitDevice.{DeviceNextAt, DeviceNext, Names, Measures, PublishesUsed, BeginsRest, LoadsChain, loaded_head, device_after_at, device_after, device_takes, device_act_at, device_act}
 use Rattle.vd_split_ring.proofs.Areas.{areas, lane_inside, entry_inside, acks_follow}
 
 -- ---- the place
@@ -68,7 +67,7 @@ looks_did : (e v w : DeviceView) (b : Bool) → v.done ≡ e.done → w.done ≡
 looks_did e v w true a b = (ap takes a, ap gives a)
 looks_did e v w false a b = (ap takes b, ap gives b)
 
-loads_did : (e : DeviceView) (g w : ℕ) (us : List ℕ) (b : Bool) → Did (if b then act.Taken (length (takes e.done)) (Rattle.vd_split_ring.specs.SplitWords.chain_of e.frame us) else act.Moved) e.done (if b then device_takes e g w us else record e { doing = Taking (g ∷ w ∷ us) }).done
+loads_did : (e : DeviceView) (g w : ℕ) (us : List ℕ) (b : Bool) → Did (if b then act.Taken (length (takes e.done)) (chain_of e.frame us) else act.Moved) e.done (if b then device_takes e g w us else record e { doing = Taking (g ∷ w ∷ us) }).done
 loads_did e g w us true = (refl, refl, refl)
 loads_did e g w us false = (refl, refl)
 

@@ -12,9 +12,11 @@ pub mod DriverAnswers
 pub mod Opens
 pub mod Agreement
 pub mod DeviceParts
+pub mod DeviceLooks
 pub mod DeviceTakes
 pub mod DeviceGives
 pub mod DeviceControl
 pub mod DeviceViews
 pub mod DeviceKeeping
+pub mod DeviceBagSteps
 pub mod DeviceAnswers

@@ -1,4 +1,4 @@
-use Rattle.vd_split_ring.proofs.DeviceAnswers.{bags}
+use Rattle.vd_split_ring.proofs.DeviceBagSteps.{bags}
 use Rattle.vd_split_ring.proofs.device_laws.device_bag_law.Goals as goal
 
 pub returns : goal.returns
