@@ -1,7 +1,8 @@
 -- What the answers of the driver's steps say: of the chain offered, of the entry collected, and of the bag.
-use Rattle.std.proofs.Common.{◌≡◌, ℕ, Bool, true, false, List, [], ◌∷◌, ◌++◌, length, if◌then◌else◌, slice_index, slice_set, refl, sym, ap, ◌∙◌, subst, arith}
+use Rattle.std.proofs.Common.{◌≡◌, ℕ, Bool, true, false, List, [], ◌∷◌, ◌++◌, length, take, if◌then◌else◌, slice_index, slice_set, refl, sym, ap, ◌∙◌, subst, arith}
 use Rattle.std.specs.List.{Contains}
 use Rattle.std.proofs.lemmas.Nat.{mod_below}
+use Rattle.std.proofs.lemmas.List.{take_all}
 use Rattle.vd_bits.specs.Lanes.{lane32}
 use Rattle.vd_model.specs.declared.chain.Piece.{Piece}
 use Rattle.vd_words.specs.declared.access.Access.{Access}
@@ -35,6 +36,7 @@ use Rattle.vd_split_ring.specs.SplitDriverLaws.{DriverBags, IsOffered, IsCollect
 use Rattle.vd_split_ring.proofs.DriverOffers.{publishes, staged_is_chain}
 use Rattle.vd_split_ring.proofs.DriverCollects.{collected_is, collects_last}
 use Rattle.vd_split_ring.proofs.DriverKeeps.{used_word}
+use Rattle.vd_split_ring.proofs.Agreement.{looks_show}
 use Rattle.vd_split_ring.proofs.Spelling.{spells}
 
 -- ---- the answers differ
@@ -144,6 +146,31 @@ collected_at ws d e _ _ _ k l h r n is = absurd (not_collected act.Moved k l h r
 
 pub driver_collected : (ws : List ℕ) (d : DriverView) (e : DeviceView) (op : Op) (a : Access) (k l h : ℕ) → Ring ws d e → DriverNext d op a → driver_act d op a (answered ws a) ≡ act.Collected k l h → IsCollected ws d e op a k l h
 driver_collected ws d e op a k l h r n is = collected_at ws d e d.doing op a k l h r n is
+
+-- ---- Nothing
+
+abbrev is_nothing : DriverAct → Bool
+is_nothing act.Nothing = true
+is_nothing _ = false
+
+look_shows : (b : Bool) → (if b then act.Nothing else act.Moved) ≡ act.Nothing → b ≡ true
+look_shows true is = refl
+look_shows false is = absurd (not_both (ap is_nothing is))
+
+all_collected : (o : List DriverDone) (s : List DeviceDone) → collects o ≡ take (length (collects o)) (gives s) → length (gives s) ≡ length (collects o) → collects o ≡ gives s
+all_collected o s is len = is ∙ take_all (length (collects o)) (gives s) (omega arith)
+
+nothing_at : (ws : List ℕ) (d : DriverView) (e : DeviceView) (now : DriverNow) (op : Op) (a : Access) → Ring ws (record d { doing = now }) e → DriverNextAt now (record d { doing = now }) op a
+    → driver_act_at now (record d { doing = now }) op a (answered ws a) ≡ act.Nothing → collects d.done ≡ gives e.done
+nothing_at ws d e Idle op.Collect (Load p) r h is =
+    let on : shows (slice_index ws p) (length (collects d.done)) ≡ true = look_shows (shows (slice_index ws p) (length (collects d.done))) is in
+    all_collected d.done e.done r.lists.collected ((looks_show ws (record d { doing = Idle }) e r).driver.0 (ap (λ (q : ℕ). shows (slice_index ws q) (length (collects d.done))) (sym h.1) ∙ on))
+nothing_at ws d e (Entered puts) op.Offer (Store p x) r h is = absurd (not_both (ap is_nothing is))
+nothing_at ws d e (Collecting (g ∷ w ∷ [])) op.Collect (Load p) r h is = absurd (not_both (ap is_nothing is))
+nothing_at ws d e _ _ _ r h is = absurd (not_both (ap is_nothing is))
+
+pub driver_nothing : (ws : List ℕ) (d : DriverView) (e : DeviceView) (op : Op) (a : Access) → Ring ws d e → DriverNext d op a → driver_act d op a (answered ws a) ≡ act.Nothing → collects d.done ≡ gives e.done
+driver_nothing ws d e op a r h is = nothing_at ws d e d.doing op a r h is
 
 -- ---- the bag
 

@@ -20,3 +20,4 @@ pub mod DeviceViews
 pub mod DeviceKeeping
 pub mod DeviceBagSteps
 pub mod DeviceAnswers
+mod Examples

@@ -10,6 +10,7 @@ pub use device_laws::{
     device_rest_law, device_taken_law,
 };
 pub use driver_laws::{
-    driver_alone_law, driver_bag_law, driver_collected_law, driver_law, driver_offered_law,
+    driver_alone_law, driver_bag_law, driver_collected_law, driver_law, driver_nothing_law,
+    driver_offered_law,
 };
 pub use laws::{agreement_law, fresh_law, looks_law, spelling_law};
