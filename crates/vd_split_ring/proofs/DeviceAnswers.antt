@@ -10,7 +10,7 @@ use Rattle.vd_words.specs.declared.access.Access.{Access}
 use Rattle.vd_words.specs.declared.access.Access.TheVariants.{Load, Store}
 use Rattle.vd_words.specs.declared.access.Op.{Op}
 use Rattle.vd_words.specs.declared.access.Op.TheVariants as op
-use Rattle.vd_words.specs.Step.{answered}
+use Rattle.vd_words.specs.Step.{answered, written}
 use Rattle.vd_ring.specs.declared.act.DeviceAct.{DeviceAct}
 use Rattle.vd_ring.specs.declared.act.DeviceAct.TheVariants as act
 use Rattle.vd_ring.specs.declared.frame.Frame.{Frame}
@@ -18,45 +18,41 @@ use Rattle.vd_ring.specs.declared.frame.Used.{Used}
 use Rattle.vd_ring.specs.declared.driver.DriverDone.{DriverDone}
 use Rattle.vd_ring.specs.declared.driver.DriverView.{DriverView}
 use Rattle.vd_ring.specs.declared.device.DeviceDone.{DeviceDone}
-use Rattle.vd_ring.specs.declared.device.DeviceDone.TheVariants.{Give, Rest}
+use Rattle.vd_ring.specs.declared.device.DeviceDone.TheVariants.{Take, Give, Rest}
 use Rattle.vd_ring.specs.declared.device.DeviceNow.{DeviceNow}
 use Rattle.vd_ring.specs.declared.device.DeviceNow.TheVariants.{Idle, Taking, Giving}
 use Rattle.vd_ring.specs.declared.device.DeviceView.{DeviceView}
 use Rattle.vd_ring.specs.DeviceSteps.{Did}
-use Rattle.vd_ring.specs.History.{offers, takes, gives, running, taken_head, head, chain, chain_at, given, last_used}
+use Rattle.vd_ring.specs.History.{offers, takes, gives, heads, running, taken_head, head, chain, chain_at, given, last_used}
 use Rattle.vd_ring.specs.Lists.{Lists, Rested, entry_at}
-use Rattle.vd_split_ring.specs.SplitWords.{IsLawful, used_from, id_word, len_word, shows, is_whole, chain_of}
+use Rattle.vd_split_ring.specs.SplitWords.{used_from, id_word, len_word, shows, is_whole, chain_of}
 use Rattle.vd_split_ring.specs.SplitDevice.{DeviceNextAt, DeviceNext, device_after}
 use Rattle.vd_split_ring.specs.SplitRing.{Ring, Gives}
-use Rattle.vd_split_ring.specs.SplitDeviceLaws.{device_answer, device_done, DeviceAlone, IsTaken, IsGiven, LooksNothing, IsResting, HasRested}
+use Rattle.vd_split_ring.specs.SplitDeviceLaws.{device_answer, device_done, IsTaken, HasLastUsed, IsGiven, LooksNothing, HasRested}
 use Rattle.vd_ring.proofs.Counts.{occurs_from}
 use Rattle.vd_ring.proofs.DeviceLists.{running_head, entry_new}
 use Rattle.vd_split_ring.proofs.DeviceLooks.{nothing_left}
 use Rattle.vd_split_ring.proofs.DeviceGives.{given_is, publishes}
 use Rattle.vd_split_ring.proofs.DeviceKeeping.{index_shown, device_keeps}
-use Rattle.vd_split_ring.proofs.DeviceViews.{device_inside, device_frame, device_did}
-
--- ---- from the view alone
-
-pub alone : (e : DeviceView) (o : Op) (a : Access) → IsLawful e.frame → DeviceNext e o a → DeviceAlone e o a
-alone e o a l h = record { inside = device_inside e o a l h; frame = λ r. device_frame e o a r; did = λ r. device_did e o a r }
+use Rattle.vd_split_ring.proofs.DeviceViews.{device_did}
 
 -- ---- the chain taken
 
-taken_of : (f : Frame) (o : List DriverDone) (s t : List DeviceDone) (k : ℕ) (c : List Piece) → k ≡ length (takes s) → takes t ≡ takes s ++ c ∷ [] → Lists f o t → (k < length (offers o)) × (c ≡ chain o k) × (taken_head t k ≡ head f o k)
-taken_of f o s t k c number taken l =
-    let longer : length (takes t) ≡ k + 1 = ap (λ (cs : List (List Piece)). length cs) taken ∙ length_push (takes s) c ∙ ap (λ (n : ℕ). n + 1) (sym number) in
-    let below : k < length (takes t) = omega arith in (
-      omega (arith, l.some),
-      sym (ap (λ (cs : List (List Piece)). chain_at cs k) taken ∙ get_or_push (takes s) c [] k (sym number)) ∙ ap (λ (cs : List (List Piece)). chain_at cs k) l.taken ∙ get_or-take (length (takes t)) (offers o) k [] below,
-      l.heads k below,
+taken_of : (f : Frame) (o : List DriverDone) (s : List DeviceDone) (k h : ℕ) (c : List Piece) → k ≡ length (takes s) → Lists f o s → Lists f o (Take c h ∷ s) → (k < length (offers o)) × (c ≡ chain o k) × (h ≡ head f o k)
+taken_of f o s k h c number l l' =
+    let longer : length (takes s ++ c ∷ []) ≡ k + 1 = length_push (takes s) c ∙ ap (λ (n : ℕ). n + 1) (sym number) in
+    let below : k < length (takes s ++ c ∷ []) = omega arith in (
+      omega (arith, l'.some),
+      sym (get_or_push (takes s) c [] k (sym number)) ∙ ap (λ (cs : List (List Piece)). chain_at cs k) l'.taken ∙ get_or-take (length (takes s ++ c ∷ [])) (offers o) k [] below,
+      sym (get_or_push (heads s) h 0 k (l.as_many ∙ sym number)) ∙ l'.heads k below,
     )
 
 pub is_taken : (ws : List ℕ) (d : DriverView) (e : DeviceView) (o : Op) (a : Access) (k : ℕ) (c : List Piece) → Ring ws d e → DeviceNext e o a → device_answer ws e o a ≡ act.Taken k c → IsTaken ws d e o a k c
 is_taken ws d e o a k c r h is =
     let did = subst (λ (x : DeviceAct). Did x e.done (device_done ws e o a)) is (device_did e o a (answered ws a)) in
-    let after = taken_of d.frame d.done e.done (device_done ws e o a) k c did.0 did.1 (device_keeps ws d e o a r h).keeps.lists in
-    record { number = did.0; offered = after.0; chain = after.1; taken = did.1; is_head = after.2 }
+    let kept : Lists d.frame d.done (device_done ws e o a) = (device_keeps ws d e o a r h).keeps.lists in
+    let after = taken_of d.frame d.done e.done k did.1.0 c did.0 r.lists (subst (λ (t : List DeviceDone). Lists d.frame d.done t) did.1.1 kept) in
+    record { number = did.0; offered = after.0; is_chain = after.1; took = did.1.1 ∙ ap (λ (g : ℕ). Take c g ∷ e.done) after.2 }
 
 -- ---- the used entry
 
@@ -87,11 +83,13 @@ gives_at ws d e a b p x k r h is =
     record {
       runs = runs;
       entries = us;
-      given = refl;
+      gave = refl;
       last = is;
-      id = ap (λ (w : ℕ). lane32 w 1) (after.words.devices (id_word f g) (inl (omega arith, omega arith))) ∙ after.served.ids g (last_used us) low at ∙ ap (head f d.done) is ∙ sym hd.0;
-      len = ap (λ (w : ℕ). lane32 w 0) (after.words.devices (len_word f g) (inl (omega arith, omega arith))) ∙ after.served.lens g (last_used us) low at;
-      index = ap (λ (w : ℕ). lane16 w 1) (after.words.devices (used_from f) (inl (omega arith, omega arith))) ∙ after.served.index;
+      stands = record {
+        id = ap (λ (w : ℕ). lane32 w 1) (after.words.devices (id_word f g) (inl (omega arith, omega arith))) ∙ after.served.ids g (last_used us) low at ∙ ap (head f d.done) is ∙ sym hd.0 ∙ ap (taken_head s) (sym is);
+        len = ap (λ (w : ℕ). lane32 w 0) (after.words.devices (len_word f g) (inl (omega arith, omega arith))) ∙ after.served.lens g (last_used us) low at;
+        index = ap (λ (w : ℕ). lane16 w 1) (after.words.devices (used_from f) (inl (omega arith, omega arith))) ∙ after.served.index;
+      };
     }
 
 given_at : (ws : List ℕ) (d : DriverView) (e : DeviceView) (doing : DeviceNow) (o : Op) (a : Access) (k : ℕ) → Ring ws d (record e { frame = d.frame; doing = doing }) → DeviceNextAt doing (record e { frame = d.frame; doing = doing }) o a
@@ -111,6 +109,9 @@ given_at ws d e _ _ _ k r h is = absurd h
 pub is_given : (ws : List ℕ) (d : DriverView) (e : DeviceView) (o : Op) (a : Access) (k : ℕ) → Ring ws d e → DeviceNext e o a → device_answer ws e o a ≡ act.Given k → IsGiven ws d e o a k
 is_given ws d e o a k r h is =
     subst (λ (f : Frame). Ring ws d (record e { frame = f }) → DeviceNext (record e { frame = f }) o a → device_answer ws (record e { frame = f }) o a ≡ act.Given k → IsGiven ws d (record e { frame = f }) o a k) (sym r.same) (given_at ws d e e.doing o a k) r h is
+
+pub has_last_used : (ws : List ℕ) (d : DriverView) (e : DeviceView) (o : Op) (a : Access) (k : ℕ) → Ring ws d e → DeviceNext e o a → device_answer ws e o a ≡ act.Given k → HasLastUsed d.frame (written ws a) (device_done ws e o a)
+has_last_used ws d e o a k r h is = let g = is_given ws d e o a k r h is in subst (λ (t : List DeviceDone). HasLastUsed d.frame (written ws a) t) (sym g.gave) g.stands
 
 -- ---- nothing left
 
@@ -153,26 +154,11 @@ looks_nothing ws d e o a r h =
 
 -- ---- rest
 
-rested_at : (s : List DeviceDone) (older : List DeviceDone) → s ≡ Rest ∷ older → Rested s → HasRested s
-rested_at s older is r = subst (λ (t : List DeviceDone). HasRested t) (sym is) (let both : Rested (Rest ∷ older) = subst Rested is r in record { even = both.0; whole = both.1; none = refl })
+rested_at : (s older : List DeviceDone) → s ≡ Rest ∷ older → Rested s → HasRested s
+rested_at s older is r = subst (λ (t : List DeviceDone). HasRested t) (sym is) (let both : Rested (Rest ∷ older) = subst Rested is r in record { none = refl; even = both.0; whole = both.1 })
 
-pub has_rested : (ws : List ℕ) (d : DriverView) (e : DeviceView) → Ring ws d e → IsResting e.done → HasRested e.done
-has_rested ws d e r rest = rested_at e.done rest.0 rest.1 r.rested
+pub has_rested : (ws : List ℕ) (d : DriverView) (e : DeviceView) (older : List DeviceDone) → Ring ws d e → e.done ≡ Rest ∷ older → HasRested e.done
+has_rested ws d e older r is = rested_at e.done older is r.rested
 
-look_not_rested : (c : Bool) → (if c then act.Nothing else act.Moved) ≡ act.Rested → ⊥
-look_not_rested true is = cc
-look_not_rested false is = cc
-
-take_not_rested : (c : Bool) (j : ℕ) (ch : List Piece) → (if c then act.Taken j ch else act.Moved) ≡ act.Rested → ⊥
-take_not_rested true j ch is = cc
-take_not_rested false j ch is = cc
-
-rests_at : (ws : List ℕ) (e : DeviceView) (doing : DeviceNow) (o : Op) (a : Access) → device_answer ws (record e { doing = doing }) o a ≡ act.Rested → IsResting (device_done ws (record e { doing = doing }) o a)
-rests_at ws e Idle op.Rest (Load p) is = (e.done, refl)
-rests_at ws e Idle op.Take (Load p) is = absurd (look_not_rested (shows (slice_index ws p) (length (takes e.done))) is)
-rests_at ws e (Taking (g ∷ w ∷ ss)) op.Take (Load p) is = let us : List ℕ = ss ++ slice_index ws p ∷ [] in absurd (take_not_rested (is_whole e.frame us) (length (takes e.done)) (chain_of e.frame us) is)
-rests_at ws e (Giving (a ∷ b ∷ [])) op.Give (Store p x) is = absurd cc
-rests_at ws e _ _ _ is = absurd cc
-
-pub rests : (ws : List ℕ) (e : DeviceView) (o : Op) (a : Access) → device_answer ws e o a ≡ act.Rested → IsResting (device_done ws e o a)
-rests ws e o a is = rests_at ws e e.doing o a is
+pub rests : (ws : List ℕ) (d : DriverView) (e : DeviceView) (o : Op) (a : Access) → Ring ws d e → DeviceNext e o a → device_answer ws e o a ≡ act.Rested → HasRested (device_done ws e o a)
+rests ws d e o a r h is = rested_at (device_done ws e o a) e.done (subst (λ (x : DeviceAct). Did x e.done (device_done ws e o a)) is (device_did e o a (answered ws a))) (device_keeps ws d e o a r h).keeps.rested
