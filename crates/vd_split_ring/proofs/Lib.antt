@@ -1,6 +1,8 @@
 pub mod Areas
 pub mod Descriptors
 pub mod Direct
+pub mod Tables
+pub mod Reading
 pub mod DriverParts
 pub mod DriverOffers
 pub mod DriverCollects
