@@ -22,7 +22,8 @@ pub fn device_law()
     ensures { (ws : List ℕ) (d : DriverView) (e : DeviceView) (o : Op) (a : Access) → Ring ws d e → DeviceNext e o a → DeviceKeeps ws d e o a }
 {}
 
-/// From the view alone: it is to one of the ring's words. No access changes the frame, and each answer says what was done.
+/// From the view alone: an access that is next is to one of the ring's words, none changes the frame, and each answer says what
+/// was done.
 pub fn device_alone_law()
     ensures inside { (e : DeviceView) (o : Op) (a : Access) → IsLawful e.frame → DeviceNext e o a → place_of a < width e.frame }
     ensures frame { (e : DeviceView) (o : Op) (a : Access) (r : ℕ) → (device_after e o a r).frame ≡ e.frame }
