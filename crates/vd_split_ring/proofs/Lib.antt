@@ -13,4 +13,13 @@ pub mod Spelling
 pub mod DriverAnswers
 pub mod Opens
 pub mod Agreement
+pub mod DeviceParts
+pub mod DeviceLooks
+pub mod DeviceTakes
+pub mod DeviceGives
+pub mod DeviceControl
+pub mod DeviceViews
+pub mod DeviceKeeping
+pub mod DeviceBagSteps
+pub mod DeviceAnswers
 mod Examples
