@@ -13,6 +13,7 @@ use Rattle.vd_ring.specs.declared.act.DeviceAct.TheVariants as device_act
 use Rattle.vd_ring.specs.declared.driver.DriverDone.{DriverDone}
 use Rattle.vd_ring.specs.declared.driver.DriverView.{DriverView}
 use Rattle.vd_ring.specs.declared.device.DeviceDone.{DeviceDone}
+use Rattle.vd_ring.specs.declared.device.DeviceDone.TheVariants.{Give}
 use Rattle.vd_ring.specs.declared.device.DeviceView.{DeviceView}
 use Rattle.vd_ring.specs.declared.frame.Frame.{Frame}
 use Rattle.vd_ring.specs.declared.frame.Used.{Used}
@@ -68,12 +69,12 @@ pub record IsFresh {D E : Type 0} (d : DriverModel D) (e : DeviceModel E) (l : L
   pub awake : e.resting y ≡ false
   pub unused : e.fresh y ≡ true
 
--- what a device's answer is to the bag, by the entries that its step gave
+-- what a device's answer is to the bag; the entries are those of the give that Given made
 pub record DeviceBags (in_order : Bool) (answer : DeviceAct) (o : List DriverDone) (s s' : List DeviceDone) (b : List State) : Type 0 where
-  pub given : List Used
-  pub gave : gives s' ≡ gives s ++ given
+  pub entries : List Used
+  pub gave : (k : ℕ) → answer ≡ device_act.Given k → s' ≡ Give entries ∷ s
   pub bag : List State
-  pub step : DeviceBagStep in_order given answer b bag
+  pub step : DeviceBagStep in_order entries answer b bag
   pub stands : StandsFor o s' bag
 
 pub record IsLawfulLayout {D E : Type 0} (d : DriverModel D) (e : DeviceModel E) (l : LayoutModel) : Type 0 where
@@ -99,12 +100,12 @@ pub record IsLawfulLayout {D E : Type 0} (d : DriverModel D) (e : DeviceModel E)
   pub device_nothing : (ws : List ℕ) (v : DriverView) (w : DeviceView) (op : Op) (a : Access) → l.ring ws v w → e.side.next w op a → e.act w op a (answered ws a) ≡ device_act.Nothing → takes w.done ≡ offers v.done
   -- after an offer the words spell the chain; after a give the used entry stands
   pub spells : (ws : List ℕ) (v : DriverView) (w : DeviceView) (op : Op) (a : Access) (k : ℕ) → l.ring ws v w → d.side.next v op a → d.act v op a (answered ws a) ≡ driver_act.Offered k → l.spells_last v.frame (written ws a) (d.side.after v op a (answered ws a)).done
-  pub uses : (ws : List ℕ) (v : DriverView) (w : DeviceView) (op : Op) (a : Access) (k : ℕ) → l.ring ws v w → e.side.next w op a → e.act w op a (answered ws a) ≡ device_act.Given k → l.has_last_used w.frame (written ws a) (e.side.after w op a (answered ws a)).done
+  pub uses : (ws : List ℕ) (v : DriverView) (w : DeviceView) (op : Op) (a : Access) (k : ℕ) → l.ring ws v w → e.side.next w op a → e.act w op a (answered ws a) ≡ device_act.Given k → l.has_last_used v.frame (written ws a) (e.side.after w op a (answered ws a)).done
   -- each answer is the one bag step that it names, and every other answer is none
   pub driver_bag : (ws : List ℕ) (v : DriverView) (w : DeviceView) (op : Op) (a : Access) (b : List State) → l.ring ws v w → d.side.next v op a → StandsFor v.done w.done b
       → (b' : List State) × DriverBagStep (d.act v op a (answered ws a)) b b' × StandsFor (d.side.after v op a (answered ws a)).done w.done b'
   pub device_bag : (ws : List ℕ) (v : DriverView) (w : DeviceView) (op : Op) (a : Access) (b : List State) → l.ring ws v w → e.side.next w op a → StandsFor v.done w.done b
-      → DeviceBags w.frame.features.in_order (e.act w op a (answered ws a)) v.done w.done (e.side.after w op a (answered ws a)).done b
+      → DeviceBags v.frame.features.in_order (e.act w op a (answered ws a)) v.done w.done (e.side.after w op a (answered ws a)).done b
   -- both ends know where commands and acks stand
   pub worded : (g : Frame) (h : ℕ) → (d.words.command g h ≡ l.words.command g h) × (d.words.ack g h ≡ l.words.ack g h) × (e.words.command g h ≡ l.words.command g h) × (e.words.ack g h ≡ l.words.ack g h)
   -- a lawful size has a place, and few enough

@@ -9,3 +9,4 @@ pub mod DeviceEnd
 pub mod DeviceGiving
 pub mod DeviceTaking
 pub mod DeviceLaws
+pub mod SplitLayout
