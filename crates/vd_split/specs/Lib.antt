@@ -8,3 +8,5 @@ pub mod Opening
 pub mod DeviceEnd
 pub mod DeviceGiving
 pub mod DeviceTaking
+pub mod DeviceLaws
+pub mod SplitLayout

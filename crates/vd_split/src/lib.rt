@@ -4,6 +4,8 @@
 mod descriptors;
 mod device;
 mod driver;
+mod layout;
 
 pub use device::SplitDevice;
 pub use driver::SplitDriver;
+pub use layout::Split;

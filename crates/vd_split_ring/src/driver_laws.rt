@@ -12,7 +12,7 @@ ghost use Rattle.vd_ring.specs.Steps.{StandsFor};
 ghost use Rattle.vd_split_ring.specs.SplitDriver.{DriverNext, driver_act};
 ghost use Rattle.vd_split_ring.specs.SplitDriverLaws.{DriverKeeps, DriverAlone, DriverBags, IsOffered, IsCollected};
 ghost use Rattle.vd_split_ring.specs.SplitRing.{Ring};
-ghost use Rattle.vd_split_ring.specs.SplitWords.{IsLawful, IsBuilt};
+ghost use Rattle.vd_split_ring.specs.SplitWords.{IsLawful};
 
 /// Each access of the driver that is next keeps the ring invariant, and its answer tells what the view says.
 pub fn driver_law()
@@ -21,7 +21,7 @@ pub fn driver_law()
 
 /// From the view alone: it is to one of the ring's words, and leaves the frame.
 pub fn driver_alone_law()
-    ensures { (d : DriverView) (op : Op) (a : Access) → IsLawful d.frame → IsBuilt d.frame → DriverNext d op a → DriverAlone d op a }
+    ensures { (d : DriverView) (op : Op) (a : Access) → IsLawful d.frame → DriverNext d op a → DriverAlone d op a }
 {}
 
 /// The answer names the one step of the ring's bag.
