@@ -179,5 +179,6 @@ driver_laws = record {
   at_rest = λ e v st idle. rests_at e.doing e.pieces.items v.frame v.done v.doing st.doing idle;
   ends = λ e none. ends_at e.doing e.pieces.items none;
   control = λ e v a r st n. control_at v.doing e v a r st n;
+  unarmed = λ e v st. st.silent.unarmed;
   framed = λ v o a r. frame_at v.doing v o a r;
 }
