@@ -1,7 +1,9 @@
 -- One chain alone on a ring: what is taken is what was offered, and what is collected is what was given.
-use Rattle.std.proofs.Common.{◌≡◌, ℕ, ◌+◌, ◌<◌, ◌≤◌, List, [], ◌∷◌, ◌++◌, length, take, get_or, true, false, sym, ap, ◌∙◌, refl, arith, subst, length-append}
+use Rattle.std.proofs.Common.{◌≡◌, ℕ, ◌+◌, ◌<◌, ◌≤◌, List, [], ◌∷◌, ◌++◌, length, take, get_or, true, false, sym, ap, ◌∙◌, refl, arith, subst, length-append, inl, inr}
 use Rattle.std.specs.List.{Contains, sum_by}
 use Rattle.std.proofs.Math.Seq.{get_or-append_seam, take-length}
+use Rattle.std.proofs.lemmas.List.{length-take-le}
+use Rattle.vd_ring.proofs.Counts.{one_below}
 use Rattle.vd_model.specs.Chains.{needs}
 use Rattle.vd_model.specs.declared.chain.Piece.{Piece}
 use Rattle.vd_words.specs.Model.{PortModel, IsLawfulPort}
@@ -11,10 +13,10 @@ use Rattle.vd_ring.specs.declared.driver.DriverDone.{DriverDone}
 use Rattle.vd_ring.specs.declared.driver.DriverDone.TheVariants.{Offer, Collect}
 use Rattle.vd_ring.specs.declared.driver.DriverView.{DriverView}
 use Rattle.vd_ring.specs.declared.device.DeviceDone.{DeviceDone}
-use Rattle.vd_ring.specs.declared.device.DeviceDone.TheVariants.{Take, Give}
+use Rattle.vd_ring.specs.declared.device.DeviceDone.TheVariants.{Take, Give, Rest}
 use Rattle.vd_ring.specs.declared.device.DeviceView.{DeviceView}
 use Rattle.vd_ring.specs.Frames.{Fits, limit}
-use Rattle.vd_ring.specs.History.{offers, collects, takes, gives, running, open_at, open_size, chain, entry}
+use Rattle.vd_ring.specs.History.{offers, collects, takes, gives, running, open_at, open_size, chain, entry, numbers, occurs, IsWhole}
 use Rattle.vd_ring.specs.Lists.{Lists}
 use Rattle.vd_ring.specs.Places.{Places}
 use Rattle.vd_ring.proofs.Counts.{Contains_from, occurs_push}
@@ -23,7 +25,7 @@ use Rattle.vd_layout.specs.Device.{DeviceModel, MayGive}
 use Rattle.vd_layout.specs.Driver.{DriverModel, MayOffer}
 use Rattle.vd_layout.specs.Layout.{LayoutModel, IsLawfulLayout}
 use Rattle.vd_layout.specs.Whole.{IsRingAt}
-use Rattle.vd_runner.specs.Lane.{DriverDid, DeviceDid, DeviceTook, IsQuiet, IsFree, CanCarry}
+use Rattle.vd_runner.specs.Lane.{DriverDid, DeviceDid, DeviceTook, IsQuiet, IsFree, CanCarry, IsSuspended}
 
 -- ---- lists
 
@@ -129,3 +131,42 @@ carried port law d e l lawful p p1 p2 p3 p4 x x1 x2 y y1 y2 f n c z u t q o k g 
       },
       law.same_trans p p1 p4 o.same (law.same_trans p1 p2 p4 k.did.same (law.same_trans p2 p3 p4 g.same h.same)),
     )
+
+-- ---- a device's rest
+
+-- where as many were given as taken, each number below was given once
+pub all_given : (f : Frame) (o : List DriverDone) (s : List DeviceDone) → Lists f o s → length (takes s) ≡ length (gives s) → IsWhole s
+all_given f o s lists even = λ k h.
+    let none = ap (λ ks. occurs k ks) (none_running f o s lists even) in
+    let here = one_below k (length (takes s)) (omega arith) in
+    omega (arith, lists.given k, none, here)
+
+pub may_rest : {P D E : Type 0} (port : PortModel P) (d : DriverModel D) (e : DeviceModel E) (l : LayoutModel) (lawful : IsLawfulLayout d e l) (p : P) (x : D) (y : E) (f : Frame) (n : ℕ) → (q : IsQuiet port d e l p x y f n) → IsWhole q.device.done
+may_rest port d e l lawful p x y f n q = all_given q.driver.frame q.driver.done q.device.done (lawful.lists q.ring.words q.driver q.device q.ring.ring) (q.taken ∙ sym q.given)
+
+pub suspended : {P D E : Type 0} (port : PortModel P) (d : DriverModel D) (e : DeviceModel E) (l : LayoutModel) (lawful : IsLawfulLayout d e l) (p p1 : P) (x : D) (y y1 : E) (f : Frame) (n base : ℕ) → (q : IsQuiet port d e l p x y f n) → DeviceDid port e l p p1 q.driver q.device y1 Rest
+    → e.resting y1 ≡ true → base ≡ e.base y1 → IsSuspended port d e l p p1 x y1 f n base
+suspended port d e l lawful p p1 x y y1 f n base q r resting is =
+    let kept : length (takes r.view.done) ≡ n = ap (λ a. length (takes a)) r.done ∙ ap (λ m. length (take m (takes q.device.done))) q.given ∙ length-take-le n (takes q.device.done) (omega (arith, q.taken)) ∙ refl in
+    record {
+      resting = resting;
+      based = sym is;
+      chains = takes r.view.done;
+      count = kept;
+      base_is = is ∙ lawful.device_end.based y1 r.view r.stands (inl resting) ∙ ap (λ (g : Frame). e.base_of g (takes r.view.done)) (r.framed ∙ (lawful.wide q.ring.words q.driver q.device q.ring.ring).1 ∙ q.framed);
+      same = r.same;
+      wakes = λ z stands free. record {
+        driver = q.driver;
+        device = r.view;
+        drives = q.drives;
+        serves = stands r.view r.stands;
+        ring = r.ring;
+        framed = q.framed;
+        offered = q.offered;
+        taken = kept;
+        given = ap (λ a. length (gives a)) r.done ∙ q.given;
+        collected = q.collected;
+        idle = q.idle;
+        free = free;
+      };
+    }

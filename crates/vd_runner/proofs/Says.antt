@@ -9,7 +9,7 @@ use Rattle.vd_ring.specs.declared.act.DeviceAct.TheVariants as device_act
 use Rattle.vd_ring.specs.declared.driver.DriverDone.{DriverDone}
 use Rattle.vd_ring.specs.declared.driver.DriverDone.TheVariants.{Offer, Collect}
 use Rattle.vd_ring.specs.declared.device.DeviceDone.{DeviceDone}
-use Rattle.vd_ring.specs.declared.device.DeviceDone.TheVariants.{Take, Give}
+use Rattle.vd_ring.specs.declared.device.DeviceDone.TheVariants.{Take, Give, Rest}
 use Rattle.vd_ring.specs.declared.frame.Frame.{Frame}
 use Rattle.vd_layout.specs.Begun.{DriverOp, DeviceOp}
 use Rattle.vd_layout.specs.Control.{ControlWords}
@@ -102,3 +102,14 @@ collect_nothing x b f o o' is told s none = only x (collect_says x b f o o' is t
     only : (y : DriverAct) → CollectSaid o o' y → ((k n h : ℕ) → y ≡ driver_act.Collected k n h → ⊥) → y ≡ driver_act.Nothing
     only y (nothing e) never = refl
     only y (collected k n h e) never = absurd (never k n h refl)
+
+-- a rest rested
+pub rest_says : (words : ControlWords) (x : DeviceAct) (b : DeviceOp) (f : Frame) (s s' : List DeviceDone) → b ≡ DeviceOp.rest → x ≢ device_act.Moved → DeviceSays words x b DeviceOp.idle f s s' → (s' ≡ Rest ∷ s) × (is_rested x ≡ true)
+rest_says words device_act.Moved b f s s' is told h = absurd (told refl)
+rest_says words device_act.Nothing b f s s' is told h = absurd (cc (is, h.0))
+rest_says words (device_act.Taken k c) b f s s' is told h = absurd (cc (is, h.1))
+rest_says words (device_act.Given k) b f s s' is told h = absurd (cc (is, h.1))
+rest_says words device_act.Rested b f s s' is told h = (h.2, refl)
+rest_says words device_act.Armed b f s s' is told h = absurd h
+rest_says words device_act.Awake b f s s' is told h = absurd h
+rest_says words device_act.Asleep b f s s' is told h = absurd h

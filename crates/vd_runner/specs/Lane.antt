@@ -1,5 +1,8 @@
 -- What whole operations of both ends leave on a ring of plain words. In each the other side's view stays as it was.
-use Rattle.std.specs.Prelude.{◌≡◌, ℕ, ◌+◌, ◌<◌, List, [], ◌∷◌, length, false}
+use Rattle.std.specs.Prelude.{◌≡◌, ℕ, ◌+◌, ◌<◌, ◌≤◌, List, [], ◌∷◌, length, true, false, None, slice_index_or}
+use Rattle.vd_model.specs.Chains.{needs, total}
+use Rattle.vd_model.specs.declared.features.Features.{Features}
+use Rattle.vd_model.specs.declared.record.Run.{Run}
 use Rattle.vd_model.specs.declared.chain.Piece.{Piece}
 use Rattle.vd_words.specs.Model.{PortModel}
 use Rattle.vd_ring.specs.Frames.{Fits, limit}
@@ -71,3 +74,26 @@ pub record HasCarried {P D E : Type 0} (port : PortModel P) (d : DriverModel D) 
   pub quiet : IsQuiet port d e l q x y f (n + 1)
   pub same : port.same p q
   pub number : k ≡ n
+
+-- the device's end was suspended on a quiet ring: it rests at this base, and an awake end that stands for its views is quiet
+pub record IsSuspended {P D E : Type 0} (port : PortModel P) (d : DriverModel D) (e : DeviceModel E) (l : LayoutModel) (p q : P) (x : D) (y : E) (f : Frame) (n base : ℕ) : Type 0 where
+  pub resting : e.resting y ≡ true
+  pub based : e.base y ≡ base
+  pub chains : List (List Piece)
+  pub count : length chains ≡ n
+  pub base_is : base ≡ e.base_of f chains
+  pub same : port.same p q
+  pub wakes : (z : E) → ((w : DeviceView) → e.stands y w → e.stands z w) → IsFree e z → IsQuiet port d e l q x z f n
+
+-- the frame of the guest's ring of queue 0
+abbrev pub frame_of : LayoutModel → ℕ → Features → Frame
+frame_of l n f = record { ring = 0; packed = l.packed; size = n; features = f; control = false; bounds = None }
+
+-- a chain that may stand on such a ring
+pub record IsSent (size : ℕ) (f : Features) (c : List Piece) : Type 0 where
+  pub total : total c ≤ 4294967295
+  pub needs : needs f c ≤ size
+
+-- each run's chain may stand on such a ring
+abbrev pub AreSent : ℕ → Features → List Run → Type 0
+AreSent size f runs = (k : ℕ) (d : Run) → k < length runs → IsSent size f (slice_index_or runs k d).chain

@@ -1,5 +1,5 @@
 //! One chain's way over a ring and back, through both ends of any layout.
-ghost use Rattle.std.specs.Prelude.{◌≡◌, ◌<◌, ◌≤◌, ◌∷◌, [], length, ℕ};
+ghost use Rattle.std.specs.Prelude.{◌≡◌, ◌<◌, ◌≤◌, ◌∷◌, [], length, ℕ, true};
 ghost use Rattle.vd_model.specs.Chains.{total};
 ghost use Rattle.vd_ring.specs.declared.frame.Frame.{Frame};
 ghost use Rattle.vd_ring.specs.History.{entry, offers, collects, takes, gives};
@@ -12,10 +12,10 @@ ghost use Rattle.vd_layout.specs.Device.{MayGive};
 ghost use Rattle.vd_layout.specs.Driver.{MayOffer};
 ghost use Rattle.vd_layout.specs.Whole.{IsRingAt};
 ghost use Rattle.vd_runner.specs.Journal.{given_len};
-ghost use Rattle.vd_runner.specs.Lane.{DriverDid, DeviceDid, DeviceTook, IsFree, IsQuiet, CanCarry, HasCarried};
+ghost use Rattle.vd_runner.specs.Lane.{DriverDid, DeviceDid, DeviceTook, IsFree, IsQuiet, CanCarry, HasCarried, IsSuspended};
 
 use vd_layout::{DeviceEnd, DriverEnd, Layout, finish_device, finish_driver};
-use vd_model::Chain;
+use vd_model::{Base, Chain};
 use vd_ring::{DeviceAct, DriverAct};
 use vd_words::Port;
 
@@ -97,4 +97,28 @@ pub fn carry<L: Layout, P: Port>(
     give::<L, P>(device, port, number, len);
     let (number, len) = collect::<L, P>(driver, port);
     (taken, number, len)
+}
+
+/// Suspends the device on a ring on which no chain stands: its end rests. Answers the ring's base.
+pub fn suspend<L: Layout, P: Port>(driver: &L::Driver, device: &mut L::Device, port: &mut P) -> Base
+    requires quiet { (f : Frame) × (n : ℕ) × IsQuiet P.port L.Driver.driver L.Device.device L.layout port.old driver.now device.old f n }
+    ensures { (f : Frame) (n : ℕ) → IsQuiet P.port L.Driver.driver L.Device.device L.layout port.old driver.now device.old f n → IsSuspended P.port L.Driver.driver L.Device.device L.layout port.old port.new driver.now device.new f n result.0 }
+{
+    let _ = driver;
+    device.begin_rest();
+    let _ = finish_device(device, port);
+    device.base()
+}
+
+/// Attaches a suspended device's end again, at its base.
+pub fn resume<E: DeviceEnd>(device: &mut E, base: Base)
+    requires resting { E.device.resting device.old ≡ true }
+    requires base { E.device.base device.old ≡ base.0 }
+    ensures free { IsFree E.device device.new }
+    ensures stands { (w : DeviceView) → E.device.stands device.old w → E.device.stands device.new w }
+{
+    match device.resume(base) {
+        Ok(()) => {}
+        Err(_) => unreachable!(),
+    }
 }

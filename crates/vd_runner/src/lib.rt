@@ -5,6 +5,7 @@ mod bench;
 mod command;
 mod lane;
 mod line;
+mod serve;
 mod writing;
 
 pub use bench::{FirstBench, FirstEvent};
