@@ -3,14 +3,13 @@ ghost use Rattle.std.specs.Prelude.{◌≡◌, ℕ, List};
 ghost use Rattle.vd_words.specs.declared.access.Access.{Access};
 ghost use Rattle.vd_words.specs.declared.access.Op.{Op};
 ghost use Rattle.vd_words.specs.Step.{answered};
-ghost use Rattle.vd_ring.specs.declared.act.DriverAct.TheVariants.{Offered, Collected, Nothing};
+ghost use Rattle.vd_ring.specs.declared.act.DriverAct.TheVariants.{Offered, Collected};
 ghost use Rattle.vd_ring.specs.declared.device.DeviceView.{DeviceView};
 ghost use Rattle.vd_ring.specs.declared.driver.DriverView.{DriverView};
 ghost use Rattle.vd_ring.specs.Bag.{State};
-ghost use Rattle.vd_ring.specs.History.{collects, gives};
 ghost use Rattle.vd_ring.specs.Steps.{StandsFor};
 ghost use Rattle.vd_split_ring.specs.SplitDriver.{DriverNext, driver_act};
-ghost use Rattle.vd_split_ring.specs.SplitDriverLaws.{DriverKeeps, DriverAlone, DriverBags, IsOffered, IsCollected};
+ghost use Rattle.vd_split_ring.specs.SplitDriverLaws.{DriverKeeps, DriverAlone, DriverBags, IsOffered, IsCollected, CollectsNothing};
 ghost use Rattle.vd_split_ring.specs.SplitRing.{Ring};
 ghost use Rattle.vd_split_ring.specs.SplitWords.{IsLawful};
 
@@ -39,7 +38,8 @@ pub fn driver_collected_law()
     ensures { (ws : List ℕ) (d : DriverView) (e : DeviceView) (op : Op) (a : Access) (k l h : ℕ) → Ring ws d e → DriverNext d op a → driver_act d op a (answered ws a) ≡ Collected k l h → IsCollected ws d e op a k l h }
 {}
 
-/// `Nothing` comes only where all that was given is collected.
+/// `Nothing` is the answer of a collect exactly where the loaded index is the count collected, modulo 65,536. Then all entries
+/// given are collected.
 pub fn driver_nothing_law()
-    ensures { (ws : List ℕ) (d : DriverView) (e : DeviceView) (op : Op) (a : Access) → Ring ws d e → DriverNext d op a → driver_act d op a (answered ws a) ≡ Nothing → collects d.done ≡ gives e.done }
+    ensures { (ws : List ℕ) (d : DriverView) (e : DeviceView) (op : Op) (a : Access) → Ring ws d e → DriverNext d op a → CollectsNothing ws d e op a }
 {}
