@@ -26,7 +26,7 @@ use Rattle.vd_split_ring.proofs.DeviceControl.{commands, acks}
 pub index_shown : (ws : List ℕ) (d : DriverView) (e : DeviceView) (p : ℕ) → Ring ws d e → p ≡ lane_word d.frame 1 → lane16 (slice_index ws p) 1 ≡ length (offers d.done) % 65536
 index_shown ws d e p r at =
     let low : p < used_from d.frame = omega (arith, lane_inside d.frame 1 (omega arith)) in
-    ap (λ y. lane16 y 1) (r.words.drivers p (inl low) ∙ ap (λ q. slice_index d.stored q) at) ∙ r.driven.index
+    ap (λ y. lane16 y 1) (r.words.drivers p (inl low) ∙ ap (λ q. slice_index d.stored q) at) ∙ r.driver_words.index
 
 -- descriptors are the driver's words
 drivers_descriptor : (f : Frame) (p : ℕ) → IsDescriptors f p → IsDrivers f p
