@@ -7,8 +7,9 @@ ghost use Rattle.vd_ring.specs.declared.act.DriverAct.TheVariants.{Offered, Coll
 ghost use Rattle.vd_ring.specs.declared.device.DeviceView.{DeviceView};
 ghost use Rattle.vd_ring.specs.declared.driver.DriverView.{DriverView};
 ghost use Rattle.vd_ring.specs.Bag.{State};
+ghost use Rattle.vd_ring.specs.DriverSteps.{DriverDid};
 ghost use Rattle.vd_ring.specs.Steps.{StandsFor};
-ghost use Rattle.vd_split_ring.specs.SplitDriver.{DriverNext, driver_act};
+ghost use Rattle.vd_split_ring.specs.SplitDriver.{DriverNext, driver_after, driver_act};
 ghost use Rattle.vd_split_ring.specs.SplitDriverLaws.{DriverKeeps, DriverAlone, DriverBags, IsOffered, IsCollected, CollectsNothing};
 ghost use Rattle.vd_split_ring.specs.SplitRing.{Ring};
 ghost use Rattle.vd_split_ring.specs.SplitWords.{IsLawful};
@@ -18,9 +19,12 @@ pub fn driver_law()
     ensures { (ws : List ℕ) (d : DriverView) (e : DeviceView) (op : Op) (a : Access) → Ring ws d e → DriverNext d op a → DriverKeeps ws d e op a }
 {}
 
-/// From the view alone: it is to one of the ring's words, and leaves the frame.
+/// From the view alone: an access that is next is to one of the ring's words, none changes the frame, and each answer says what
+/// was done.
 pub fn driver_alone_law()
-    ensures { (d : DriverView) (op : Op) (a : Access) → IsLawful d.frame → DriverNext d op a → DriverAlone d op a }
+    ensures inside { (d : DriverView) (op : Op) (a : Access) → IsLawful d.frame → DriverNext d op a → DriverAlone d op a }
+    ensures frame { (d : DriverView) (op : Op) (a : Access) (r : ℕ) → (driver_after d op a r).frame ≡ d.frame }
+    ensures did { (d : DriverView) (op : Op) (a : Access) (r : ℕ) → DriverDid (driver_act d op a r) d.done (driver_after d op a r).done }
 {}
 
 /// The answer names the one step of the ring's bag.
