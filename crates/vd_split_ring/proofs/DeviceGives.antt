@@ -13,9 +13,9 @@ use Rattle.vd_ring.specs.declared.device.DeviceDone.{DeviceDone}
 use Rattle.vd_ring.specs.declared.device.DeviceDone.TheVariants.{Give, Rest}
 use Rattle.vd_ring.specs.declared.device.DeviceNow.TheVariants.{Idle, Giving}
 use Rattle.vd_ring.specs.declared.device.DeviceView.{DeviceView}
-use Rattle.vd_ring.specs.History.{collects, takes, gives, running, taken_head, head, chain_at, occurs, given, entry, batch, with_head, IsWhole}
+use Rattle.vd_ring.specs.History.{offers, collects, takes, gives, running, taken_head, head, chain_at, occurs, given, entry, batch, with_head, IsWhole}
 use Rattle.vd_ring.specs.Lists.{entry_at}
-use Rattle.vd_split_ring.specs.SplitWords.{IsDevices, width, used_from, id_word, len_word, used_id, used_len, ack_word}
+use Rattle.vd_split_ring.specs.SplitWords.{shown_from, IsDevices, width, used_from, id_word, len_word, used_id, used_len, ack_word}
 use Rattle.vd_split_ring.specs.SplitDevice.{Names, Measures, PublishesUsed, device_gives, device_rests}
 use Rattle.vd_split_ring.specs.SplitRing.{Ring, Gives}
 use Rattle.vd_ring.proofs.Counts.{occurs_from, with_head_is}
@@ -218,12 +218,13 @@ publishes ws d e a b p x r n =
 
 -- ---- the rest
 
-pub rests : (ws : List ℕ) (d : DriverView) (e : DeviceView) → Ring ws d (record e { frame = d.frame; doing = Idle }) → IsWhole e.done → Ring ws d (device_rests (record e { frame = d.frame; doing = Idle }))
-rests ws d e r is =
+pub rests : (ws : List ℕ) (d : DriverView) (e : DeviceView) (r : ℕ) → Ring ws d (record e { frame = d.frame; doing = Idle }) → IsWhole e.done → shown_from r (length (takes e.done)) ≡ length (offers d.done)
+    → Ring ws d (device_rests (record e { frame = d.frame; doing = Idle }) r)
+rests ws d e x r is index =
     let f : Frame = d.frame in let s : List DeviceDone = e.done in let g : ℕ = length (gives s) in
     let E : DeviceView = record e { frame = d.frame; doing = Idle } in
     let len : length (take g (takes s)) ≡ g = length-take-le g (takes s) (omega (arith, r.lists.count)) in
-    ring_with ws ws d E (record e { frame = d.frame; done = Rest ∷ s; doing = Idle; armed = None }) r record {
+    ring_with ws ws d E (record e { frame = d.frame; done = Rest ∷ s; doing = Idle; armed = None; seen = shown_from x (length (takes s)) }) r record {
       same = refl;
       words = r.words;
       lists = lists_rested f d.done s r.lists is;
@@ -233,7 +234,7 @@ rests ws d e r is =
       driver_doing = doing_along d.doing f d.done d.stored d.seen s (Rest ∷ s) (λ u at. at) r.driver_doing;
       device_doing = tt;
       driver_seen = r.driver_seen;
-      device_seen = r.device_seen;
-      device_shown = λ h. omega (arith, r.device_shown h, r.lists.count);
+      device_seen = omega (arith, index);
+      device_shown = λ h. omega (arith, index, r.device_shown h, r.device_seen, r.lists.count);
       rested = (len, is);
     }
