@@ -183,8 +183,11 @@ nothing_at ws d e Idle op.Control (Store p x) r h = other_answer ws (record d { 
 nothing_at ws d e Idle op.Control (Load p) r h = other_answer ws (record d { doing = Idle }) e op.Control (Load p) (λ is. cc) (λ idle collect. cc)
 nothing_at ws d e _ _ _ r h = absurd h
 
-pub driver_nothing : (ws : List ℕ) (d : DriverView) (e : DeviceView) (op : Op) (a : Access) → Ring ws d e → DriverNext d op a → CollectsNothing ws d e op a
-driver_nothing ws d e op a r h = nothing_at ws d e d.doing op a r h
+pub collects_nothing : (ws : List ℕ) (d : DriverView) (e : DeviceView) (op : Op) (a : Access) → Ring ws d e → DriverNext d op a → CollectsNothing ws d e op a
+collects_nothing ws d e op a r h = nothing_at ws d e d.doing op a r h
+
+pub driver_nothing : (ws : List ℕ) (d : DriverView) (e : DeviceView) (op : Op) (a : Access) → Ring ws d e → DriverNext d op a → driver_act d op a (answered ws a) ≡ act.Nothing → collects d.done ≡ gives e.done
+driver_nothing ws d e op a r h is = (collects_nothing ws d e op a r h).all is
 
 -- ---- the bag
 
