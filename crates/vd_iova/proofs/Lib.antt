@@ -1,0 +1,4 @@
+pub mod Floors
+pub mod Members
+pub mod Translations
+pub mod Keyed

@@ -1,0 +1,41 @@
+-- What the two indexes of a tree hold: its mappings by iova, and by guest address.
+use Rattle.std.specs.Prelude.{◌≡◌, ℕ, ◌<◌, ◌≤◌, ◌⊎◌, List, [], ◌∷◌, map, Option, Some, None}
+use Rattle.std.specs.Ordering.{nat_cmp}
+use Rattle.std.specs.BTreeMap.{BTreeMap, get, values}
+use Rattle.vd_model.specs.declared.map.Mapping.{Mapping}
+use Rattle.vd_iova.specs.Trees.{Tree, IsKept}
+
+-- the list has the mapping
+abbrev pub Has : List Mapping → Mapping → Type 0
+Has [] m = ⊥
+Has (n ∷ ns) m = (n ≡ m) ⊎ Has ns m
+
+-- an index finds the mappings of a list by a key, and nothing else
+pub record IsIndex (key : Mapping → ℕ) (found : ℕ → Option Mapping) (ms : List Mapping) : Type 0 where
+  pub sound : (q : ℕ) (m : Mapping) → found q ≡ Some m → Has ms m × (key m ≡ q)
+  pub whole : (m : Mapping) → Has ms m → found (key m) ≡ Some m
+
+-- the mapping has the greatest key that is not above `at`
+pub record IsGreatest (key : Mapping → ℕ) (at : ℕ) (ms : List Mapping) (m : Mapping) : Type 0 where
+  pub has : Has ms m
+  pub below : key m ≤ at
+  pub greatest : (n : Mapping) → Has ms n → key n ≤ at → key n ≤ key m
+
+-- no key is `at` or below
+abbrev pub AllAbove : (Mapping → ℕ) → ℕ → List Mapping → Type 0
+AllAbove key at ms = (n : Mapping) → Has ms n → at < key n
+
+-- the mapping with the greatest key that is not above `at`, if there is one
+abbrev pub IsFloor : (Mapping → ℕ) → ℕ → List Mapping → Option Mapping → Type 0
+IsFloor key at ms None = AllAbove key at ms
+IsFloor key at ms (Some m) = IsGreatest key at ms m
+
+-- the tree that the two indexes stand for
+abbrev pub tree_of : ℕ → ℕ → BTreeMap ℕ Mapping → Tree
+tree_of first last by_iova = record { first = first; last = last; mappings = values by_iova }
+
+-- both indexes hold the same mappings, which a tree keeps
+pub record IsIndexed (first last : ℕ) (by_iova by_guest : BTreeMap ℕ Mapping) : Type 0 where
+  pub keyed : by_iova.entries ≡ map (λ (m : Mapping). (m.iova, m)) (values by_iova)
+  pub kept : IsKept (tree_of first last by_iova)
+  pub guest : IsIndex (λ m. m.guest) (get nat_cmp by_guest) (values by_iova)
