@@ -1,5 +1,5 @@
 -- What the two indexes of a tree hold: its mappings by iova, and by guest address.
-use Rattle.std.specs.Prelude.{◌≡◌, ℕ, ◌<◌, ◌≤◌, ◌⊎◌, List, [], ◌∷◌, map, Option, Some, None}
+use Rattle.std.specs.Prelude.{◌≡◌, ℕ, ◌<◌, ◌≤◌, ◌⊎◌, if◌then◌else◌, nat_le, List, [], ◌∷◌, map, Option, Some, None}
 use Rattle.std.specs.Ordering.{nat_cmp}
 use Rattle.std.specs.BTreeMap.{BTreeMap, get, values}
 use Rattle.vd_model.specs.declared.map.Mapping.{Mapping}
@@ -29,6 +29,27 @@ AllAbove key at ms = (n : Mapping) → Has ms n → at < key n
 abbrev pub IsFloor : (Mapping → ℕ) → ℕ → List Mapping → Option Mapping → Type 0
 IsFloor key at ms None = AllAbove key at ms
 IsFloor key at ms (Some m) = IsGreatest key at ms m
+
+-- the mapping has the lowest key from `start` on, and below `end`
+pub record IsLeast (key : Mapping → ℕ) (start end : ℕ) (ms : List Mapping) (m : Mapping) : Type 0 where
+  pub has : Has ms m
+  pub from : start ≤ key m
+  pub below : key m < end
+  pub lowest : (n : Mapping) → Has ms n → start ≤ key n → key n < end → key m ≤ key n
+
+-- no key is from `start` on and below `end`
+abbrev pub AllOutside : (Mapping → ℕ) → ℕ → ℕ → List Mapping → Type 0
+AllOutside key start end ms = (n : Mapping) → Has ms n → start ≤ key n → end ≤ key n
+
+-- the mapping with the lowest key from `start` on and below `end`, if there is one
+abbrev pub IsFirst : (Mapping → ℕ) → ℕ → ℕ → List Mapping → Option Mapping → Type 0
+IsFirst key start end ms None = AllOutside key start end ms
+IsFirst key start end ms (Some m) = IsLeast key start end ms m
+
+-- the one with the lower iova
+abbrev pub lower_of : Option Mapping → Mapping → Mapping
+lower_of None m = m
+lower_of (Some k) m = if nat_le k.iova m.iova then k else m
 
 -- the tree that the two indexes stand for
 abbrev pub tree_of : ℕ → ℕ → BTreeMap ℕ Mapping → Tree

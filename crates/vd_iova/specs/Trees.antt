@@ -1,5 +1,5 @@
 -- An address tree as its range and its mappings, and where a hole is in it.
-use Rattle.std.specs.Prelude.{◌≡◌, ℕ, zero, suc, ◌+◌, ◌*◌, ◌/◌, ◌%◌, ◌^◌, ◌<◌, ◌≤◌, Bool, false, not, ◌&&◌, if◌then◌else◌, nat_lt, nat_le, nat_eq, List, [], ◌∷◌, filter, Option, Some, None, IsTrue}
+use Rattle.std.specs.Prelude.{◌≡◌, ℕ, zero, suc, ◌+◌, ◌*◌, ◌/◌, ◌%◌, ◌^◌, ◌<◌, ◌≤◌, Bool, false, not, ◌&&◌, if◌then◌else◌, nat_lt, nat_le, nat_eq, List, [], ◌∷◌, find, filter, Option, Some, None, IsTrue}
 use Rattle.std.specs.List.{AllByRecursion, list_any}
 use Rattle.std.specs.Option.{option_or, option_map, option_and_then}
 use Rattle.vd_model.specs.declared.map.Mapping.{Mapping}
@@ -21,6 +21,10 @@ meets_guest addr len m = meets addr len m.guest m.size
 -- the mapping's iova range meets a range
 abbrev pub meets_iova : ℕ → ℕ → Mapping → Bool
 meets_iova iova len m = meets iova len m.iova m.size
+
+-- the lowest multiple of 4,096 that is not below an address
+abbrev pub page_end : ℕ → ℕ
+page_end x = (x + 4095) / 4096 * 4096
 
 -- so many bytes from an iova lie in the tree's range, and no mapping holds one of them
 abbrev pub is_free : Tree → ℕ → ℕ → Bool
@@ -84,6 +88,12 @@ pub record IsKept (t : Tree) : Type 0 where
   pub range : (t.first ≤ t.last) × (t.last < 2 ^ 63)
   pub within : AllByRecursion (IsWithin t.first t.last) t.mappings
   pub apart : IsApart t.mappings
+
+-- a mapping that a tree may keep beside its others
+pub record IsFresh (t : Tree) (m : Mapping) : Type 0 where
+  pub within : IsWithin t.first t.last m
+  pub iova : find (meets_iova m.iova m.size) t.mappings ≡ None
+  pub guest : find (meets_guest m.guest m.size) t.mappings ≡ None
 
 -- guest ranges, each an address and a size, mapped in turn at the lowest hole, in that order; None where one finds none
 abbrev pub laid : List (ℕ × ℕ) → Tree → Option (List Mapping)

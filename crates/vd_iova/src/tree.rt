@@ -1,17 +1,20 @@
 //! The address tree: mappings from guest addresses to iovas, found by either.
-ghost use Rattle.std.specs.Prelude.{◌≡◌, ◌<◌, ◌≤◌, ◌^◌, [], IfSome, Some};
-ghost use Rattle.vd_model.specs.Maps.{to, back};
-ghost use Rattle.vd_iova.specs.Trees.{IsKept, IsWithin};
-ghost use Rattle.vd_iova.specs.Indexes.{IsFloor};
+ghost use Rattle.std.specs.Prelude.{◌≡◌, ◌<◌, ◌≤◌, ◌^◌, [], length, find, IsNone, IfSome, ◌↔◌};
+ghost use Rattle.vd_iova.specs.Trees.{starts, without};
 
-use crate::index::floor;
+mod add;
+mod hole;
+mod lookup;
+mod map;
+mod overlap;
+
 use std::alloc::Global;
 use std::collections::BTreeMap;
 use std::marker::Model;
-use vd_model::Mapping;
+use vd_model::{Map, Mapping};
 
 /// Mappings within a range of iovas. No two have an iova or a guest address in common.
-/// Both ways an address is found by descending an ordered tree.
+/// Either way an address is found by descending an ordered tree.
 #[derive(Drop)]
 pub struct IovaTree {
     first: u64,
@@ -32,7 +35,8 @@ impl Model for IovaTree {
 }
 
 impl IovaTree {
-    /// A tree without mappings for the iovas from `first` to `last`, both in its range. It keeps its allocator.
+    /// A tree without mappings over the iovas from `first` to `last`, both of them in its range.
+    /// It takes no memory, and keeps its allocator.
     pub fn new(alloc: Global, first: u64, last: u64) -> IovaTree
         requires order { first ≤ last }
         requires below { last < 2 ^ 63 }
@@ -46,38 +50,28 @@ impl IovaTree {
         }
     }
 
-    /// The mapping with the greatest guest address that is not above `addr`.
-    fn guest_floor(&self, addr: u64) -> Option<Mapping>
-        ensures floor { IsFloor (λ m. m.guest) addr self.now.mappings result }
-        ensures within { IfSome result (IsWithin self.now.first self.now.last) }
-        ensures kept { IsKept self.now }
+    /// Takes out the mapping that starts at an iova. It takes no memory.
+    pub fn unmap(&mut self, iova: u64) -> Option<Mapping>
+        ensures found { result ≡ find (starts iova) self.old.mappings }
+        ensures rest { self.new ≡ without self.old iova }
     {
-        floor(&self.by_guest, addr)
+        let mapping = self.by_iova.remove(&iova)?;
+        self.by_guest.remove(&mapping.guest);
+        Some(mapping)
     }
 
-    /// The mapping with the greatest iova that is not above `iova`.
-    fn iova_floor(&self, iova: u64) -> Option<Mapping>
-        ensures floor { IsFloor (λ m. m.iova) iova self.now.mappings result }
-        ensures within { IfSome result (IsWithin self.now.first self.now.last) }
-        ensures kept { IsKept self.now }
+    /// The mappings in order of iova, or none where there are more than 64. It takes no memory.
+    pub fn copy_map(&self) -> Option<Map>
+        ensures many { IsNone result ↔ (64 < length self.now.mappings) }
+        ensures all { IfSome result (λ map. map ≡ self.now.mappings) }
     {
-        floor(&self.by_iova, iova)
-    }
-
-    /// The iova of `len` bytes of guest memory from `addr`, where one mapping holds them all.
-    pub fn translate(&self, addr: u64, len: u32) -> Option<u64>
-        requires some { 0 < len }
-        requires below { addr < 2 ^ 63 }
-        ensures value { result ≡ to self.now.mappings addr len }
-        ensures undone { IfSome result (λ iova. back self.now.mappings iova len ≡ Some addr) }
-        ensures kept { IsKept self.now }
-    {
-        let mapping = self.guest_floor(addr)?;
-        let offset = addr - mapping.guest;
-        if offset + u64::from(len) <= mapping.size {
-            Some(mapping.iova + offset)
-        } else {
-            None
+        if self.by_iova.len() > Map::MOST {
+            return None;
         }
+        let mut map = Map::new();
+        for mapping in self.by_iova.values() {
+            map.push(*mapping);
+        }
+        Some(map)
     }
 }

@@ -1,0 +1,25 @@
+//! A new mapping goes into both indexes, or into none.
+ghost use Rattle.std.specs.Prelude.{◌≡◌, MatchResult};
+ghost use Rattle.vd_iova.specs.declared.fault.MapFault.TheVariants.{Memory};
+ghost use Rattle.vd_iova.specs.Trees.{added, IsFresh};
+
+use super::IovaTree;
+use crate::MapFault;
+use vd_model::Mapping;
+
+impl IovaTree {
+    /// Keeps a mapping that meets no other.
+    pub(super) fn add(&mut self, mapping: Mapping) -> Result<(), MapFault>
+        requires { IsFresh self.old mapping }
+        ensures { MatchResult result (λ _. self.new ≡ added self.old mapping) (λ fault. (fault ≡ Memory) × (self.new ≡ self.old)) }
+    {
+        let Ok(_) = self.by_guest.insert(mapping.guest, mapping) else {
+            return Err(MapFault::Memory);
+        };
+        let Ok(_) = self.by_iova.insert(mapping.iova, mapping) else {
+            self.by_guest.remove(&mapping.guest);
+            return Err(MapFault::Memory);
+        };
+        Ok(())
+    }
+}
