@@ -4,3 +4,4 @@ pub mod Translations
 pub mod Keyed
 pub mod Changes
 pub mod Indexed
+pub mod Holes
