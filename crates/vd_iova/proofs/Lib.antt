@@ -5,3 +5,5 @@ pub mod Keyed
 pub mod Changes
 pub mod Indexed
 pub mod Holes
+pub mod Overlaps
+pub mod Fresh

@@ -1,6 +1,6 @@
 //! Translation between guest addresses and iovas.
-ghost use Rattle.std.specs.Prelude.{◌≡◌, ◌+◌, ◌<◌, ◌≤◌, ◌^◌, IfSome, Some};
-ghost use Rattle.vd_model.specs.Maps.{to, back};
+ghost use Rattle.std.specs.Prelude.{◌≡◌, ◌+◌, ◌<◌, ◌≤◌, ◌^◌, find, IfSome, Some};
+ghost use Rattle.vd_model.specs.Maps.{to, back, holds_guest, holds_iova};
 ghost use Rattle.vd_iova.specs.Trees.{IsKept, IsWithin};
 ghost use Rattle.vd_iova.specs.Indexes.{IsFloor};
 
@@ -25,6 +25,28 @@ impl IovaTree {
         ensures kept { IsKept self.now }
     {
         floor(&self.by_iova, iova)
+    }
+
+    /// The mapping that holds a guest address.
+    pub(super) fn guest_at(&self, addr: u64) -> Option<Mapping>
+        ensures found { result ≡ find (holds_guest addr 1) self.now.mappings }
+        ensures kept { IsKept self.now }
+    {
+        match self.guest_floor(addr) {
+            Some(mapping) if addr - mapping.guest < mapping.size => Some(mapping),
+            _ => None,
+        }
+    }
+
+    /// The mapping that holds an iova.
+    pub(super) fn iova_at(&self, iova: u64) -> Option<Mapping>
+        ensures found { result ≡ find (holds_iova iova 1) self.now.mappings }
+        ensures kept { IsKept self.now }
+    {
+        match self.iova_floor(iova) {
+            Some(mapping) if iova - mapping.iova < mapping.size => Some(mapping),
+            _ => None,
+        }
     }
 
     /// The iova of `len` bytes of guest memory from `addr`, where one mapping holds them all.

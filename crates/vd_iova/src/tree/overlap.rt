@@ -1,6 +1,6 @@
 //! The kept mapping that a range meets.
 ghost use Rattle.std.specs.Prelude.{◌≡◌, ◌+◌, ◌<◌, ◌≤◌, ◌^◌, ◌||◌, find};
-ghost use Rattle.vd_iova.specs.Trees.{meets_guest, meets_iova};
+ghost use Rattle.vd_iova.specs.Trees.{meets_guest, meets_iova, IsKept};
 ghost use Rattle.vd_iova.specs.Indexes.{lower_of};
 
 use super::IovaTree;
@@ -22,12 +22,10 @@ impl IovaTree {
     pub(super) fn guest_met(&self, guest: u64, size: u64) -> Option<Mapping>
         requires some { 0 < size }
         requires below { guest + size ≤ 2 ^ 63 }
-        ensures { result ≡ find (meets_guest guest size) self.now.mappings }
+        ensures first { result ≡ find (meets_guest guest size) self.now.mappings }
+        ensures kept { IsKept self.now }
     {
-        let mut lowest = match self.guest_floor(guest) {
-            Some(mapping) if guest - mapping.guest < mapping.size => Some(mapping),
-            _ => None,
-        };
+        let mut lowest = self.guest_at(guest);
         for (_, mapping) in self.by_guest.range(guest..guest + size) {
             lowest = Some(lower(lowest, *mapping));
         }
@@ -40,9 +38,9 @@ impl IovaTree {
         requires below { iova + size ≤ 2 ^ 63 }
         ensures { result ≡ find (meets_iova iova size) self.now.mappings }
     {
-        match self.iova_floor(iova) {
-            Some(mapping) if iova - mapping.iova < mapping.size => Some(mapping),
-            _ => first_within(&self.by_iova, iova, iova + size),
+        match self.iova_at(iova) {
+            Some(mapping) => Some(mapping),
+            None => first_within(&self.by_iova, iova, iova + size),
         }
     }
 
