@@ -1,5 +1,5 @@
 -- An address tree as its range and its mappings, and where a hole is in it.
-use Rattle.std.specs.Prelude.{◌≡◌, ℕ, zero, suc, ◌+◌, ◌*◌, ◌/◌, ◌%◌, ◌^◌, ◌<◌, ◌≤◌, Bool, false, not, ◌&&◌, if◌then◌else◌, nat_lt, nat_le, nat_eq, List, [], ◌∷◌, find, filter, Option, Some, None, IsTrue}
+use Rattle.std.specs.Prelude.{◌≡◌, ℕ, zero, suc, ◌+◌, ◌*◌, ◌/◌, ◌%◌, ◌^◌, ◌<◌, ◌≤◌, Bool, false, not, ◌&&◌, ◌||◌, if◌then◌else◌, nat_lt, nat_le, nat_eq, List, [], ◌∷◌, find, filter, Option, Some, None, IsTrue}
 use Rattle.std.specs.List.{AllByRecursion, list_any}
 use Rattle.std.specs.Option.{option_or, option_map, option_and_then}
 use Rattle.vd_model.specs.declared.map.Mapping.{Mapping}
@@ -21,6 +21,14 @@ meets_guest addr len m = meets addr len m.guest m.size
 -- the mapping's iova range meets a range
 abbrev pub meets_iova : ℕ → ℕ → Mapping → Bool
 meets_iova iova len m = meets iova len m.iova m.size
+
+-- the mapping's guest range or its iova range meets that of another
+abbrev pub meets_either : Mapping → Mapping → Bool
+meets_either m k = meets_guest m.guest m.size k || meets_iova m.iova m.size k
+
+-- the mapping's iova range lies in the tree's
+abbrev pub lies_within : Tree → Mapping → Bool
+lies_within t m = nat_le t.first m.iova && nat_le (m.iova + m.size) (t.last + 1)
 
 -- the lowest multiple of 4,096 that is not below an address
 abbrev pub page_end : ℕ → ℕ

@@ -1,6 +1,6 @@
 //! The kept mapping that a range meets.
-ghost use Rattle.std.specs.Prelude.{◌≡◌, ◌+◌, ◌<◌, ◌≤◌, ◌^◌, ◌||◌, find};
-ghost use Rattle.vd_iova.specs.Trees.{meets_guest, meets_iova, IsKept};
+ghost use Rattle.std.specs.Prelude.{◌≡◌, ◌+◌, ◌<◌, ◌≤◌, ◌^◌, find};
+ghost use Rattle.vd_iova.specs.Trees.{meets_guest, meets_iova, meets_either, IsKept};
 ghost use Rattle.vd_iova.specs.Indexes.{lower_of};
 
 use super::IovaTree;
@@ -49,7 +49,7 @@ impl IovaTree {
         requires some { 0 < mapping.size }
         requires guest { mapping.guest + mapping.size ≤ 2 ^ 63 }
         requires iova { mapping.iova + mapping.size ≤ 2 ^ 63 }
-        ensures { result ≡ find (λ k. meets_guest mapping.guest mapping.size k || meets_iova mapping.iova mapping.size k) self.now.mappings }
+        ensures { result ≡ find (meets_either mapping) self.now.mappings }
     {
         let by_iova = self.iova_met(mapping.iova, mapping.size);
         match self.guest_met(mapping.guest, mapping.size) {
