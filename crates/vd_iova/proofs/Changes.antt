@@ -75,21 +75,26 @@ pub apart_placed : (first last : ℕ) (m : Mapping) (ms : List Mapping) → IsWi
     → ((n : Mapping) → Has ms n → meets_iova m.iova m.size n ≡ false) → ((n : Mapping) → Has ms n → meets_guest m.guest m.size n ≡ false) → IsApart (placed m ms)
 apart_placed first last m [] mine within apart iovas guests = (tt, tt)
 apart_placed first last m (n ∷ ns) mine within apart iovas guests = elim (cases_Bool (nat_lt m.iova n.iova)) [
-  | inl t ↦ rw t (all_from_has (IsBefore m) (n ∷ ns) (λ o has.
-      let low : n.iova ≤ o.iova = first_lowest first last n ns within apart o has in
-      let theirs = of_each (IsWithin first last) (n ∷ ns) o within has in
-      let below : m.iova < n.iova = grind (arith, nat_tests) in
-      record {
-        iova = elim (sides m.iova m.size o.iova o.size mine.has_byte theirs.has_byte (iovas o has)) [ inl h ↦ h | inr h ↦ absurd (omega (arith, theirs.has_byte)) ];
-        guest = guests o has;
-      }), apart)
-  | inr f ↦ rw f (all_placed (IsBefore n) m ns
-      (let above : n.iova ≤ m.iova = grind (arith, nat_tests) in
-      record {
-        iova = elim (sides m.iova m.size n.iova n.size mine.has_byte within.0.has_byte (iovas n (inl refl))) [ inl h ↦ absurd (omega (arith, mine.has_byte)) | inr h ↦ h ];
-        guest = meets-flip m.guest m.size n.guest n.size (guests n (inl refl));
-      }) apart.0,
-      apart_placed first last m ns mine within.1 apart.1 (λ o h. iovas o (inr h)) (λ o h. guests o (inr h)))
+  | inl t ↦ rw t (
+    all_from_has (IsBefore m) (n ∷ ns) (λ o has.
+        let low : n.iova ≤ o.iova = first_lowest first last n ns within apart o has in
+        let theirs = of_each (IsWithin first last) (n ∷ ns) o within has in
+        let below : m.iova < n.iova = grind (arith, nat_tests) in
+        record {
+          iova = elim (sides m.iova m.size o.iova o.size mine.has_byte theirs.has_byte (iovas o has)) [ inl h ↦ h | inr h ↦ absurd (omega (arith, theirs.has_byte)) ];
+          guest = guests o has;
+        }),
+    apart,
+  )
+  | inr f ↦ rw f (
+    all_placed (IsBefore n) m ns
+        (let above : n.iova ≤ m.iova = grind (arith, nat_tests) in
+        record {
+          iova = elim (sides m.iova m.size n.iova n.size mine.has_byte within.0.has_byte (iovas n (inl refl))) [ inl h ↦ absurd (omega (arith, mine.has_byte)) | inr h ↦ h ];
+          guest = meets-flip m.guest m.size n.guest n.size (guests n (inl refl));
+        }) apart.0,
+    apart_placed first last m ns mine within.1 apart.1 (λ o h. iovas o (inr h)) (λ o h. guests o (inr h)),
+  )
 ]
 
 -- the tree with a fresh mapping is kept
@@ -98,8 +103,8 @@ kept_added t m kept fresh = record {
   range = kept.range;
   within = all_placed (IsWithin t.first t.last) m t.mappings fresh.within kept.within;
   apart = apart_placed t.first t.last m t.mappings fresh.within kept.within kept.apart
-    (λ n h. none_passes (meets_iova m.iova m.size) t.mappings n fresh.iova h)
-    (λ n h. none_passes (meets_guest m.guest m.size) t.mappings n fresh.guest h);
+      (λ n h. none_passes (meets_iova m.iova m.size) t.mappings n fresh.iova h)
+      (λ n h. none_passes (meets_guest m.guest m.size) t.mappings n fresh.guest h);
 }
 
 -- no kept mapping starts where a fresh one does
@@ -107,13 +112,13 @@ pub fresh_iova : (t : Tree) (m n : Mapping) → IsKept t → IsFresh t m → Has
 fresh_iova t m n kept fresh has e =
     let theirs = of_each (IsWithin t.first t.last) t.mappings n kept.within has in
     no_common m.iova m.size n.iova n.size m.iova (none_passes (meets_iova m.iova m.size) t.mappings n fresh.iova has)
-        (omega arith) (omega (arith, fresh.within.has_byte)) (omega arith) (omega (arith, theirs.has_byte))
+    (omega arith) (omega (arith, fresh.within.has_byte)) (omega arith) (omega (arith, theirs.has_byte))
 
 pub fresh_guest : (t : Tree) (m n : Mapping) → IsKept t → IsFresh t m → Has t.mappings n → n.guest ≡ m.guest → ⊥
 fresh_guest t m n kept fresh has e =
     let theirs = of_each (IsWithin t.first t.last) t.mappings n kept.within has in
     no_common m.guest m.size n.guest n.size m.guest (none_passes (meets_guest m.guest m.size) t.mappings n fresh.guest has)
-        (omega arith) (omega (arith, fresh.within.has_byte)) (omega arith) (omega (arith, theirs.has_byte))
+    (omega arith) (omega (arith, fresh.within.has_byte)) (omega arith) (omega (arith, theirs.has_byte))
 
 -- the entries with a mapping under a new iova
 pub insert-entries : (m : Mapping) (ms : List Mapping) → ((n : Mapping) → Has ms n → n.iova ≡ m.iova → ⊥) → insert_entry nat_cmp (map entry ms) m.iova m ≡ map entry (placed m ms)
@@ -122,8 +127,8 @@ insert-entries m (n ∷ ns) other = elim (cases_order m.iova n.iova) [
   | inl e ↦ absurd (other n (inl refl) (sym e))
   | inr (inl h) ↦ rw (lt-ltb m.iova n.iova h) refl
   | inr (inr h) ↦ (let ge : nat_lt m.iova n.iova ≡ false = le-ltb m.iova n.iova (omega arith) in
-    let ne : nat_eq m.iova n.iova ≡ false = ne_eqb m.iova n.iova (λ e. omega arith) in
-    rw (ge, ne) (ap (λ es. entry n ∷ es) (insert-entries m ns (λ o k. other o (inr k)))))
+      let ne : nat_eq m.iova n.iova ≡ false = ne_eqb m.iova n.iova (λ e. omega arith) in
+      rw (ge, ne) (ap (λ es. entry n ∷ es) (insert-entries m ns (λ o k. other o (inr k)))))
 ]
 
 -- an index with a mapping under a new key
@@ -132,10 +137,10 @@ pub index_added : (key : Mapping → ℕ) (was now : ℕ → Option Mapping) (m 
 index_added key was now m ms index step other = record {
   sound = λ q o e. elim (cases_Bool (nat_eq (key m) q)) [
     | inl t ↦ (let got : Some m ≡ Some o = sym (step q ∙ (rw (at_key (key m) q ∙ t) refl)) ∙ e in
-      let same : m ≡ o = cc in
-      (subst (Has (placed m ms)) same (has_placed m ms), ap key (sym same) ∙ eqb-true (key m) q t))
+        let same : m ≡ o = cc in
+        (subst (Has (placed m ms)) same (has_placed m ms), ap key (sym same) ∙ eqb-true (key m) q t))
     | inr f ↦ (let got : was q ≡ Some o = sym (step q ∙ (rw (at_key (key m) q ∙ f) refl)) ∙ e in
-      let rest = index.sound q o got in (has_still m ms o rest.0, rest.1))
+        let rest = index.sound q o got in (has_still m ms o rest.0, rest.1))
   ];
   whole = λ o has. elim (has_either m ms o has) [
     | inl e ↦ step (key o) ∙ (rw (at_key (key m) (key o) ∙ eq-eqb (key m) (key o) (ap key e)) (ap Some e))
@@ -156,7 +161,7 @@ pub index_undone : (key : Mapping → ℕ) (was put now : ℕ → Option Mapping
     → ((n : Mapping) → Has ms n → key n ≡ key m → ⊥) → IsIndex key now ms
 index_undone key was put now m ms index step back other = index_same key was now ms index (λ q. elim (cases_Bool (nat_eq (key m) q)) [
   | inl t ↦ (let gone : now q ≡ None = back q ∙ (rw (at_key (key m) q ∙ t) refl) in
-    gone ∙ sym (absent q (was q) refl (sym (eqb-true (key m) q t))))
+      gone ∙ sym (absent q (was q) refl (sym (eqb-true (key m) q t))))
   | inr f ↦ back q ∙ (rw (at_key (key m) q ∙ f) (step q ∙ (rw (at_key (key m) q ∙ f) refl)))
 ])
   where
@@ -227,14 +232,14 @@ pub remove-entries : (first last k : ℕ) (ms : List Mapping) → AllByRecursion
 remove-entries first last k [] within apart = refl
 remove-entries first last k (n ∷ ns) within apart = elim (cases_Bool (nat_eq k n.iova)) [
   | inl t ↦ (let here : is_at (nat_cmp k) n.iova ≡ true = at_key k n.iova ∙ t in
-    let others = filter_all (elsewhere k) ns (λ o h. elsewhere_from k o (λ e.
+      let others = filter_all (elsewhere k) ns (λ o h. elsewhere_from k o (λ e.
       let before = of_each (IsBefore n) ns o apart.0 h in
       let byte : 0 < n.size = within.0.has_byte in
       let at : k ≡ n.iova = eqb-true k n.iova t in
       omega (arith, before.iova))) in
-    rw (here, t) (ap (map entry) (sym others)))
+      rw (here, t) (ap (map entry) (sym others)))
   | inr f ↦ (let there : is_at (nat_cmp k) n.iova ≡ false = at_key k n.iova ∙ f in
-    rw (there, f) (ap (λ es. entry n ∷ es) (remove-entries first last k ns within.1 apart.1)))
+      rw (there, f) (ap (λ es. entry n ∷ es) (remove-entries first last k ns within.1 apart.1)))
 ]
 
 -- an index without a mapping
@@ -245,12 +250,12 @@ index_removed key was now m ms index has step same_key same_start = record {
   sound = λ q o e. elim (cases_Bool (nat_eq (key m) q)) [
     | inl t ↦ (let gone : None ≡ Some o = sym (step q ∙ (rw (at_key (key m) q ∙ t) refl)) ∙ e in cc)
     | inr f ↦ (let got : was q ≡ Some o = sym (step q ∙ (rw (at_key (key m) q ∙ f) refl)) ∙ e in
-      let rest = index.sound q o got in
-      (filter_has (elsewhere m.iova) ms o rest.0 (elsewhere_from m.iova o (λ s. both_ways (nat_eq (key m) q) f (eq-eqb (key m) q (sym (ap key (same_start o rest.0 (sym s))) ∙ rest.1)))), rest.1))
+        let rest = index.sound q o got in
+        (filter_has (elsewhere m.iova) ms o rest.0 (elsewhere_from m.iova o (λ s. both_ways (nat_eq (key m) q) f (eq-eqb (key m) q (sym (ap key (same_start o rest.0 (sym s))) ∙ rest.1)))), rest.1))
   ];
   whole = λ o h.
-    let rest = has_filter (elsewhere m.iova) ms o h in
-    step (key o) ∙ (rw (at_key (key m) (key o) ∙ ne_eqb (key m) (key o) (λ e. not_elsewhere m.iova o rest.1 (sym (ap (λ (y : Mapping). y.iova) (same_key o rest.0 (sym e))))))
+      let rest = has_filter (elsewhere m.iova) ms o h in
+      step (key o) ∙ (rw (at_key (key m) (key o) ∙ ne_eqb (key m) (key o) (λ e. not_elsewhere m.iova o rest.1 (sym (ap (λ (y : Mapping). y.iova) (same_key o rest.0 (sym e))))))
       (index.whole o rest.0));
 }
 

@@ -23,8 +23,8 @@ floor_found found at k m below is greatest key ms index =
       has = mine.0;
       below = omega (arith, mine.1);
       greatest = λ n has n_le.
-        let least : key n ≤ k = ge_from_not_lt k (key n) (greatest (key n) (not_gt_from_le (key n) at n_le) (subst IsSome (sym (index.whole n has)) refl)) in
-        omega (arith, mine.1, least);
+          let least : key n ≤ k = ge_from_not_lt k (key n) (greatest (key n) (not_gt_from_le (key n) at n_le) (subst IsSome (sym (index.whole n has)) refl)) in
+          omega (arith, mine.1, least);
     }
 
 pub less_from_lt : (a b : ℕ) → a < b → nat_cmp a b ≡ Less
@@ -47,6 +47,6 @@ first_found found start end k m from below is least key ms index =
       from = omega arith;
       below = omega arith;
       lowest = λ n has n_from n_below.
-        let le : k ≤ key n = le_from_not_gt k (key n) (least (key n) (not_gt_from_le start (key n) n_from) (less_from_lt (key n) end n_below) (subst IsSome (sym (index.whole n has)) refl)) in
-        omega arith;
+          let le : k ≤ key n = le_from_not_gt k (key n) (least (key n) (not_gt_from_le start (key n) n_from) (less_from_lt (key n) end n_below) (subst IsSome (sym (index.whole n has)) refl)) in
+          omega arith;
     }

@@ -71,7 +71,7 @@ later : (last size s at : ℕ) (m : Mapping) (ms : List Mapping) (o : Option ℕ
     → Walks last size (page_end (m.iova + m.size)) ms o → Walks last size at (m ∷ ms) o
 later last size s at m ms None e below some byte short rest = λ y aligned from. elim (cases_lt y (page_end (m.iova + m.size))) [
   | inl h ↦ (let inside : y < m.iova + m.size = below_page_end (m.iova + m.size) y aligned h in
-    fits_met last size y m ms (meets_from_ends y size m.iova m.size inside (omega arith)))
+      fits_met last size y m ms (meets_from_ends y size m.iova m.size inside (omega arith)))
   | inr h ↦ fits_not last size y m ms (rest y aligned h)
 ]
 later last size s at m ms (Some x) e below some byte short rest =
@@ -82,7 +82,7 @@ later last size s at m ms (Some x) e below some byte short rest =
       fit = fits_past last size x m ms rest.fit (apart_from_ends x size m.iova m.size (inl (omega (arith, rest.from, page_end-above (m.iova + m.size)))));
       least = λ y aligned from lower. elim (cases_lt y (page_end (m.iova + m.size))) [
         | inl h ↦ (let inside : y < m.iova + m.size = below_page_end (m.iova + m.size) y aligned h in
-          fits_met last size y m ms (meets_from_ends y size m.iova m.size inside (omega arith)))
+            fits_met last size y m ms (meets_from_ends y size m.iova m.size inside (omega arith)))
         | inr h ↦ fits_not last size y m ms (rest.least y aligned h lower)
       ];
     }
@@ -91,30 +91,33 @@ pub walked : (first last size s at : ℕ) (ms : List Mapping) → 0 < size → a
     → ((n : Mapping) → Has ms n → s ≤ n.iova) → Walks last size at ms (walk last size at ms)
 walked first last size s at [] some e within apart below = elim (cases_Bool (nat_le size (last + 1 - at))) [
   | inl t ↦ (let room : size ≤ last + 1 - at = leb-true size (last + 1 - at) t in
-    rw t (record {
-      from = omega arith;
-      aligned = rw e (page_end-aligned s);
-      fit = and_from (nat_le (at + size) (last + 1)) true (le-leb (at + size) (last + 1) (omega arith)) refl;
-      least = λ y aligned from lower. absurd (omega arith);
-    }))
+      rw t (record {
+        from = omega arith;
+        aligned = rw e (page_end-aligned s);
+        fit = and_from (nat_le (at + size) (last + 1)) true (le-leb (at + size) (last + 1) (omega arith)) refl;
+        least = λ y aligned from lower. absurd (omega arith);
+      }))
   | inr f ↦ (let short : last + 1 - at < size = leb-false size (last + 1 - at) f in
-    rw f (λ y aligned from. and_left (nat_le (y + size) (last + 1)) true (lt-leb (y + size) (last + 1) (omega arith))))
+      rw f (λ y aligned from. and_left (nat_le (y + size) (last + 1)) true (lt-leb (y + size) (last + 1) (omega arith))))
 ]
 walked first last size s at (m ∷ ms) some e within apart below = elim (cases_Bool (nat_le size (m.iova - at))) [
   | inl t ↦ (let room : size ≤ m.iova - at = leb-true size (m.iova - at) t in
-    let mine : m.iova + m.size ≤ last + 1 = within.0.ends in
-    rw t (record {
-      from = omega arith;
-      aligned = rw e (page_end-aligned s);
-      fit = and_from (nat_le (at + size) (last + 1)) (not (list_any (meets_iova at size) (m ∷ ms))) (le-leb (at + size) (last + 1) (omega arith))
-        (ap not (none_any (meets_iova at size) (m ∷ ms) (λ n has. apart_from_ends at size n.iova n.size (inr (omega (arith, elim has as (λ v. m.iova ≤ n.iova) [
-          | inl h ↦ (let same : m.iova ≡ n.iova = ap (λ (y : Mapping). y.iova) h in omega arith)
-          | inr h ↦ (let before = of_each (IsBefore m) ms n apart.0 h in omega (arith, before.iova))
-        ]))))));
-      least = λ y aligned from lower. absurd (omega arith);
-    }))
+      let mine : m.iova + m.size ≤ last + 1 = within.0.ends in
+      rw t (record {
+        from = omega arith;
+        aligned = rw e (page_end-aligned s);
+        fit = and_from (nat_le (at + size) (last + 1)) (not (list_any (meets_iova at size) (m ∷ ms))) (le-leb (at + size) (last + 1) (omega arith))
+            (ap not (none_any (meets_iova at size) (m ∷ ms) (λ n has. apart_from_ends at size n.iova n.size (inr (omega (
+              arith,
+              elim has as (λ v. m.iova ≤ n.iova) [
+                | inl h ↦ (let same : m.iova ≡ n.iova = ap (λ (y : Mapping). y.iova) h in omega arith)
+                | inr h ↦ (let before = of_each (IsBefore m) ms n apart.0 h in omega (arith, before.iova))
+              ],
+            ))))));
+        least = λ y aligned from lower. absurd (omega arith);
+      }))
   | inr f ↦ (let short : m.iova - at < size = leb-false size (m.iova - at) f in
-    rw f (later last size s at m ms (walk last size (page_end (m.iova + m.size)) ms) e (below m (inl refl)) some within.0.has_byte short
+      rw f (later last size s at m ms (walk last size (page_end (m.iova + m.size)) ms) e (below m (inl refl)) some within.0.has_byte short
       (walked first last size (m.iova + m.size) (page_end (m.iova + m.size)) ms some refl within.1 apart.1 (λ n h. let before = of_each (IsBefore m) ms n apart.0 h in before.iova))))
 ]
 
@@ -171,7 +174,7 @@ least-some p zero k below passes none = absurd (omega arith)
 least-some p (suc n) k below passes none = elim (cases_lt k n) [
   | inl h ↦ rw (least-some p n k h passes none) refl
   | inr h ↦ (let e : n ≡ k = omega arith in
-    rw (least-none p n (λ j l. none j (omega arith))) (subst (λ (v : ℕ). cond (p v) (Some v) None ≡ Some k) (sym e) (rw passes refl)))
+      rw (least-none p n (λ j l. none j (omega arith))) (subst (λ (v : ℕ). cond (p v) (Some v) None ≡ Some k) (sym e) (rw passes refl)))
 ]
 
 pub hole_from : (t : Tree) (size : ℕ) (o : Option ℕ) → 0 < size → Answers t size o → hole t size ≡ o
@@ -182,6 +185,6 @@ hole_from t size (Some x) some is =
     let whole : 4096 * (x / 4096) ≡ x = omega (arith, is.aligned) in
     let ends = leb-true (x + size) (t.last + 1) (and_parts (nat_le (x + size) (t.last + 1)) (not (list_any (meets_iova x size) t.mappings)) (and_parts (nat_le t.first x) (fits t.last size t.mappings x) is.free).1).0 in
     ap (option_map (λ k. 4096 * k)) (least-some (λ k. is_free t size (4096 * k)) (t.last / 4096 + 1) (x / 4096) (omega arith)
-      (subst (λ (v : ℕ). is_free t size v ≡ true) (sym whole) is.free)
-      (λ j h. is.lowest (4096 * j) (omega arith) (omega arith)))
+    (subst (λ (v : ℕ). is_free t size v ≡ true) (sym whole) is.free)
+    (λ j h. is.lowest (4096 * j) (omega arith) (omega arith)))
     ∙ ap Some whole

@@ -27,8 +27,8 @@ pub values_added : (first last : ℕ) (i j g : BTreeMap ℕ Mapping) (m : Mappin
     → j.entries ≡ insert_entry nat_cmp i.entries m.iova m → (j.entries ≡ map entry (placed m (values i))) × (values j ≡ placed m (values i))
 values_added first last i j g m is fresh e =
     let es : j.entries ≡ map entry (placed m (values i)) =
-      e ∙ ap (λ (es : List (ℕ × Mapping)). insert_entry nat_cmp es m.iova m) is.keyed
-        ∙ insert-entries m (values i) (λ n has. fresh_iova (tree_of first last i) m n is.kept fresh has) in
+    e ∙ ap (λ (es : List (ℕ × Mapping)). insert_entry nat_cmp es m.iova m) is.keyed
+    ∙ insert-entries m (values i) (λ n has. fresh_iova (tree_of first last i) m n is.kept fresh has) in
     (es, ap values_of es ∙ values-entries (placed m (values i)))
 
 -- a fresh mapping in both
@@ -41,7 +41,7 @@ indexed_added first last i j g h m is fresh e step =
       keyed = both.0 ∙ ap (map entry) (sym both.1);
       kept = subst (λ (ms : List Mapping). IsKept (record { first = first; last = last; mappings = ms })) (sym both.1) (kept_added (tree_of first last i) m is.kept fresh);
       guest = subst (IsIndex (λ m. m.guest) (get nat_cmp h)) (sym both.1)
-        (index_added (λ m. m.guest) (get nat_cmp g) (get nat_cmp h) m (values i) is.guest step (λ n has. fresh_guest (tree_of first last i) m n is.kept fresh has));
+          (index_added (λ m. m.guest) (get nat_cmp g) (get nat_cmp h) m (values i) is.guest step (λ n has. fresh_guest (tree_of first last i) m n is.kept fresh has));
     }
 
 -- a fresh mapping put into the index by guest address, and taken out again
@@ -54,7 +54,7 @@ indexed_undone first last i j g put h m is fresh e step back =
       keyed = e ∙ is.keyed ∙ ap (map entry) (sym ks);
       kept = subst (λ (ms : List Mapping). IsKept (record { first = first; last = last; mappings = ms })) (sym ks) is.kept;
       guest = subst (IsIndex (λ m. m.guest) (get nat_cmp h)) (sym ks)
-        (index_undone (λ m. m.guest) (get nat_cmp g) (get nat_cmp put) (get nat_cmp h) m (values i) is.guest step back (λ n has. fresh_guest (tree_of first last i) m n is.kept fresh has));
+          (index_undone (λ m. m.guest) (get nat_cmp g) (get nat_cmp put) (get nat_cmp h) m (values i) is.guest step back (λ n has. fresh_guest (tree_of first last i) m n is.kept fresh has));
     }
 
 -- what the index by iova finds is the mapping that starts there
@@ -66,7 +66,7 @@ pub values_removed : (first last : ℕ) (i j g : BTreeMap ℕ Mapping) (k : ℕ)
     → (j.entries ≡ map entry (filter (elsewhere k) (values i))) × (values j ≡ filter (elsewhere k) (values i))
 values_removed first last i j g k is e =
     let es : j.entries ≡ map entry (filter (elsewhere k) (values i)) =
-      e ∙ ap (remove_entry (is_at (nat_cmp k))) is.keyed ∙ remove-entries first last k (values i) is.kept.within is.kept.apart in
+    e ∙ ap (remove_entry (is_at (nat_cmp k))) is.keyed ∙ remove-entries first last k (values i) is.kept.within is.kept.apart in
     (es, ap values_of es ∙ values-entries (filter (elsewhere k) (values i)))
 
 -- a mapping less in both
@@ -79,10 +79,10 @@ indexed_removed first last i j g h k m is was e step =
     let it = found (starts k) (values i) m (sym (found_start first last i g k is) ∙ was) in
     let at : k ≡ m.iova = eqb-true k m.iova it.1 in
     let index = index_removed (λ m. m.guest) (get nat_cmp g) (get nat_cmp h) m (values i) is.guest it.0 step
-      (λ n has same. same_start_guest t m n is.kept it.0 has same) (λ n has same. same_start_iova t m n is.kept it.0 has same) in
+    (λ n has same. same_start_guest t m n is.kept it.0 has same) (λ n has same. same_start_iova t m n is.kept it.0 has same) in
     record {
       keyed = both.0 ∙ ap (map entry) (sym both.1);
       kept = subst (λ (ms : List Mapping). IsKept (record { first = first; last = last; mappings = ms })) (sym both.1) (kept_without t k is.kept);
       guest = subst (IsIndex (λ m. m.guest) (get nat_cmp h)) (sym both.1)
-        (subst (λ (s : ℕ). IsIndex (λ m. m.guest) (get nat_cmp h) (filter (elsewhere s) (values i))) (sym at) index);
+          (subst (λ (s : ℕ). IsIndex (λ m. m.guest) (get nat_cmp h) (filter (elsewhere s) (values i))) (sym at) index);
     }

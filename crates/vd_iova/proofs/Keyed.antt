@@ -24,9 +24,9 @@ pub keyed_sound : (ms : List Mapping) (q : ℕ) (m : Mapping) → lookup (is_at 
 keyed_sound [] q m e = cc
 keyed_sound (n ∷ ns) q m e = elim (cases_Bool (is_at (nat_cmp q) n.iova)) [
   | inl t ↦ (
-    let got : Some n ≡ Some m = rw t at e in
-    let same : n ≡ m = cc in
-    (inl same, ap (λ (y : Mapping). y.iova) (sym same) ∙ sym (eqb-true q n.iova (sym (at_key q n.iova) ∙ t))))
+      let got : Some n ≡ Some m = rw t at e in
+      let same : n ≡ m = cc in
+      (inl same, ap (λ (y : Mapping). y.iova) (sym same) ∙ sym (eqb-true q n.iova (sym (at_key q n.iova) ∙ t))))
   | inr f ↦ (let rest = keyed_sound ns q m (rw f at e) in (inr rest.0, rest.1))
 ]
 

@@ -27,8 +27,8 @@ pub found_lowest : (first last : ℕ) (p : Mapping → Bool) (ms : List Mapping)
 found_lowest first last p [] m n within apart e has passes = absurd has
 found_lowest first last p (o ∷ os) m n within apart e has passes = elim (cases_Bool (p o)) [
   | inl t ↦ (let got : Some o ≡ Some m = rw t at e in
-    let same : o ≡ m = cc in
-    subst (λ (y : Mapping). y.iova ≤ n.iova) same (first_lowest first last o os within apart n has))
+      let same : o ≡ m = cc in
+      subst (λ (y : Mapping). y.iova ≤ n.iova) same (first_lowest first last o os within apart n has))
   | inr f ↦ found_lowest first last p os m n within.1 apart.1 (rw f at e) (elim has [ inl h ↦ absurd (both_ways (p o) f (ap p h ∙ passes)) | inr h ↦ h ]) passes
 ]
 
@@ -40,7 +40,7 @@ find_lowest first last p (o ∷ os) m within apart has passes low = elim (cases_
   | inl t ↦ rw t (elim has [
     | inl h ↦ ap Some h
     | inr h ↦ (let before : IsBefore o m = of_each (IsBefore o) os m apart.0 h in
-      absurd (omega (arith, before.iova, within.0.has_byte, low o (inl refl) t)))
+        absurd (omega (arith, before.iova, within.0.has_byte, low o (inl refl) t)))
   ])
   | inr f ↦ rw f (find_lowest first last p os m within.1 apart.1 (elim has [ inl h ↦ absurd (both_ways (p o) f (ap p h ∙ passes)) | inr h ↦ h ]) passes (λ n k. low n (inr k)))
 ]
@@ -63,13 +63,13 @@ iova_met_at t iova size m kept some e =
     let is = found (holds_iova iova 1) t.mappings m e in
     let ends = ends_from_holds m.iova m.size iova 1 is.1 in
     find_lowest t.first t.last (meets_iova iova size) t.mappings m kept.within kept.apart is.0 (meets_from_ends iova size m.iova m.size (omega arith) (omega arith))
-      (λ n has met.
-        let theirs = ends_from_meets iova size n.iova n.size met in
-        elim (cases_lt n.iova m.iova) [
-          | inr h ↦ h
-          | inl h ↦ (let same : n ≡ m = same_iova t.mappings n m m.iova kept.apart has is.0 (omega arith) (omega arith) (omega arith) (omega arith) in
-            let at : n.iova ≡ m.iova = ap (λ (y : Mapping). y.iova) same in omega arith)
-        ])
+    (λ n has met.
+    let theirs = ends_from_meets iova size n.iova n.size met in
+    elim (cases_lt n.iova m.iova) [
+      | inr h ↦ h
+      | inl h ↦ (let same : n ≡ m = same_iova t.mappings n m m.iova kept.apart has is.0 (omega arith) (omega arith) (omega arith) (omega arith) in
+          let at : n.iova ≡ m.iova = ap (λ (y : Mapping). y.iova) same in omega arith)
+    ])
 
 -- else it is the first that starts in the range
 pub iova_met_after : (t : Tree) (iova size : ℕ) (o : Option Mapping) → IsKept t → 0 < size → find (holds_iova iova 1) t.mappings ≡ None
@@ -77,21 +77,21 @@ pub iova_met_after : (t : Tree) (iova size : ℕ) (o : Option Mapping) → IsKep
 iova_met_after t iova size None kept some none first = find_none (meets_iova iova size) t.mappings (λ n has. elim (cases_Bool (meets_iova iova size n)) [
   | inr f ↦ f
   | inl met ↦ (let theirs = ends_from_meets iova size n.iova n.size met in
-    elim (cases_lt iova n.iova) [
-      | inl h ↦ absurd (omega (arith, first n has (omega arith)))
-      | inr h ↦ absurd (both_ways (holds_iova iova 1 n) (none_passes (holds_iova iova 1) t.mappings n none has) (holds_from_ends n.iova n.size iova 1 h (omega arith)))
-    ])
+      elim (cases_lt iova n.iova) [
+        | inl h ↦ absurd (omega (arith, first n has (omega arith)))
+        | inr h ↦ absurd (both_ways (holds_iova iova 1 n) (none_passes (holds_iova iova 1) t.mappings n none has) (holds_from_ends n.iova n.size iova 1 h (omega arith)))
+      ])
 ])
 iova_met_after t iova size (Some m) kept some none first =
     let mine = of_each (IsWithin t.first t.last) t.mappings m kept.within first.has in
     find_lowest t.first t.last (meets_iova iova size) t.mappings m kept.within kept.apart first.has
-      (meets_from_ends iova size m.iova m.size (omega (arith, first.from, mine.has_byte)) first.below)
-      (λ n has met.
-        let theirs = ends_from_meets iova size n.iova n.size met in
-        elim (cases_lt iova n.iova) [
-          | inl h ↦ first.lowest n has (omega arith) theirs.1
-          | inr h ↦ absurd (both_ways (holds_iova iova 1 n) (none_passes (holds_iova iova 1) t.mappings n none has) (holds_from_ends n.iova n.size iova 1 h (omega arith)))
-        ])
+    (meets_from_ends iova size m.iova m.size (omega (arith, first.from, mine.has_byte)) first.below)
+    (λ n has met.
+    let theirs = ends_from_meets iova size n.iova n.size met in
+    elim (cases_lt iova n.iova) [
+      | inl h ↦ first.lowest n has (omega arith) theirs.1
+      | inr h ↦ absurd (both_ways (holds_iova iova 1 n) (none_passes (holds_iova iova 1) t.mappings n none has) (holds_from_ends n.iova n.size iova 1 h (omega arith)))
+    ])
 
 -- ---- either of two tests
 
@@ -109,22 +109,22 @@ pub find_either : (t : Tree) (p q : Mapping → Bool) (g : Mapping) (o : Option 
 find_either t p q g None kept e f =
     let is = found p t.mappings g e in
     find_lowest t.first t.last (λ k. p k || q k) t.mappings g kept.within kept.apart is.0 (or_left (p g) (q g) is.1) (λ n has passes.
-      elim (or_cases (p n) (q n) passes) [
-        | inl h ↦ found_lowest t.first t.last p t.mappings g n kept.within kept.apart e has h
-        | inr h ↦ absurd (both_ways (q n) (none_passes q t.mappings n f has) h)
-      ])
+    elim (or_cases (p n) (q n) passes) [
+      | inl h ↦ found_lowest t.first t.last p t.mappings g n kept.within kept.apart e has h
+      | inr h ↦ absurd (both_ways (q n) (none_passes q t.mappings n f has) h)
+    ])
 find_either t p q g (Some k) kept e f =
     let is = found p t.mappings g e in
     let its = found q t.mappings k f in
     elim (cases_Bool (nat_le k.iova g.iova)) [
       | inl low ↦ (let le : k.iova ≤ g.iova = leb-true k.iova g.iova low in
-        rw low (find_lowest t.first t.last (λ k. p k || q k) t.mappings k kept.within kept.apart its.0 (or_right (p k) (q k) its.1) (λ n has passes.
+          rw low (find_lowest t.first t.last (λ k. p k || q k) t.mappings k kept.within kept.apart its.0 (or_right (p k) (q k) its.1) (λ n has passes.
           elim (or_cases (p n) (q n) passes) [
             | inl h ↦ omega (arith, found_lowest t.first t.last p t.mappings g n kept.within kept.apart e has h)
             | inr h ↦ found_lowest t.first t.last q t.mappings k n kept.within kept.apart f has h
           ])))
       | inr high ↦ (let gt : g.iova < k.iova = leb-false k.iova g.iova high in
-        rw high (find_lowest t.first t.last (λ k. p k || q k) t.mappings g kept.within kept.apart is.0 (or_left (p g) (q g) is.1) (λ n has passes.
+          rw high (find_lowest t.first t.last (λ k. p k || q k) t.mappings g kept.within kept.apart is.0 (or_left (p g) (q g) is.1) (λ n has passes.
           elim (or_cases (p n) (q n) passes) [
             | inl h ↦ found_lowest t.first t.last p t.mappings g n kept.within kept.apart e has h
             | inr h ↦ omega (arith, found_lowest t.first t.last q t.mappings k n kept.within kept.apart f has h)
@@ -182,8 +182,8 @@ lowest_of-each : (test : ℕ → Bool) (n : Mapping) (o : Option Mapping) (es : 
 lowest_of-each test n o [] e = cc
 lowest_of-each test n o (f ∷ fs) e = elim (cases_Bool (test f.0)) [
   | inl t ↦ (let got : Some f.1 ≡ Some n = rw t at e in
-    let same : f.1 ≡ n = cc in
-    lowest_of-first n.iova (Some (lower_of o f.1)) fs (subst (λ (y : Mapping). IsAtMost y.iova (Some (lower_of o f.1))) same (lower_second o f.1)))
+      let same : f.1 ≡ n = cc in
+      lowest_of-first n.iova (Some (lower_of o f.1)) fs (subst (λ (y : Mapping). IsAtMost y.iova (Some (lower_of o f.1))) same (lower_second o f.1)))
   | inr other ↦ lowest_of-each test n (Some (lower_of o f.1)) fs (rw other at e)
 ]
 
@@ -211,8 +211,8 @@ met_bound t guest size get o es n kept index at range has met =
     elim (cases_lt guest n.guest) [
       | inl h ↦ lowest_of-each (is_at (nat_cmp n.guest)) n o es (range.all n.guest (omega arith) ends.1 ∙ index.whole n has)
       | inr h ↦ (let single = single_guest t.first t.last t.mappings kept.apart kept.within in
-        let here : o ≡ Some n = sym at ∙ only_holds (λ m. m.guest) t.mappings guest 1 n single (omega arith) has (holds_from_ends n.guest n.size guest 1 h (omega arith)) in
-        lowest_of-first n.iova o es (subst (IsAtMost n.iova) (sym here) (omega arith)))
+          let here : o ≡ Some n = sym at ∙ only_holds (λ m. m.guest) t.mappings guest 1 n single (omega arith) has (holds_from_ends n.guest n.size guest 1 h (omega arith)) in
+          lowest_of-first n.iova o es (subst (IsAtMost n.iova) (sym here) (omega arith)))
     ]
 
 met_answer : (t : Tree) (guest size : ℕ) (r : Option Mapping) → IsKept t → IfSome r (λ m. Has t.mappings m × (meets_guest guest size m ≡ true))
@@ -228,15 +228,15 @@ pub guest_met : (t : Tree) (guest size : ℕ) (get : ℕ → Option Mapping) (o 
     → find (holds_guest guest 1) t.mappings ≡ o → IsRange guest (guest + size) get es → find (meets_guest guest size) t.mappings ≡ lowest_of o es
 guest_met t guest size get o es kept index some at range =
     met_answer t guest size (lowest_of o es) kept
-      (lowest_of-holds (λ m. Has t.mappings m × (meets_guest guest size m ≡ true)) o es (start o at) (met_each t guest size get es kept index range.each))
-      (λ n has met. met_bound t guest size get o es n kept index at range has met)
+    (lowest_of-holds (λ m. Has t.mappings m × (meets_guest guest size m ≡ true)) o es (start o at) (met_each t guest size get es kept index range.each))
+    (λ n has met. met_bound t guest size get o es n kept index at range has met)
   where
     start : (o : Option Mapping) → find (holds_guest guest 1) t.mappings ≡ o → IfSome o (λ m. Has t.mappings m × (meets_guest guest size m ≡ true))
     start None e = tt
     start (Some m) e =
-      let is = found (holds_guest guest 1) t.mappings m e in
-      let ends = ends_from_holds m.guest m.size guest 1 is.1 in
-      (is.0, meets_from_ends guest size m.guest m.size (omega arith) (omega arith))
+        let is = found (holds_guest guest 1) t.mappings m e in
+        let ends = ends_from_holds m.guest m.size guest 1 is.1 in
+        (is.0, meets_from_ends guest size m.guest m.size (omega arith) (omega arith))
 
 entry_each : (start end : ℕ) (index : BTreeMap ℕ Mapping) (es : List (ℕ × Mapping)) → All (IsEntryInRange nat_cmp (Included start) (Excluded end) index) es
     → AllByRecursion (λ e. (start ≤ e.0) × (e.0 < end) × (get nat_cmp index e.0 ≡ Some e.1)) es
@@ -254,9 +254,9 @@ pub range_is : (start end : ℕ) (index : BTreeMap ℕ Mapping) (es : List (ℕ 
 range_is start end index es all e = record {
   each = entry_each start end index es all;
   all = λ q from below. ap (lookup (is_at (nat_cmp q))) e
-    ∙ lookup-filter-keys (is_at (nat_cmp q)) (range_contains nat_cmp (Included start) (Excluded end)) true
+      ∙ lookup-filter-keys (is_at (nat_cmp q)) (range_contains nat_cmp (Included start) (Excluded end)) true
       (λ k at. let same : q ≡ k = eqb-true q k (sym (at_key q k) ∙ at) in
-        subst (λ (v : ℕ). range_contains nat_cmp (Included start) (Excluded end) v ≡ true) same (in_range start end q from below))
+      subst (λ (v : ℕ). range_contains nat_cmp (Included start) (Excluded end) v ≡ true) same (in_range start end q from below))
       index.entries;
 }
 

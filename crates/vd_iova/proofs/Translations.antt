@@ -43,8 +43,8 @@ pub only_holds : (start : Mapping → ℕ) (ms : List Mapping) (addr len : ℕ) 
 only_holds start ms addr len m single some has h =
     let mine = ends_from_holds (start m) m.size addr len h in
     find_only (holds start addr len) ms m has h (λ n k t.
-        let theirs = ends_from_holds (start n) n.size addr len t in
-        single.same n m addr k has theirs.0 (omega arith) mine.0 (omega arith))
+    let theirs = ends_from_holds (start n) n.size addr len t in
+    single.same n m addr k has theirs.0 (omega arith) mine.0 (omega arith))
 
 -- the mapping with the greatest start that is not above the range holds it
 pub floor_holds : (start : Mapping → ℕ) (ms : List Mapping) (addr len : ℕ) (m : Mapping) → IsSingle start ms → 0 < len → IsGreatest start addr ms m
@@ -59,13 +59,13 @@ floor_fails start ms addr len m single some floor short = find_none (holds start
     elim (cases_Bool (holds start addr len n)) [
       | inr f ↦ f
       | inl t ↦ (
-        let theirs = ends_from_holds (start n) n.size addr len t in
-        let least : start n ≤ start m = floor.greatest n has theirs.0 in
-        let byte : 0 < m.size = single.has_byte m floor.has in
-        let same : n ≡ m = single.same n m (start m) has floor.has least (omega (arith, floor.below)) (omega arith) (omega arith) in
-        let start_is : start n ≡ start m = ap start same in
-        let size_is : n.size ≡ m.size = ap (λ (y : Mapping). y.size) same in
-        absurd (omega arith))
+          let theirs = ends_from_holds (start n) n.size addr len t in
+          let least : start n ≤ start m = floor.greatest n has theirs.0 in
+          let byte : 0 < m.size = single.has_byte m floor.has in
+          let same : n ≡ m = single.same n m (start m) has floor.has least (omega (arith, floor.below)) (omega arith) (omega arith) in
+          let start_is : start n ≡ start m = ap start same in
+          let size_is : n.size ≡ m.size = ap (λ (y : Mapping). y.size) same in
+          absurd (omega arith))
     ])
 
 -- where none starts at the range or below, none holds it
@@ -108,14 +108,14 @@ pub to_some : (t : Tree) (addr len offset : ℕ) (m : Mapping) → IsKept t → 
     → offset ≡ addr - m.guest → offset + len ≤ m.size → to t.mappings addr len ≡ Some (m.iova + offset)
 to_some t addr len offset m kept some floor e fits =
     ap (option_map (λ (n : Mapping). n.iova + (addr - n.guest)))
-        (floor_holds (λ n. n.guest) t.mappings addr len m (single_guest t.first t.last t.mappings kept.apart kept.within) some floor (omega (arith, floor.below)))
+    (floor_holds (λ n. n.guest) t.mappings addr len m (single_guest t.first t.last t.mappings kept.apart kept.within) some floor (omega (arith, floor.below)))
     ∙ ap Some (omega arith)
 
 pub to_none : (t : Tree) (addr len offset : ℕ) (m : Mapping) → IsKept t → 0 < len → IsGreatest (λ n. n.guest) addr t.mappings m
     → offset ≡ addr - m.guest → m.size < offset + len → to t.mappings addr len ≡ None
 to_none t addr len offset m kept some floor e short =
     ap (option_map (λ (n : Mapping). n.iova + (addr - n.guest)))
-        (floor_fails (λ n. n.guest) t.mappings addr len m (single_guest t.first t.last t.mappings kept.apart kept.within) some floor (omega (arith, floor.below)))
+    (floor_fails (λ n. n.guest) t.mappings addr len m (single_guest t.first t.last t.mappings kept.apart kept.within) some floor (omega (arith, floor.below)))
 
 pub to_above : (t : Tree) (addr len : ℕ) → AllAbove (λ n. n.guest) addr t.mappings → to t.mappings addr len ≡ None
 to_above t addr len above =
@@ -126,14 +126,14 @@ pub back_some : (t : Tree) (iova len offset : ℕ) (m : Mapping) → IsKept t �
     → offset ≡ iova - m.iova → offset + len ≤ m.size → back t.mappings iova len ≡ Some (m.guest + offset)
 back_some t iova len offset m kept some floor e fits =
     ap (option_map (λ (n : Mapping). n.guest + (iova - n.iova)))
-        (floor_holds (λ n. n.iova) t.mappings iova len m (single_iova t.first t.last t.mappings kept.apart kept.within) some floor (omega (arith, floor.below)))
+    (floor_holds (λ n. n.iova) t.mappings iova len m (single_iova t.first t.last t.mappings kept.apart kept.within) some floor (omega (arith, floor.below)))
     ∙ ap Some (omega arith)
 
 pub back_none : (t : Tree) (iova len offset : ℕ) (m : Mapping) → IsKept t → 0 < len → IsGreatest (λ n. n.iova) iova t.mappings m
     → offset ≡ iova - m.iova → m.size < offset + len → back t.mappings iova len ≡ None
 back_none t iova len offset m kept some floor e short =
     ap (option_map (λ (n : Mapping). n.guest + (iova - n.iova)))
-        (floor_fails (λ n. n.iova) t.mappings iova len m (single_iova t.first t.last t.mappings kept.apart kept.within) some floor (omega (arith, floor.below)))
+    (floor_fails (λ n. n.iova) t.mappings iova len m (single_iova t.first t.last t.mappings kept.apart kept.within) some floor (omega (arith, floor.below)))
 
 pub back_above : (t : Tree) (iova len : ℕ) → AllAbove (λ n. n.iova) iova t.mappings → back t.mappings iova len ≡ None
 back_above t iova len above =

@@ -19,11 +19,7 @@ pub(crate) fn floor(index: &BTreeMap<u64, Mapping>, at: u64) -> Option<Mapping>
 }
 
 /// The mapping with the lowest key from `start` on, and below `end`.
-pub(crate) fn first_within(
-    index: &BTreeMap<u64, Mapping>,
-    start: u64,
-    end: u64,
-) -> Option<Mapping>
+pub(crate) fn first_within(index: &BTreeMap<u64, Mapping>, start: u64, end: u64) -> Option<Mapping>
     requires { start ≤ end }
     ensures { (key : Mapping → ℕ) (ms : List Mapping) → IsIndex key (get nat_cmp index.now) ms → IsFirst key start end ms result }
 {

@@ -8,3 +8,5 @@ mod tree;
 pub use fault::MapFault;
 pub use tree::IovaTree;
 
+#[cfg(test)]
+mod tests;

@@ -11,4 +11,4 @@ pub returns-clause-within : goal.returns-clause-within
 returns-clause-within c =
     let t = c.self.inside in
     rw (← c.self.view_is) (floor_within (IsWithin t.first t.last) (λ m. m.iova) _ _ _ c.self.invariant.kept.within
-        (c.floor.ensures (λ m. m.iova) _ (iova_index t.first t.last t.by_iova c.self.invariant.keyed c.self.invariant.kept)))
+    (c.floor.ensures (λ m. m.iova) _ (iova_index t.first t.last t.by_iova c.self.invariant.keyed c.self.invariant.kept)))

@@ -13,4 +13,4 @@ returns-in-None c =
     let t = c.self.inside in
     let first = c.first_within.ensures (λ m. m.iova) _ (iova_index t.first t.last t.by_iova c.self.invariant.keyed c.self.invariant.kept) in
     sym (iova_met_after c.args.self.now c.args.iova c.args.size c.first_within.result c.in-None.ensures.kept c.requires.some (sym c.in-None.ensures.found)
-        (subst (λ (s : Tree). IsFirst (λ m. m.iova) c.args.iova (c.args.iova + c.args.size) s.mappings c.first_within.result) c.self.view_is first))
+    (subst (λ (s : Tree). IsFirst (λ m. m.iova) c.args.iova (c.args.iova + c.args.size) s.mappings c.first_within.result) c.self.view_is first))

@@ -8,5 +8,5 @@ use Rattle.vd_iova.proofs.tree.IovaTree.lowest_hole.Given as goal
 abbrev pub invariant-loop-mapping : goal.invariant-loop-mapping
 invariant-loop-mapping l = record {
   same : walk l.self.last l.size l.iova l.mapping-iterator ≡ walk l.self.last l.size (page_end l.self.first) l.self.mappings;
-  within : AllByRecursion (IsWithin l.self.first l.self.last) l.mapping-iterator
+  within : AllByRecursion (IsWithin l.self.first l.self.last) l.mapping-iterator;
 }

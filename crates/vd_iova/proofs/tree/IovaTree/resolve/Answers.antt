@@ -12,7 +12,7 @@ returns-then-offset-from-clause-value c =
 pub returns-then-offset-from-clause-undone : goal.returns-then-offset-from-clause-undone
 returns-then-offset-from-clause-undone c =
     to_undoes_back c.args.self.now c.args.iova c.args.len _ c.in_ok-mapping.ensures.kept c.requires.some
-        (back_some c.args.self.now c.args.iova c.args.len _ c.in_ok-mapping.mapping c.in_ok-mapping.ensures.kept c.requires.some c.in_ok-mapping.ensures.floor refl (omega arith))
+    (back_some c.args.self.now c.args.iova c.args.len _ c.in_ok-mapping.mapping c.in_ok-mapping.ensures.kept c.requires.some c.in_ok-mapping.ensures.floor refl (omega arith))
 
 pub returns-else-offset-from-clause-value : goal.returns-else-offset-from-clause-value
 returns-else-offset-from-clause-value c =

@@ -12,7 +12,7 @@ returns-then-offset-from-clause-value c =
 pub returns-then-offset-from-clause-undone : goal.returns-then-offset-from-clause-undone
 returns-then-offset-from-clause-undone c =
     back_undoes_to c.args.self.now c.args.addr c.args.len _ c.in_ok-mapping.ensures.kept c.requires.some
-        (to_some c.args.self.now c.args.addr c.args.len _ c.in_ok-mapping.mapping c.in_ok-mapping.ensures.kept c.requires.some c.in_ok-mapping.ensures.floor refl (omega arith))
+    (to_some c.args.self.now c.args.addr c.args.len _ c.in_ok-mapping.mapping c.in_ok-mapping.ensures.kept c.requires.some c.in_ok-mapping.ensures.floor refl (omega arith))
 
 pub returns-else-offset-from-clause-value : goal.returns-else-offset-from-clause-value
 returns-else-offset-from-clause-value c =
