@@ -1,5 +1,5 @@
 -- One mapping more, or one less, in the list and in both indexes.
-use Rattle.std.proofs.Common.{ℕ, ◌≡◌, ◌≤◌, ◌<◌, ◌+◌, ◌&&◌, not, ◌⊎◌, inl, inr, List, [], ◌∷◌, Option, Some, None, arith, sym, ◌∙◌, ap, subst, false, true, cond, Bool, nat_lt, nat_eq, refl, find, map, filter}
+use Rattle.std.proofs.Common.{ℕ, ◌≡◌, ◌≤◌, ◌<◌, ◌+◌, not, ◌⊎◌, inl, inr, List, [], ◌∷◌, Option, Some, None, arith, sym, ◌∙◌, ap, subst, false, true, cond, Bool, nat_lt, nat_eq, refl, find, map, filter}
 use Rattle.std.specs.List.{AllByRecursion}
 use Rattle.std.specs.Map.{lookup, remove_entry, values_of}
 use Rattle.std.specs.Ordering.{nat_cmp}
@@ -9,7 +9,7 @@ use Rattle.std.proofs.lemmas.Bool.Decides.{nat_tests}
 use Rattle.vd_model.specs.declared.map.Mapping.{Mapping}
 use Rattle.vd_iova.specs.Trees.{Tree, IsBefore, IsApart, IsWithin, IsKept, IsFresh, meets, meets_guest, meets_iova, placed, added, starts, without}
 use Rattle.vd_iova.specs.Indexes.{Has, IsIndex}
-use Rattle.vd_iova.proofs.Members.{of_each, found, none_passes, same_guest, same_iova, ends_from_meets, meets_from_ends, no_common}
+use Rattle.vd_iova.proofs.Members.{of_each, none_passes, same_guest, same_iova, meets_from_ends, no_common}
 use Rattle.vd_iova.proofs.Keyed.{entry, at_key}
 
 -- the list of mappings under their iovas

@@ -1,12 +1,12 @@
 -- The mapping with the greatest key not above an address, from what an ordered map says of a range's end.
-use Rattle.std.proofs.Common.{ℕ, ◌≡◌, ◌≤◌, ◌<◌, List, Option, Some, None, arith, sym, ◌∙◌, ap, subst, false, cond, rules, nat_lt, Bool, true, refl}
+use Rattle.std.proofs.Common.{ℕ, ◌≡◌, ◌≤◌, ◌<◌, List, Option, Some, arith, sym, subst, false, refl}
 use Rattle.std.specs.declared.cmp.Ordering.TheVariants.{Less}
 use Rattle.std.specs.Option.{IsSome}
 use Rattle.std.specs.Ordering.{nat_cmp, is_gt, is_lt}
 use Rattle.std.proofs.lemmas.Map.Keys.{le_from_not_gt, ge_from_not_lt}
 use Rattle.std.proofs.lemmas.Bool.Decides.{nat_tests}
 use Rattle.vd_model.specs.declared.map.Mapping.{Mapping}
-use Rattle.vd_iova.specs.Indexes.{Has, IsIndex, IsGreatest, IsLeast}
+use Rattle.vd_iova.specs.Indexes.{IsIndex, IsGreatest, IsLeast}
 
 -- a number that is not above another does not compare as greater
 pub not_gt_from_le : (a b : ℕ) → a ≤ b → is_gt (nat_cmp a b) ≡ false

@@ -1,5 +1,5 @@
 -- When a mapping is fresh.
-use Rattle.std.proofs.Common.{ℕ, ◌≡◌, ◌≤◌, ◌<◌, ◌+◌, ◌^◌, ◌&&◌, ◌||◌, not, ◌⊎◌, inl, inr, List, [], ◌∷◌, Option, Some, None, arith, sym, ◌∙◌, false, true, Bool, nat_le, refl, find}
+use Rattle.std.proofs.Common.{ℕ, ◌≡◌, ◌≤◌, ◌<◌, ◌+◌, ◌^◌, ◌||◌, not, inl, inr, List, [], ◌∷◌, None, false, Bool, nat_le, refl, find}
 use Rattle.std.specs.List.{list_any}
 use Rattle.std.proofs.lemmas.Bool.{cases_Bool, leb-true, and_parts, not-true}
 use Rattle.vd_model.specs.declared.map.Mapping.{Mapping}

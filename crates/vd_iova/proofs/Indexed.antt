@@ -1,5 +1,5 @@
 -- The two indexes of a tree after a change to both.
-use Rattle.std.proofs.Common.{ℕ, ◌≡◌, List, Option, Some, None, sym, ◌∙◌, ap, subst, cond, map, find, filter, arith}
+use Rattle.std.proofs.Common.{ℕ, ◌≡◌, List, Some, None, sym, ◌∙◌, ap, subst, cond, map, find, filter}
 use Rattle.std.specs.Map.{values_of, lookup, remove_entry}
 use Rattle.std.specs.Ordering.{nat_cmp}
 use Rattle.std.specs.BTreeMap.{BTreeMap, get, is_at, values, insert_entry}

@@ -7,3 +7,4 @@ pub mod Indexed
 pub mod Holes
 pub mod Overlaps
 pub mod Fresh
+pub mod Laws

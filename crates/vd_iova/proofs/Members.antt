@@ -1,10 +1,10 @@
 -- Which mappings a list has, where no two of them have an address in common.
-use Rattle.std.proofs.Common.{ℕ, ◌≡◌, ◌≤◌, ◌<◌, ◌+◌, ◌&&◌, ◌⊎◌, inl, inr, List, [], ◌∷◌, Option, Some, None, arith, sym, ◌∙◌, ap, subst, false, true, cond, Bool, nat_lt, nat_le, nat_eq, refl, find, map}
+use Rattle.std.proofs.Common.{ℕ, ◌≡◌, ◌≤◌, ◌<◌, ◌+◌, ◌⊎◌, inl, inr, List, [], ◌∷◌, Some, None, arith, sym, ◌∙◌, ap, subst, false, true, Bool, refl, find}
 use Rattle.std.specs.List.{AllByRecursion}
 use Rattle.std.proofs.lemmas.Bool.{false≢true, both_ways, cases_Bool}
 use Rattle.std.proofs.lemmas.Bool.Decides.{nat_tests}
 use Rattle.vd_model.specs.declared.map.Mapping.{Mapping}
-use Rattle.vd_iova.specs.Trees.{meets, meets_guest, meets_iova, IsBefore, IsApart, IsWithin}
+use Rattle.vd_iova.specs.Trees.{meets, IsBefore, IsApart}
 use Rattle.vd_iova.specs.Indexes.{Has}
 
 -- what two ranges that meet say of their ends

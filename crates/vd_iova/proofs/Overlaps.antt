@@ -1,5 +1,5 @@
 -- The first of the mappings, in order of iova, that a range meets.
-use Rattle.std.proofs.Common.{ℕ, ◌≡◌, ◌≤◌, ◌<◌, ◌+◌, ◌-◌, ◌||◌, ◌⊎◌, inl, inr, List, [], ◌∷◌, Option, Some, None, arith, sym, ◌∙◌, ap, subst, false, true, cond, Bool, nat_le, refl, find, IfSome}
+use Rattle.std.proofs.Common.{ℕ, ◌≡◌, ◌≤◌, ◌<◌, ◌+◌, ◌-◌, ◌||◌, inl, inr, List, [], ◌∷◌, Option, Some, None, arith, sym, ◌∙◌, ap, subst, false, true, Bool, nat_le, refl, find, IfSome}
 use Rattle.std.specs.List.{All, AllByRecursion}
 use Rattle.std.specs.Map.{lookup}
 use Rattle.std.specs.Ordering.{nat_cmp}
@@ -13,10 +13,10 @@ use Rattle.std.proofs.lemmas.Bool.Decides.{nat_tests}
 use Rattle.std.proofs.lemmas.Bool.{both_ways, cases_Bool, cases_lt, or_cases, leb-true, leb-false, eqb-true}
 use Rattle.vd_model.specs.declared.map.Mapping.{Mapping}
 use Rattle.vd_model.specs.Maps.{holds_guest, holds_iova}
-use Rattle.vd_iova.specs.Trees.{Tree, IsBefore, IsApart, IsWithin, IsKept, meets, meets_guest, meets_iova}
-use Rattle.vd_iova.specs.Indexes.{Has, IsIndex, IsGreatest, IsFloor, IsFirst, IsLeast, AllAbove, AllOutside, lower_of}
-use Rattle.vd_iova.proofs.Members.{of_each, found, find_none, none_passes, same_iova, same_guest, ends_from_meets, meets_from_ends}
-use Rattle.vd_iova.proofs.Translations.{IsSingle, single_guest, single_iova, only_holds, holds, floor_holds, floor_fails, above_fails, ends_from_holds, holds_from_ends}
+use Rattle.vd_iova.specs.Trees.{Tree, IsBefore, IsApart, IsWithin, IsKept, meets_guest, meets_iova}
+use Rattle.vd_iova.specs.Indexes.{Has, IsIndex, IsGreatest, IsFirst, lower_of}
+use Rattle.vd_iova.proofs.Members.{of_each, found, find_none, none_passes, same_iova, ends_from_meets, meets_from_ends}
+use Rattle.vd_iova.proofs.Translations.{IsSingle, single_guest, only_holds, holds, floor_holds, floor_fails, ends_from_holds, holds_from_ends}
 use Rattle.vd_iova.proofs.Changes.{first_lowest}
 use Rattle.vd_iova.proofs.Keyed.{at_key}
 use Rattle.vd_iova.proofs.Floors.{lt_from_less}

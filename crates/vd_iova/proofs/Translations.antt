@@ -1,8 +1,8 @@
 -- The mapping that holds a range, found by the greatest start that is not above it, and that `to` and `back` undo each other.
-use Rattle.std.proofs.Common.{ℕ, ◌≡◌, ◌≤◌, ◌<◌, ◌+◌, ◌-◌, ◌&&◌, ◌⊎◌, inl, inr, List, Option, Some, None, arith, sym, ◌∙◌, ap, subst, false, true, Bool, nat_le, refl, find}
+use Rattle.std.proofs.Common.{ℕ, ◌≡◌, ◌≤◌, ◌<◌, ◌+◌, ◌-◌, ◌&&◌, inl, inr, List, Option, Some, None, arith, ◌∙◌, ap, true, Bool, nat_le, refl, find}
 use Rattle.std.specs.List.{AllByRecursion}
 use Rattle.std.specs.Option.{option_map}
-use Rattle.std.proofs.lemmas.Bool.{false≢true, cases_Bool}
+use Rattle.std.proofs.lemmas.Bool.{cases_Bool}
 use Rattle.std.proofs.lemmas.Bool.Decides.{nat_tests}
 use Rattle.vd_model.specs.declared.map.Mapping.{Mapping}
 use Rattle.vd_model.specs.Maps.{to, back, holds_guest, holds_iova}

@@ -26,6 +26,14 @@ meets_iova iova len m = meets iova len m.iova m.size
 abbrev pub meets_either : Mapping → Mapping → Bool
 meets_either m k = meets_guest m.guest m.size k || meets_iova m.iova m.size k
 
+-- a range has a byte, and no kept mapping has one of its guest addresses
+abbrev pub IsUnmapped : Tree → ℕ → ℕ → Type 0
+IsUnmapped t size guest = (0 < size) × (find (meets_guest guest size) t.mappings ≡ None)
+
+-- a mapping has a byte, and no kept one has one of its guest addresses or iovas
+abbrev pub IsUnmappedAt : Tree → Mapping → Type 0
+IsUnmappedAt t m = (0 < m.size) × (find (meets_either m) t.mappings ≡ None)
+
 -- the mapping's iova range lies in the tree's
 abbrev pub lies_within : Tree → Mapping → Bool
 lies_within t m = nat_le t.first m.iova && nat_le (m.iova + m.size) (t.last + 1)
@@ -103,9 +111,20 @@ pub record IsFresh (t : Tree) (m : Mapping) : Type 0 where
   pub iova : find (meets_iova m.iova m.size) t.mappings ≡ None
   pub guest : find (meets_guest m.guest m.size) t.mappings ≡ None
 
--- guest ranges, each an address and a size, mapped in turn at the lowest hole, in that order; None where one finds none
+-- the tree with mappings added in turn
+abbrev pub added_all : List Mapping → Tree → Tree
+added_all [] t = t
+added_all (m ∷ ms) t = added_all ms (added t m)
+
+-- a guest range, its address and its size, mapped at an iova
+abbrev pub range_at : ℕ × ℕ → ℕ → Mapping
+range_at r x = record { iova = x; size = r.1; guest = r.0 }
+
+-- a guest range mapped at its own address
+abbrev pub own : ℕ × ℕ → Mapping
+own r = range_at r r.0
+
+-- guest ranges mapped in turn, each at the lowest hole that those before it leave; None where one finds none
 abbrev pub laid : List (ℕ × ℕ) → Tree → Option (List Mapping)
 laid [] t = Some []
-laid (r ∷ rs) t = option_and_then (λ x.
-    let m : Mapping = record { iova = x; size = r.1; guest = r.0 } in
-    option_map (λ ms. m ∷ ms) (laid rs (added t m))) (hole t r.1)
+laid (r ∷ rs) t = option_and_then (λ x. option_map (λ ms. range_at r x ∷ ms) (laid rs (added t (range_at r x)))) (hole t r.1)

@@ -11,7 +11,9 @@ impl IovaTree {
     /// Keeps a mapping that meets no other.
     pub(super) fn add(&mut self, mapping: Mapping) -> Result<(), MapFault>
         requires { IsFresh self.old mapping }
-        ensures { MatchResult result (λ _. self.new ≡ added self.old mapping) (λ fault. (fault ≡ Memory) × (self.new ≡ self.old)) }
+        ensures { MatchResult result
+            (λ _. self.new ≡ added self.old mapping)
+            (λ fault. (fault ≡ Memory) × (self.new ≡ self.old)) }
     {
         let Ok(_) = self.by_guest.insert(mapping.guest, mapping) else {
             return Err(MapFault::Memory);

@@ -1,7 +1,8 @@
 //! Translation between guest addresses and iovas.
-ghost use Rattle.std.specs.Prelude.{◌≡◌, ◌+◌, ◌<◌, ◌≤◌, ◌^◌, find, IfSome, Some};
+ghost use Rattle.std.specs.Prelude.{◌≡◌, ◌+◌, ◌<◌, ◌≤◌, ◌^◌, List, [], find, IfSome, Some};
+ghost use Rattle.vd_model.specs.declared.map.Mapping.{Mapping};
 ghost use Rattle.vd_model.specs.Maps.{to, back, holds_guest, holds_iova};
-ghost use Rattle.vd_iova.specs.Trees.{IsKept, IsWithin};
+ghost use Rattle.vd_iova.specs.Trees.{Tree, IsKept, IsWithin, added_all};
 ghost use Rattle.vd_iova.specs.Indexes.{IsFloor};
 
 use super::IovaTree;
@@ -50,12 +51,16 @@ impl IovaTree {
     }
 
     /// The iova of `len` bytes of guest memory from `addr`, where one mapping holds them all.
+    /// The order in which the mappings were added does not matter.
     pub fn translate(&self, addr: u64, len: u32) -> Option<u64>
         requires some { 0 < len }
         requires below { addr < 2 ^ 63 }
         ensures value { result ≡ to self.now.mappings addr len }
         ensures undone { IfSome result (λ iova. back self.now.mappings iova len ≡ Some addr) }
-        ensures within { IfSome result (λ iova. (self.now.first ≤ iova) × (iova + len ≤ self.now.last + 1)) }
+        ensures in_turn { (ms : List Mapping) (t : Tree)
+            → t.mappings ≡ [] → self.now ≡ added_all ms t → result ≡ to ms addr len }
+        ensures within { IfSome result (λ iova.
+            (self.now.first ≤ iova) × (iova + len ≤ self.now.last + 1)) }
         ensures kept { IsKept self.now }
     {
         let mapping = self.guest_floor(addr)?;
@@ -68,11 +73,14 @@ impl IovaTree {
     }
 
     /// The guest address of `len` bytes from `iova`, where one mapping holds them all.
+    /// The order in which the mappings were added does not matter.
     pub fn resolve(&self, iova: u64, len: u32) -> Option<u64>
         requires some { 0 < len }
         requires below { iova < 2 ^ 63 }
         ensures value { result ≡ back self.now.mappings iova len }
         ensures undone { IfSome result (λ addr. to self.now.mappings addr len ≡ Some iova) }
+        ensures in_turn { (ms : List Mapping) (t : Tree)
+            → t.mappings ≡ [] → self.now ≡ added_all ms t → result ≡ back ms iova len }
         ensures within { IfSome result (λ addr. addr + len ≤ 2 ^ 63) }
         ensures kept { IsKept self.now }
     {

@@ -1,8 +1,8 @@
 //! The calls that map a guest range.
-ghost use Rattle.std.specs.Prelude.{◌≡◌, ◌+◌, ◌<◌, ◌≤◌, ◌^◌, ◌↔◌, true, false, ℕ, find, None, Some, Err, IsOk, IfOk, MatchResult};
+ghost use Rattle.std.specs.Prelude.{◌≡◌, ◌+◌, ◌<◌, ◌≤◌, ◌^◌, ◌↔◌, true, false, ℕ, find, None, Some, Err, IfOk, OnOk, MatchResult};
 ghost use Rattle.vd_model.specs.declared.map.Mapping.{Mapping};
 ghost use Rattle.vd_iova.specs.declared.fault.MapFault.TheVariants.{Empty, Overlap, NoHole};
-ghost use Rattle.vd_iova.specs.Trees.{meets_guest, meets_either, hole, added, lies_within, IsLowestHole, HasNoHole};
+ghost use Rattle.vd_iova.specs.Trees.{meets_guest, meets_either, hole, added, lies_within, IsUnmapped, IsUnmappedAt, IsLowestHole, HasNoHole};
 
 use super::IovaTree;
 use crate::MapFault;
@@ -15,14 +15,19 @@ impl IovaTree {
         requires { guest + size ≤ 2 ^ 63 }
         // Each refusal has its exact cause. Where there is none, only memory can run out.
         ensures empty { (result ≡ Err Empty) ↔ (size ≡ 0) }
-        ensures overlap { (m : Mapping) → (result ≡ Err (Overlap m)) ↔ ((0 < size) × (find (meets_guest guest size) self.old.mappings ≡ Some m)) }
-        ensures no_hole { (n : ℕ) → (result ≡ Err (NoHole n)) ↔ ((n ≡ size) × (0 < size) × (find (meets_guest guest size) self.old.mappings ≡ None) × (hole self.old size ≡ None)) }
-        ensures ok { IfOk result (λ iova. (0 < size) × (find (meets_guest guest size) self.old.mappings ≡ None) × (hole self.old size ≡ Some iova)) }
+        ensures overlap { (m : Mapping) → (result ≡ Err (Overlap m))
+            ↔ ((0 < size) × (find (meets_guest guest size) self.old.mappings ≡ Some m)) }
+        ensures no_hole { (n : ℕ) → (result ≡ Err (NoHole n))
+            ↔ ((n ≡ size) × IsUnmapped self.old size guest × (hole self.old size ≡ None)) }
+        ensures ok { IfOk result (λ iova.
+            IsUnmapped self.old size guest × (hole self.old size ≡ Some iova)) }
 
         // What the hole is, and what the tree is then.
         ensures lowest { IfOk result (IsLowestHole self.old size) }
         ensures full { result ≡ Err (NoHole size) → HasNoHole self.old size }
-        ensures tree { MatchResult result (λ iova. self.new ≡ added self.old (record { iova = iova; size = size; guest = guest })) (λ _. self.new ≡ self.old) }
+        ensures tree { MatchResult result
+            (λ iova. self.new ≡ added self.old (record { iova = iova; size = size; guest = guest }))
+            (λ _. self.new ≡ self.old) }
     {
         if size == 0 {
             return Err(MapFault::Empty);
@@ -43,12 +48,16 @@ impl IovaTree {
         requires iova { m.iova + m.size ≤ 2 ^ 63 }
         // Each refusal has its exact cause. Where there is none, only memory can run out.
         ensures empty { (result ≡ Err Empty) ↔ (m.size ≡ 0) }
-        ensures overlap { (k : Mapping) → (result ≡ Err (Overlap k)) ↔ ((0 < m.size) × (find (meets_either m) self.old.mappings ≡ Some k)) }
-        ensures no_hole { (n : ℕ) → (result ≡ Err (NoHole n)) ↔ ((n ≡ m.size) × (0 < m.size) × (find (meets_either m) self.old.mappings ≡ None) × (lies_within self.old m ≡ false)) }
-        ensures ok { IsOk result → (0 < m.size) × (find (meets_either m) self.old.mappings ≡ None) × (lies_within self.old m ≡ true) }
+        ensures overlap { (k : Mapping) → (result ≡ Err (Overlap k))
+            ↔ ((0 < m.size) × (find (meets_either m) self.old.mappings ≡ Some k)) }
+        ensures no_hole { (n : ℕ) → (result ≡ Err (NoHole n))
+            ↔ ((n ≡ m.size) × IsUnmappedAt self.old m × (lies_within self.old m ≡ false)) }
+        ensures ok { OnOk result (IsUnmappedAt self.old m × (lies_within self.old m ≡ true)) }
 
         // What the tree is then.
-        ensures tree { MatchResult result (λ _. self.new ≡ added self.old m) (λ _. self.new ≡ self.old) }
+        ensures tree { MatchResult result
+            (λ _. self.new ≡ added self.old m)
+            (λ _. self.new ≡ self.old) }
     {
         if m.size == 0 {
             return Err(MapFault::Empty);

@@ -1,4 +1,4 @@
-use Rattle.std.proofs.Common.{sym, arith}
+use Rattle.std.proofs.Common.{sym}
 use Rattle.vd_iova.proofs.Translations.{single_guest, above_fails}
 use Rattle.vd_iova.proofs.Overlaps.{at_found, at_missed}
 use Rattle.vd_iova.proofs.tree.IovaTree.guest_at.Goals as goal

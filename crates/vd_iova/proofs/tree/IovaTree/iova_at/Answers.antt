@@ -1,4 +1,4 @@
-use Rattle.std.proofs.Common.{sym, arith}
+use Rattle.std.proofs.Common.{sym}
 use Rattle.vd_iova.proofs.Translations.{single_iova, above_fails}
 use Rattle.vd_iova.proofs.Overlaps.{at_found, at_missed}
 use Rattle.vd_iova.proofs.tree.IovaTree.iova_at.Goals as goal

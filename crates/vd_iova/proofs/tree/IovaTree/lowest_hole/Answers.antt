@@ -1,6 +1,6 @@
-use Rattle.std.proofs.Common.{ℕ, ◌≡◌, ap, Some, None, Option, sym, subst, arith}
-use Rattle.vd_iova.specs.Trees.{Tree, IsKept, IsLowestHole, HasNoHole}
-use Rattle.vd_iova.proofs.Holes.{answered, hole_from, walk_stops, walk_ends, walk_fails, Answers}
+use Rattle.std.proofs.Common.{◌≡◌, ap, Some, None, sym, subst, arith}
+use Rattle.vd_iova.specs.Trees.{Tree, IsKept}
+use Rattle.vd_iova.proofs.Holes.{answered, hole_from, walk_stops, walk_ends, walk_fails}
 use Rattle.vd_iova.proofs.tree.IovaTree.lowest_hole.Goals as goal
 
 pub returns-then-size-saturating_sub-clause-lowest :
