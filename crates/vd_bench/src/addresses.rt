@@ -7,6 +7,7 @@ use vd_iova::{IovaTree, MapFault};
 use vd_model::Mapping;
 
 const PAGE: u64 = 4096;
+
 const BASE: u64 = 1 << 40;
 
 /// The sum, modulo 2^64, of the iovas of `turns` addresses over `mappings` mappings of a page each.

@@ -2,7 +2,7 @@
 use std::env::Args;
 
 /// What is to be run.
-#[derive(Debug, Drop)]
+#[derive(Drop)]
 pub enum Workload {
     /// `translate N TURNS`: so many translations over so many mappings.
     Translate { mappings: u32, turns: u64 },
