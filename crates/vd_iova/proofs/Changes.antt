@@ -7,8 +7,9 @@ use Rattle.std.specs.BTreeMap.{is_at, insert_entry}
 use Rattle.std.proofs.lemmas.Bool.{both_ways, cases_Bool, cases_lt, cases_order, eqb-true, eq-eqb, ne_eqb, lt-ltb, le-ltb}
 use Rattle.std.proofs.lemmas.Bool.Decides.{nat_tests}
 use Rattle.vd_model.specs.declared.map.Mapping.{Mapping}
-use Rattle.vd_iova.specs.Trees.{Tree, IsBefore, IsApart, IsWithin, IsKept, IsFresh, meets, meets_guest, meets_iova, placed, added, starts, without}
-use Rattle.vd_iova.specs.Indexes.{Has, IsIndex}
+use Rattle.vd_iova.specs.Ranges.{meets, meets_guest, meets_iova}
+use Rattle.vd_iova.specs.Trees.{Tree, IsBefore, IsApart, IsWithin, IsKept, placed, added, starts, without}
+use Rattle.vd_iova.specs.Indexes.{IsFresh, Has, IsIndex}
 use Rattle.vd_iova.proofs.Members.{of_each, none_passes, same_guest, same_iova, meets_from_ends, no_common}
 use Rattle.vd_iova.proofs.Keyed.{entry, at_key}
 

@@ -3,7 +3,10 @@ use Rattle.std.proofs.Common.{ℕ, ◌≡◌, ◌≤◌, ◌<◌, ◌+◌, ◌^�
 use Rattle.std.specs.List.{list_any}
 use Rattle.std.proofs.lemmas.Bool.{cases_Bool, leb-true, and_parts, not-true}
 use Rattle.vd_model.specs.declared.map.Mapping.{Mapping}
-use Rattle.vd_iova.specs.Trees.{Tree, IsLowestHole, IsFresh, meets_guest, meets_iova}
+use Rattle.vd_iova.specs.Ranges.{meets_guest, meets_iova}
+use Rattle.vd_iova.specs.Trees.{Tree}
+use Rattle.vd_iova.specs.Holes.{IsLowestHole}
+use Rattle.vd_iova.specs.Indexes.{IsFresh}
 use Rattle.vd_iova.proofs.Holes.{fits}
 
 -- none is found where none passes

@@ -4,8 +4,10 @@ use Rattle.std.specs.List.{AllByRecursion, list_any}
 use Rattle.std.specs.Option.{option_map}
 use Rattle.std.proofs.lemmas.Bool.{cases_Bool, cases_lt, leb-true, leb-false, le-leb, lt-leb, and_left, and_right, and_from, and_parts}
 use Rattle.vd_model.specs.declared.map.Mapping.{Mapping}
-use Rattle.vd_iova.specs.Trees.{Tree, IsBefore, IsApart, IsWithin, IsKept, meets_iova, is_free, page_end, hole, least, IsLowestHole, HasNoHole}
-use Rattle.vd_iova.specs.Indexes.{Has}
+use Rattle.vd_iova.specs.Ranges.{meets_iova}
+use Rattle.vd_iova.specs.Trees.{Tree, IsBefore, IsApart, IsWithin, IsKept}
+use Rattle.vd_iova.specs.Holes.{is_free, hole, least, IsLowestHole, HasNoHole}
+use Rattle.vd_iova.specs.Indexes.{page_end, Has}
 use Rattle.vd_iova.proofs.Members.{of_each, apart_from_ends, meets_from_ends}
 
 -- ---- multiples of a page

@@ -5,8 +5,8 @@ use Rattle.std.specs.Ordering.{nat_cmp}
 use Rattle.std.specs.BTreeMap.{BTreeMap, get, is_at, values, insert_entry}
 use Rattle.std.proofs.lemmas.Bool.{eqb-true}
 use Rattle.vd_model.specs.declared.map.Mapping.{Mapping}
-use Rattle.vd_iova.specs.Trees.{Tree, IsKept, IsFresh, placed, starts}
-use Rattle.vd_iova.specs.Indexes.{IsIndex, IsIndexed, tree_of}
+use Rattle.vd_iova.specs.Trees.{Tree, IsKept, placed, starts}
+use Rattle.vd_iova.specs.Indexes.{IsFresh, IsIndex, IsIndexed, tree_of}
 use Rattle.vd_iova.proofs.Members.{found}
 use Rattle.vd_iova.proofs.Keyed.{entry}
 use Rattle.vd_iova.proofs.Changes.{index_added, index_undone, index_same, index_removed, kept_added, kept_without, insert-entries, remove-entries, lookup-entries, values-entries, fresh_iova, fresh_guest, same_start_iova, same_start_guest, elsewhere}

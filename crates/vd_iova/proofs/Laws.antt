@@ -4,7 +4,8 @@ use Rattle.std.specs.Option.{option_map, option_and_then}
 use Rattle.std.proofs.lemmas.Bool.{cases_Bool}
 use Rattle.vd_model.specs.declared.map.Mapping.{Mapping}
 use Rattle.vd_model.specs.Maps.{to, back, holds_guest}
-use Rattle.vd_iova.specs.Trees.{Tree, IsKept, added, added_all, placed, hole, laid, own, range_at}
+use Rattle.vd_iova.specs.Trees.{Tree, IsKept, added, added_all, placed}
+use Rattle.vd_iova.specs.Holes.{hole, laid, own, range_at}
 use Rattle.vd_iova.specs.Indexes.{Has}
 use Rattle.vd_iova.proofs.Members.{find_none, found, none_passes}
 use Rattle.vd_iova.proofs.Changes.{has_placed, has_still, has_either}

@@ -4,7 +4,8 @@ use Rattle.std.specs.List.{AllByRecursion}
 use Rattle.std.proofs.lemmas.Bool.{false≢true, both_ways, cases_Bool}
 use Rattle.std.proofs.lemmas.Bool.Decides.{nat_tests}
 use Rattle.vd_model.specs.declared.map.Mapping.{Mapping}
-use Rattle.vd_iova.specs.Trees.{meets, IsBefore, IsApart}
+use Rattle.vd_iova.specs.Ranges.{meets}
+use Rattle.vd_iova.specs.Trees.{IsBefore, IsApart}
 use Rattle.vd_iova.specs.Indexes.{Has}
 
 -- what two ranges that meet say of their ends

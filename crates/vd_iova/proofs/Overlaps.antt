@@ -13,7 +13,8 @@ use Rattle.std.proofs.lemmas.Bool.Decides.{nat_tests}
 use Rattle.std.proofs.lemmas.Bool.{both_ways, cases_Bool, cases_lt, or_cases, leb-true, leb-false, eqb-true}
 use Rattle.vd_model.specs.declared.map.Mapping.{Mapping}
 use Rattle.vd_model.specs.Maps.{holds_guest, holds_iova}
-use Rattle.vd_iova.specs.Trees.{Tree, IsBefore, IsApart, IsWithin, IsKept, meets_guest, meets_iova}
+use Rattle.vd_iova.specs.Ranges.{meets_guest, meets_iova}
+use Rattle.vd_iova.specs.Trees.{Tree, IsBefore, IsApart, IsWithin, IsKept}
 use Rattle.vd_iova.specs.Indexes.{Has, IsIndex, IsGreatest, IsFirst, lower_of}
 use Rattle.vd_iova.proofs.Members.{of_each, found, find_none, none_passes, same_iova, ends_from_meets, meets_from_ends}
 use Rattle.vd_iova.proofs.Translations.{IsSingle, single_guest, only_holds, holds, floor_holds, floor_fails, ends_from_holds, holds_from_ends}

@@ -1,9 +1,10 @@
--- What the two indexes of a tree hold: its mappings by iova, and by guest address.
-use Rattle.std.specs.Prelude.{◌≡◌, ℕ, ◌<◌, ◌≤◌, ◌⊎◌, if◌then◌else◌, nat_le, List, [], ◌∷◌, map, Option, Some, None}
+-- What the code of the tree keeps and passes on: two indexes of its mappings, by iova and by guest address.
+use Rattle.std.specs.Prelude.{◌≡◌, ℕ, ◌+◌, ◌*◌, ◌/◌, ◌<◌, ◌≤◌, ◌⊎◌, if◌then◌else◌, nat_le, List, [], ◌∷◌, map, find, Option, Some, None}
 use Rattle.std.specs.Ordering.{nat_cmp}
 use Rattle.std.specs.BTreeMap.{BTreeMap, get, values}
 use Rattle.vd_model.specs.declared.map.Mapping.{Mapping}
-use Rattle.vd_iova.specs.Trees.{Tree, IsKept}
+use Rattle.vd_iova.specs.Ranges.{meets_guest, meets_iova}
+use Rattle.vd_iova.specs.Trees.{Tree, IsKept, IsWithin}
 
 -- the list has the mapping
 abbrev pub Has : List Mapping → Mapping → Type 0
@@ -60,3 +61,13 @@ pub record IsIndexed (first last : ℕ) (by_iova by_guest : BTreeMap ℕ Mapping
   pub keyed : by_iova.entries ≡ map (λ (m : Mapping). (m.iova, m)) (values by_iova)
   pub kept : IsKept (tree_of first last by_iova)
   pub guest : IsIndex (λ m. m.guest) (get nat_cmp by_guest) (values by_iova)
+
+-- the lowest multiple of 4,096 that is not below an address
+abbrev pub page_end : ℕ → ℕ
+page_end x = (x + 4095) / 4096 * 4096
+
+-- a mapping that a tree may keep beside its others
+pub record IsFresh (t : Tree) (m : Mapping) : Type 0 where
+  pub within : IsWithin t.first t.last m
+  pub iova : find (meets_iova m.iova m.size) t.mappings ≡ None
+  pub guest : find (meets_guest m.guest m.size) t.mappings ≡ None

@@ -1,7 +1,8 @@
 //! A new mapping goes into both indexes, or into none.
 ghost use Rattle.std.specs.Prelude.{◌≡◌, MatchResult};
 ghost use Rattle.vd_iova.specs.declared.fault.MapFault.TheVariants.{Memory};
-ghost use Rattle.vd_iova.specs.Trees.{added, IsFresh};
+ghost use Rattle.vd_iova.specs.Trees.{added};
+ghost use Rattle.vd_iova.specs.Indexes.{IsFresh};
 
 use super::IovaTree;
 use crate::MapFault;

@@ -1,6 +1,7 @@
 //! The lowest hole among the iovas.
 ghost use Rattle.std.specs.Prelude.{◌≡◌, ◌<◌, ◌≤◌, ◌^◌, IfNone, IfSome};
-ghost use Rattle.vd_iova.specs.Trees.{hole, page_end, IsLowestHole, HasNoHole};
+ghost use Rattle.vd_iova.specs.Holes.{hole, IsLowestHole, HasNoHole};
+ghost use Rattle.vd_iova.specs.Indexes.{page_end};
 
 use super::IovaTree;
 

@@ -2,7 +2,9 @@
 ghost use Rattle.std.specs.Prelude.{◌≡◌, ◌+◌, ◌<◌, ◌≤◌, ◌^◌, ◌↔◌, true, false, ℕ, find, None, Some, Err, IfOk, OnOk, MatchResult};
 ghost use Rattle.vd_model.specs.declared.map.Mapping.{Mapping};
 ghost use Rattle.vd_iova.specs.declared.fault.MapFault.TheVariants.{Empty, Overlap, NoHole};
-ghost use Rattle.vd_iova.specs.Trees.{meets_guest, meets_either, hole, added, lies_within, IsUnmapped, IsUnmappedAt, IsLowestHole, HasNoHole};
+ghost use Rattle.vd_iova.specs.Ranges.{meets_guest, meets_either};
+ghost use Rattle.vd_iova.specs.Trees.{added, lies_within, IsUnmapped, IsUnmappedAt};
+ghost use Rattle.vd_iova.specs.Holes.{hole, IsLowestHole, HasNoHole};
 
 use super::IovaTree;
 use crate::MapFault;

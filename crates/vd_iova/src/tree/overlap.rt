@@ -1,6 +1,7 @@
 //! The kept mapping that a range meets.
 ghost use Rattle.std.specs.Prelude.{◌≡◌, ◌+◌, ◌<◌, ◌≤◌, ◌^◌, find};
-ghost use Rattle.vd_iova.specs.Trees.{meets_guest, meets_iova, meets_either, IsKept};
+ghost use Rattle.vd_iova.specs.Ranges.{meets_guest, meets_iova, meets_either};
+ghost use Rattle.vd_iova.specs.Trees.{IsKept};
 ghost use Rattle.vd_iova.specs.Indexes.{lower_of};
 
 use super::IovaTree;

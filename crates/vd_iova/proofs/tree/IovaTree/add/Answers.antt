@@ -1,5 +1,6 @@
 use Rattle.std.proofs.Common.{ap, refl, sym, subst, rules}
-use Rattle.vd_iova.specs.Trees.{Tree, IsFresh}
+use Rattle.vd_iova.specs.Trees.{Tree}
+use Rattle.vd_iova.specs.Indexes.{IsFresh}
 use Rattle.vd_iova.proofs.Indexed.{indexed_same, indexed_added, indexed_undone, values_added}
 use Rattle.vd_iova.proofs.tree.IovaTree.add.Goals as goal
 

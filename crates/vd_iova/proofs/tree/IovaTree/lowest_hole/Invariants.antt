@@ -1,6 +1,7 @@
 use Rattle.std.proofs.Common.{◌≡◌}
 use Rattle.std.specs.List.{AllByRecursion}
-use Rattle.vd_iova.specs.Trees.{IsWithin, page_end}
+use Rattle.vd_iova.specs.Trees.{IsWithin}
+use Rattle.vd_iova.specs.Indexes.{page_end}
 use Rattle.vd_iova.proofs.Holes.{walk}
 use Rattle.vd_iova.proofs.tree.IovaTree.lowest_hole.Given as goal
 

@@ -1,5 +1,5 @@
 use Rattle.std.proofs.Common.{sym, ◌∙◌, ap, Some}
-use Rattle.vd_iova.specs.Trees.{meets_guest, meets_iova}
+use Rattle.vd_iova.specs.Ranges.{meets_guest, meets_iova}
 use Rattle.vd_iova.proofs.Overlaps.{find_either, find_second}
 use Rattle.vd_iova.proofs.tree.IovaTree.met.Goals as goal
 
