@@ -1,7 +1,7 @@
 //! A new mapping goes into both indexes, or into none.
-ghost use Rattle.std.specs.Prelude.{◌≡◌, MatchResult};
+ghost use Rattle.std.specs.Prelude.{◌≡◌, OnOk, MatchResult};
 ghost use Rattle.vd_iova.specs.declared.fault.MapFault.TheVariants.{Memory};
-ghost use Rattle.vd_iova.specs.Trees.{added};
+ghost use Rattle.vd_iova.specs.Trees.{added, IsKept};
 ghost use Rattle.vd_iova.specs.Indexes.{IsFresh};
 
 use super::IovaTree;
@@ -12,9 +12,10 @@ impl IovaTree {
     /// Keeps a mapping that meets no other.
     pub(super) fn add(&mut self, mapping: Mapping) -> Result<(), MapFault>
         requires { IsFresh self.old mapping }
-        ensures { MatchResult result
+        ensures tree { MatchResult result
             (λ _. self.new ≡ added self.old mapping)
             (λ fault. (fault ≡ Memory) × (self.new ≡ self.old)) }
+        ensures kept { OnOk result (IsKept self.new) }
     {
         let Ok(_) = self.by_guest.insert(mapping.guest, mapping) else {
             return Err(MapFault::Memory);

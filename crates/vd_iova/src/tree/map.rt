@@ -3,7 +3,7 @@ ghost use Rattle.std.specs.Prelude.{◌≡◌, ◌+◌, ◌<◌, ◌≤◌, ◌^
 ghost use Rattle.vd_model.specs.declared.map.Mapping.{Mapping};
 ghost use Rattle.vd_iova.specs.declared.fault.MapFault.TheVariants.{Empty, Overlap, NoHole};
 ghost use Rattle.vd_iova.specs.Ranges.{meets_guest, meets_either};
-ghost use Rattle.vd_iova.specs.Trees.{added, lies_within, IsUnmapped, IsUnmappedAt};
+ghost use Rattle.vd_iova.specs.Trees.{added, lies_within, IsUnmapped, IsUnmappedAt, IsKept};
 ghost use Rattle.vd_iova.specs.Holes.{hole, IsLowestHole, HasNoHole};
 
 use super::IovaTree;
@@ -30,6 +30,7 @@ impl IovaTree {
         ensures tree { MatchResult result
             (λ iova. self.new ≡ added self.old (record { iova = iova; size = size; guest = guest }))
             (λ _. self.new ≡ self.old) }
+        ensures kept { OnOk result (IsKept self.new) }
     {
         if size == 0 {
             return Err(MapFault::Empty);
@@ -60,6 +61,7 @@ impl IovaTree {
         ensures tree { MatchResult result
             (λ _. self.new ≡ added self.old m)
             (λ _. self.new ≡ self.old) }
+        ensures kept { OnOk result (IsKept self.new) }
     {
         if m.size == 0 {
             return Err(MapFault::Empty);
