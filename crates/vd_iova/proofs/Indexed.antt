@@ -9,7 +9,8 @@ use Rattle.vd_iova.specs.Trees.{Tree, IsKept, placed, starts}
 use Rattle.vd_iova.specs.Indexes.{IsFresh, IsIndex, IsIndexed, tree_of}
 use Rattle.vd_iova.proofs.Members.{found}
 use Rattle.vd_iova.proofs.Keyed.{entry}
-use Rattle.vd_iova.proofs.Changes.{index_added, index_undone, index_same, index_removed, kept_added, kept_without, insert-entries, remove-entries, lookup-entries, values-entries, fresh_iova, fresh_guest, same_start_iova, same_start_guest, elsewhere}
+use Rattle.vd_iova.proofs.Changes.{index_added, index_undone, index_same, kept_added, insert-entries, values-entries, fresh_iova, fresh_guest}
+use Rattle.vd_iova.proofs.Removals.{index_removed, kept_without, remove-entries, lookup-entries, same_start_iova, same_start_guest, elsewhere}
 
 -- maps with the same entries by iova, and that find the same by guest address
 pub indexed_same : (first last : ℕ) (i j g h : BTreeMap ℕ Mapping) → IsIndexed first last i g → j.entries ≡ i.entries

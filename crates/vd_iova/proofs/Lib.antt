@@ -3,6 +3,7 @@ pub mod Members
 pub mod Translations
 pub mod Keyed
 pub mod Changes
+pub mod Removals
 pub mod Indexed
 pub mod Holes
 pub mod Overlaps
