@@ -1,10 +1,11 @@
 //! The calls that map a guest range.
-ghost use Rattle.std.specs.Prelude.{◌≡◌, ◌+◌, ◌<◌, ◌≤◌, ◌^◌, ◌↔◌, true, false, ℕ, find, None, Some, Err, IfOk, OnOk, MatchResult};
+ghost use Rattle.std.specs.Prelude.{◌≡◌, ◌+◌, ◌<◌, ◌≤◌, ◌^◌, ◌↔◌, true, false, ℕ, List, ◌∷◌, find, None, Some, Err, IfOk, OnOk, MatchResult};
+ghost use Rattle.std.specs.Option.{option_map};
 ghost use Rattle.vd_model.specs.declared.map.Mapping.{Mapping};
 ghost use Rattle.vd_iova.specs.declared.fault.MapFault.TheVariants.{Empty, Overlap, NoHole};
 ghost use Rattle.vd_iova.specs.Ranges.{meets_guest, meets_either};
 ghost use Rattle.vd_iova.specs.Trees.{added, lies_within, IsUnmapped, IsUnmappedAt, IsKept};
-ghost use Rattle.vd_iova.specs.Holes.{hole, IsLowestHole, HasNoHole};
+ghost use Rattle.vd_iova.specs.Holes.{hole, laid, range_at, IsLowestHole, HasNoHole};
 
 use super::IovaTree;
 use crate::MapFault;
@@ -31,6 +32,12 @@ impl IovaTree {
             (λ iova. self.new ≡ added self.old (record { iova = iova; size = size; guest = guest }))
             (λ _. self.new ≡ self.old) }
         ensures kept { OnOk result (IsKept self.new) }
+
+        // The first of several guest ranges that are mapped in turn.
+        ensures laid { IfOk result (λ iova. (rs : List (ℕ × ℕ)) → laid ((guest, size) ∷ rs) self.old
+            ≡ option_map (λ ms. range_at (guest, size) iova ∷ ms) (laid rs self.new)) }
+        ensures not_laid { result ≡ Err (NoHole size)
+            → (rs : List (ℕ × ℕ)) → laid ((guest, size) ∷ rs) self.old ≡ None }
     {
         if size == 0 {
             return Err(MapFault::Empty);
