@@ -1,0 +1,11 @@
+pub mod Floors
+pub mod Members
+pub mod Translations
+pub mod Keyed
+pub mod Changes
+pub mod Removals
+pub mod Indexed
+pub mod Holes
+pub mod Overlaps
+pub mod Fresh
+pub mod Laws

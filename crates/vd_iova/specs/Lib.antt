@@ -1,0 +1,4 @@
+pub mod Ranges
+pub mod Trees
+pub mod Holes
+pub mod Indexes
