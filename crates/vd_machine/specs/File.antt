@@ -38,6 +38,7 @@ pub record Plan : Type 0 where
   pub switches : List Switch
   pub control : Option Script
 
+-- what a machine holds
 abbrev pub view : Machine → Plan
 view m = record {
   packed = m.packed;
@@ -55,21 +56,27 @@ view m = record {
 
 -- the parts of the machine that a document means, where it keeps the rules; else they mean nothing
 
+-- whether the layout is packed
 abbrev pub packed_in : Members → Bool
 packed_in ms = unwrap_or (layout_of ms) false
 
+-- the size
 abbrev pub size_in : Members → ℕ
 size_in ms = unwrap_or (size_of (packed_in ms) ms) 0
 
+-- the features
 abbrev pub features_or_none : Members → Features
 features_or_none ms = unwrap_or (features_of ms) (features_in [])
 
+-- how many pieces a chain may have
 abbrev pub most_in : Members → ℕ
 most_in ms = most_pieces (features_or_none ms) (size_in ms)
 
+-- the regions
 abbrev pub regions_in : Members → List Region
 regions_in ms = unwrap_or (regions_of ms) []
 
+-- the scripts
 abbrev pub scripts_in : Members → List Script
 scripts_in ms = unwrap_or (scripts_of (most_in ms) ms) []
 

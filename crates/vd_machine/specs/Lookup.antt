@@ -33,6 +33,7 @@ list_in d = option_map list_of (as_array d)
 abbrev pub items_at : List ℕ → Members → List Data
 items_at key ms = unwrap_or (option_and_then list_in (get_member key ms)) []
 
+-- the key is there
 abbrev pub has : List ℕ → Members → Bool
 has key ms = is_some (get_member key ms)
 

@@ -15,6 +15,7 @@ use Rattle.vd_machine.specs.declared.regions.Region.{Region}
 abbrev pub writes_chain : Data → Bool
 writes_chain d = option_map_or (λ t. is_some (run t)) (as_str d) false
 
+-- the value is a list of such texts
 abbrev pub queue_writes_chains : Data → Bool
 queue_writes_chains d = option_map_or (list_all writes_chain) (list_in d) false
 
@@ -34,6 +35,7 @@ script rs = record { runs = rs; commands = [] }
 abbrev pub run_of : ℕ → Data → Option Run
 run_of most d = option_and_then (run_within most) (as_str d)
 
+-- the script that a list of texts writes
 abbrev pub script_of : ℕ → Data → Option Script
 script_of most d = option_map script (option_and_then (λ ds. all_some (map (run_of most) ds)) (list_in d))
 
@@ -45,6 +47,7 @@ scripts_of most ms = all_some (map (script_of most) (items_at (codes "queues") m
 abbrev pub is_script : ℕ → Script → Bool
 is_script most q = (length q.commands == 0) && list_all (is_lawful most) q.runs
 
+-- each script is lawful
 abbrev pub are_scripts : ℕ → List Script → Bool
 are_scripts most qs = list_all (is_script most) qs
 
@@ -52,12 +55,15 @@ are_scripts most qs = list_all (is_script most) qs
 abbrev pub holds : Piece → Region → Bool
 holds p r = nat_le r.addr p.addr && nat_le (p.addr + p.len) (r.addr + r.size)
 
+-- one of the regions holds the piece
 abbrev pub lies_in : List Region → Piece → Bool
 lies_in rs p = list_any (holds p) rs
 
+-- each piece of the chain lies in a region
 abbrev pub run_lies_in : List Region → Run → Bool
 run_lies_in rs r = list_all (lies_in rs) r.chain
 
+-- each piece of a script lies in a region
 abbrev pub script_lies_in : List Region → Script → Bool
 script_lies_in rs q = list_all (run_lies_in rs) q.runs
 
@@ -65,6 +71,7 @@ script_lies_in rs q = list_all (run_lies_in rs) q.runs
 abbrev pub all_lie : List Region → List Script → Bool
 all_lie rs qs = list_all (script_lies_in rs) qs
 
+-- how many chains a script has
 abbrev pub chains_of : Script → ℕ
 chains_of q = sum_by (λ (r : Run). r.count) q.runs
 

@@ -14,6 +14,7 @@ is_region r = nat_le 1 r.size && nat_le (r.addr + r.size) 0x8000_0000_0000_0000
 abbrev pub are_apart : Region → Region → Bool
 are_apart r s = nat_le (r.addr + r.size) s.addr || nat_le (s.addr + s.size) r.addr
 
+-- no two have an address in common
 abbrev pub all_apart : List Region → Bool
 all_apart [] = true
 all_apart (r ∷ rs) = list_all (are_apart r) rs && all_apart rs
@@ -22,6 +23,7 @@ all_apart (r ∷ rs) = list_all (are_apart r) rs && all_apart rs
 abbrev pub are_regions : List Region → Bool
 are_regions rs = nat_le (length rs) 64 && (list_all is_region rs && all_apart rs)
 
+-- a region of this address and size
 abbrev pub region_at : Option ℕ → Option ℕ → Option Region
 region_at None size = None
 region_at (Some a) None = None
@@ -31,6 +33,7 @@ region_at (Some a) (Some n) = Some (record { addr = a; size = n })
 abbrev pub region_of : Data → Option Region
 region_of d = option_and_then (λ t. region_at (natural_at (codes "addr") t) (natural_at (codes "size") t)) (as_table d)
 
+-- the regions, where they are lawful
 abbrev pub if_regions : List Region → Option (List Region)
 if_regions rs = if are_regions rs then Some rs else None
 

@@ -11,6 +11,7 @@ use Rattle.vd_machine.specs.Lookup.{natural_at, natural_or, text_at, items_at}
 abbrev pub layout : List ℕ → Option Bool
 layout text = if bytes_eq text (codes "split") then Some false else None
 
+-- the layout of the file, where there is such a layout
 unfoldable pub layout_of : Members → Option Bool
 layout_of ms = option_and_then layout (text_at (codes "layout") ms)
 
@@ -23,12 +24,15 @@ abbrev pub is_lawful_size : Bool → ℕ → Bool
 is_lawful_size true n = nat_le 2 n && nat_le n 1024
 is_lawful_size false n = is_power n
 
+-- the size, where it is lawful
 abbrev pub if_lawful_size : Bool → ℕ → Option ℕ
 if_lawful_size packed n = if is_lawful_size packed n then Some n else None
 
+-- the size of the file, where a ring of the layout may have it
 unfoldable pub size_of : Bool → Members → Option ℕ
 size_of packed ms = option_and_then (if_lawful_size packed) (natural_at (codes "size") ms)
 
+-- the value is the text of this name
 abbrev pub is_named : List ℕ → Data → Bool
 is_named name d = option_map_or (λ t. bytes_eq t name) (as_str d) false
 
@@ -44,9 +48,11 @@ are_features ds = list_all (is_named (codes "in_order")) ds && nat_le (times_of 
 abbrev pub features_in : List Data → Features
 features_in ds = record { indirect = false; event_idx = false; in_order = nat_le 1 (times_of (codes "in_order") ds) }
 
+-- the features, where the list is lawful
 abbrev pub if_features : List Data → Option Features
 if_features ds = if are_features ds then Some (features_in ds) else None
 
+-- the features of the file, where its list is lawful; a missing list is empty
 unfoldable pub features_of : Members → Option Features
 features_of ms = if_features (items_at (codes "features") ms)
 
@@ -54,8 +60,10 @@ features_of ms = if_features (items_at (codes "features") ms)
 abbrev pub is_window : ℕ → Bool
 is_window n = nat_le 1 n && nat_le n 64
 
+-- the window, where it is 1 to 64
 abbrev pub if_window : ℕ → Option ℕ
 if_window n = if is_window n then Some n else None
 
+-- the window of the file, where it is 1 to 64; a missing one is 1
 unfoldable pub window_of : Members → Option ℕ
 window_of ms = option_and_then if_window (natural_or 1 (codes "window") ms)

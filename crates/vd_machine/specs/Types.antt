@@ -9,9 +9,11 @@ use Rattle.vd_machine.specs.Lookup.{items_at, list_in}
 abbrev pub is_number_at : List ℕ → Members → Bool
 is_number_at key ms = option_map_or (λ d. is_some (as_integer d)) (get_member key ms) true
 
+-- or a text
 abbrev pub is_text_at : List ℕ → Members → Bool
 is_text_at key ms = option_map_or (λ d. is_some (as_str d)) (get_member key ms) true
 
+-- or a list
 abbrev pub is_list_at : List ℕ → Members → Bool
 is_list_at key ms = option_map_or (λ d. is_some (as_array d)) (get_member key ms) true
 
@@ -19,6 +21,7 @@ is_list_at key ms = option_map_or (λ d. is_some (as_array d)) (get_member key m
 abbrev pub region_is_typed : Data → Bool
 region_is_typed d = option_map_or (λ t. is_number_at (codes "addr") t && is_number_at (codes "size") t) (as_table d) false
 
+-- a value is a text
 abbrev pub is_text : Data → Bool
 is_text d = is_some (as_str d)
 
@@ -26,16 +29,20 @@ is_text d = is_some (as_str d)
 abbrev pub queue_is_typed : Data → Bool
 queue_is_typed d = option_map_or (list_all is_text) (list_in d) false
 
+-- the values of the file itself
 abbrev pub file_is_typed : Members → Bool
 file_is_typed ms = ((((is_text_at (codes "layout") ms && is_number_at (codes "size") ms) && is_list_at (codes "features") ms)
     && is_number_at (codes "window") ms) && is_list_at (codes "regions") ms) && is_list_at (codes "queues") ms
 
+-- each feature is a text
 abbrev pub features_are_typed : Members → Bool
 features_are_typed ms = list_all is_text (items_at (codes "features") ms)
 
+-- each region is such a table
 abbrev pub regions_are_typed : Members → Bool
 regions_are_typed ms = list_all region_is_typed (items_at (codes "regions") ms)
 
+-- each queue is such a list
 abbrev pub queues_are_typed : Members → Bool
 queues_are_typed ms = list_all queue_is_typed (items_at (codes "queues") ms)
 

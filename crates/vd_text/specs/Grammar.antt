@@ -12,6 +12,7 @@ abbrev pub cut : ℕ → List ℕ → Option (List ℕ × List ℕ)
 cut c [] = None
 cut c (x ∷ xs) = if x == c then Some ([], xs) else option_map (λ p. (x ∷ p.0, p.1)) (cut c xs)
 
+-- the first part with one byte more in front
 abbrev pub grown : ℕ → List (List ℕ) → List (List ℕ)
 grown x [] = (x ∷ []) ∷ []
 grown x (w ∷ ws) = (x ∷ w) ∷ ws
@@ -64,6 +65,7 @@ abbrev pub is_readable_first : List Piece → Bool
 is_readable_first [] = true
 is_readable_first (p ∷ ps) = if p.write then list_all (λ (q : Piece). q.write) ps else is_readable_first ps
 
+-- the pieces, where the readable ones come first
 abbrev pub if_readable_first : List Piece → Option (List Piece)
 if_readable_first ps = if is_readable_first ps then Some ps else None
 
@@ -76,9 +78,11 @@ abbrev pub counted : List ℕ → Option (List ℕ × List ℕ) → Option (ℕ 
 counted text None = Some (1, text)
 counted text (Some p) = option_map (λ n. (n, p.1)) (positive p.0)
 
+-- the count that a text begins with
 abbrev pub count : List ℕ → Option (ℕ × List ℕ)
 count text = counted text (cut 42 text)
 
+-- the same chain, so many times
 abbrev pub times : ℕ → List Piece → Run
 times n ps = record { count = n; chain = ps }
 
@@ -90,6 +94,7 @@ run text = option_and_then (λ p. option_map (times p.0) (chain p.1)) (count tex
 abbrev pub is_within : ℕ → List Piece → Bool
 is_within most ps = nat_le (length ps) 16 && (nat_le (length ps) most && nat_le (total ps) 0xffff_ffff)
 
+-- the run, where its chain is within the bounds
 abbrev pub if_within : ℕ → Run → Option Run
 if_within most r = if is_within most r.chain then Some r else None
 
