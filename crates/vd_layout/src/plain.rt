@@ -1,5 +1,6 @@
 //! Operations made to their end over plain words, with the other end as it is.
 ghost use Rattle.std.specs.Prelude.{◌≡◌, ℕ, List};
+ghost use Rattle.vd_ring.specs.declared.frame.Frame.{Frame};
 ghost use Rattle.vd_layout.specs.Begun.{DriverOp, DeviceOp};
 ghost use Rattle.vd_layout.specs.DriverFinish.{IsDriverWork};
 ghost use Rattle.vd_layout.specs.DeviceFinish.{IsDeviceWork};
@@ -19,8 +20,8 @@ pub fn finish_driver_beside<L: Layout, P: Port>(
     port: &mut P,
 ) -> DriverAct
     requires begun { IsDriverWork (L.Driver.driver.begun driver.old) }
-    requires on { (ws : List ℕ) × P.port.plain port.old ws × AreOn L.Driver.driver L.Device.device L.layout driver.old device.now ws }
-    ensures on { Finished P.port L.Driver.driver L.Device.device L.layout port.old port.new driver.new device.now }
+    requires on { (f : Frame) × (ws : List ℕ) × P.port.plain port.old ws × AreOn L.Driver.driver L.Device.device L.layout f driver.old device.now ws }
+    ensures on { (f : Frame) (ws : List ℕ) → P.port.plain port.old ws → AreOn L.Driver.driver L.Device.device L.layout f driver.old device.now ws → Finished P.port L.Driver.driver L.Device.device L.layout f port.old port.new driver.new device.now }
     ensures idle { L.Driver.driver.begun driver.new ≡ DriverOp.idle }
 {
     let _ = device;
@@ -35,8 +36,8 @@ pub fn finish_device_beside<L: Layout, P: Port>(
     port: &mut P,
 ) -> DeviceAct
     requires begun { IsDeviceWork (L.Device.device.begun device.old) }
-    requires on { (ws : List ℕ) × P.port.plain port.old ws × AreOn L.Driver.driver L.Device.device L.layout driver.now device.old ws }
-    ensures on { Finished P.port L.Driver.driver L.Device.device L.layout port.old port.new driver.now device.new }
+    requires on { (f : Frame) × (ws : List ℕ) × P.port.plain port.old ws × AreOn L.Driver.driver L.Device.device L.layout f driver.now device.old ws }
+    ensures on { (f : Frame) (ws : List ℕ) → P.port.plain port.old ws → AreOn L.Driver.driver L.Device.device L.layout f driver.now device.old ws → Finished P.port L.Driver.driver L.Device.device L.layout f port.old port.new driver.now device.new }
     ensures idle { L.Device.device.begun device.new ≡ DeviceOp.idle }
     ensures rests { L.Device.device.resting device.new ≡ is_rested result }
 {
