@@ -8,3 +8,4 @@ pub mod Run
 pub mod DriverFinish
 pub mod DeviceFinish
 pub mod Whole
+pub mod Both

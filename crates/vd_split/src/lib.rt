@@ -9,3 +9,6 @@ mod layout;
 pub use device::SplitDevice;
 pub use driver::SplitDriver;
 pub use layout::Split;
+
+#[cfg(test)]
+mod tests;
