@@ -70,7 +70,6 @@ may_offer port d e l lawful p x y f n c q can =
           let fits : needs q.driver.frame.features c ≤ q.driver.frame.size = subst (λ (g : Frame). needs g.features c ≤ g.size) (sym q.framed) can.fits.size in
           omega (arith, size, fits));
       limited = subst (λ (g : Frame). length (offers q.driver.done) < limit g) (sym q.framed) (subst (λ m. m < limit f) (sym q.offered) can.limited);
-      unarmed = lawful.driver_end.unarmed x q.driver q.drives;
       control = λ on. absurd (cc (on, q.framed, can.plain));
     }
 

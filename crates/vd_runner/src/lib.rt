@@ -3,8 +3,10 @@
 
 mod bench;
 mod command;
+mod floor;
 mod lane;
 mod line;
+mod play;
 mod serve;
 mod writing;
 
