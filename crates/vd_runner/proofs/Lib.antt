@@ -6,3 +6,4 @@ pub mod Served
 pub mod Events
 pub mod Lines
 pub mod Midway
+pub mod Laid

@@ -30,7 +30,8 @@ fn play_on<P: Port>(
     requires few { length (chains runs.now) ≤ 200000 }
     requires empty { IsEmpty bench.old }
     requires room { HasRoom bench.old (length (chains runs.now)) }
-    ensures { HasPlayed (chains runs.now) bench.new }
+    ensures played { HasPlayed (chains runs.now) bench.new }
+    ensures same { P.port.same port.old port.new }
 {
     bench.events.push_reserved(FirstEvent::Attach {
         at: 0,

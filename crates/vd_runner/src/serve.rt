@@ -24,7 +24,7 @@ fn serve_chain<L: Layout, P: Port>(
     requires quiet { (size : ℕ) × (f : Features) × (n : ℕ) × IsQuiet P.port L.Driver.driver L.Device.device L.layout port.old driver.old device.old (frame_of L.layout size f) n × IsSent size f chain.now × (n < 4000000000) }
     requires room { HasRoomFor bench.old 1 }
     ensures { (size : ℕ) (f : Features) (n : ℕ) → IsQuiet P.port L.Driver.driver L.Device.device L.layout port.old driver.old device.old (frame_of L.layout size f) n → IsSent size f chain.now → n < 4000000000
-        → IsQuiet P.port L.Driver.driver L.Device.device L.layout port.new driver.new device.new (frame_of L.layout size f) (n + 1) × HasServed bench.old bench.new n (chain.now ∷ []) }
+        → IsQuiet P.port L.Driver.driver L.Device.device L.layout port.new driver.new device.new (frame_of L.layout size f) (n + 1) × HasServed bench.old bench.new n (chain.now ∷ []) × P.port.same port.old port.new }
 {
     let _pieces = chain.pieces();
     let (taken, number, len) = carry::<L, P>(driver, device, port, chain);
@@ -51,7 +51,7 @@ fn serve_run<L: Layout, P: Port>(
     requires quiet { (size : ℕ) × (f : Features) × (n : ℕ) × IsQuiet P.port L.Driver.driver L.Device.device L.layout port.old driver.old device.old (frame_of L.layout size f) n × IsSent size f run.now.chain × (n + run.now.count ≤ 4000000000) }
     requires room { HasRoomFor bench.old run.now.count }
     ensures { (size : ℕ) (f : Features) (n : ℕ) → IsQuiet P.port L.Driver.driver L.Device.device L.layout port.old driver.old device.old (frame_of L.layout size f) n → IsSent size f run.now.chain → n + run.now.count ≤ 4000000000
-        → IsQuiet P.port L.Driver.driver L.Device.device L.layout port.new driver.new device.new (frame_of L.layout size f) (n + run.now.count) × HasServed bench.old bench.new n (replicate run.now.count run.now.chain) }
+        → IsQuiet P.port L.Driver.driver L.Device.device L.layout port.new driver.new device.new (frame_of L.layout size f) (n + run.now.count) × HasServed bench.old bench.new n (replicate run.now.count run.now.chain) × P.port.same port.old port.new }
 {
     for _ in 0..run.count {
         serve_chain::<L, P>(driver, device, port, &run.chain, bench);
@@ -70,7 +70,7 @@ pub fn serve<L: Layout, P: Port>(
     requires few { length (chains runs.now) ≤ 200000 }
     requires room { HasRoomFor bench.old (length (chains runs.now)) }
     ensures { (size : ℕ) (f : Features) → IsQuiet P.port L.Driver.driver L.Device.device L.layout port.old driver.old device.old (frame_of L.layout size f) 0 → AreSent size f runs.now
-        → IsQuiet P.port L.Driver.driver L.Device.device L.layout port.new driver.new device.new (frame_of L.layout size f) (length (chains runs.now)) × HasServed bench.old bench.new 0 (chains runs.now) }
+        → IsQuiet P.port L.Driver.driver L.Device.device L.layout port.new driver.new device.new (frame_of L.layout size f) (length (chains runs.now)) × HasServed bench.old bench.new 0 (chains runs.now) × P.port.same port.old port.new }
 {
     for run in runs {
         serve_run::<L, P>(driver, device, port, run, bench);

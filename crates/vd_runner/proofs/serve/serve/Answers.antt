@@ -10,7 +10,7 @@ use Rattle.vd_runner.proofs.Served.{served_none, served_more, chains_more, chain
 use Rattle.vd_runner.proofs.serve.serve.Goals as goal
 
 pub loop-run-init : goal.loop-run-init
-loop-run-init g c = λ size f q sent. (q, served_none c.args.bench.now 0)
+loop-run-init g c = λ size f q sent. (q, served_none c.args.bench.now 0, g.met.P.Port.lawful.same_refl c.args.port.now)
 
 pub serve_run-requires-clause-quiet : goal.serve_run-requires-clause-quiet
 serve_run-requires-clause-quiet g c κs within =
@@ -43,6 +43,7 @@ loop-run-preserved g c = λ size f q sent.
       subst (λ m. IsQuiet g.P.Port.port g.L.Driver.DriverEnd.driver g.L.Device.DeviceEnd.device g.L.Layout.layout c.serve_run.new.port c.serve_run.new.driver c.serve_run.new.device (frame_of g.L.Layout.layout size f) m) count next.0,
       subst (λ (cs : List (List Piece)). HasServed c.args.bench.now c.serve_run.new.bench 0 cs) (sym more)
           (served_more c.args.bench.now c.loop-run.bench c.serve_run.new.bench 0 (length (chains (take i runs))) (chains (take i runs)) (replicate r.count r.chain) (let e : length (chains (take i runs)) ≡ 0 + length (chains (take i runs)) = omega arith in e) at.1 next.1),
+      g.met.P.Port.lawful.same_trans c.args.port.now c.loop-run.port c.serve_run.new.port at.2 next.2,
     )
 
 pub returns : goal.returns
@@ -50,4 +51,4 @@ returns g c = λ size f q sent.
     let at = c.loop-run.invariant size f q sent in
     let end : c.loop-run.run-index ≡ length c.args.runs.now = omega arith in
     let all : take c.loop-run.run-index c.args.runs.now ≡ c.args.runs.now = ap (λ m. take m c.args.runs.now) end ∙ take-length c.args.runs.now in
-    subst (λ (rs : List Run). IsQuiet g.P.Port.port g.L.Driver.DriverEnd.driver g.L.Device.DeviceEnd.device g.L.Layout.layout c.loop-run.port c.loop-run.driver c.loop-run.device (frame_of g.L.Layout.layout size f) (length (chains rs)) × HasServed c.args.bench.now c.loop-run.bench 0 (chains rs)) all at
+    subst (λ (rs : List Run). IsQuiet g.P.Port.port g.L.Driver.DriverEnd.driver g.L.Device.DeviceEnd.device g.L.Layout.layout c.loop-run.port c.loop-run.driver c.loop-run.device (frame_of g.L.Layout.layout size f) (length (chains rs)) × HasServed c.args.bench.now c.loop-run.bench 0 (chains rs) × g.P.Port.port.same c.args.port.now c.loop-run.port) all at

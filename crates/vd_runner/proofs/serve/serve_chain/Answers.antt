@@ -13,4 +13,4 @@ pub returns : goal.returns
 returns g c = λ size f n q sent few.
     let can = can_carry g.L.Layout.layout size n f c.args.chain.now c.pieces-pieces.ensures.lawful sent few in
     let h = c.carry-taken.ensures.quiet (frame_of g.L.Layout.layout size f) n q can in
-    (h.quiet, served_one _ _ n _ _ c.args.chain.now _ c.carry-taken.ensures.taken h.number c.carry-taken.ensures.len (search rules) (search rules) (search rules) c.push_reserved.ensures.len c.push_reserved-2.ensures.len c.push_reserved.ensures.capacity c.push_reserved-2.ensures.capacity)
+    (h.quiet, served_one _ _ n _ _ c.args.chain.now _ c.carry-taken.ensures.taken h.number c.carry-taken.ensures.len (search rules) (search rules) (search rules) c.push_reserved.ensures.len c.push_reserved-2.ensures.len c.push_reserved.ensures.capacity c.push_reserved-2.ensures.capacity, h.same)

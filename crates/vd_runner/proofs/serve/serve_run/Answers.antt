@@ -6,7 +6,7 @@ use Rattle.vd_runner.proofs.Served.{served_none, served_more, one_chain_more}
 use Rattle.vd_runner.proofs.serve.serve_run.Goals as goal
 
 pub loop-init : goal.loop-init
-loop-init g c = λ size f n q sent few. (subst (λ m. IsQuiet g.P.Port.port g.L.Driver.DriverEnd.driver g.L.Device.DeviceEnd.device g.L.Layout.layout c.args.port.now c.args.driver.now c.args.device.now (frame_of g.L.Layout.layout size f) m) (let e : n ≡ n + 0 = omega arith in e) q, served_none c.args.bench.now n)
+loop-init g c = λ size f n q sent few. (subst (λ m. IsQuiet g.P.Port.port g.L.Driver.DriverEnd.driver g.L.Device.DeviceEnd.device g.L.Layout.layout c.args.port.now c.args.driver.now c.args.device.now (frame_of g.L.Layout.layout size f) m) (let e : n ≡ n + 0 = omega arith in e) q, served_none c.args.bench.now n, g.met.P.Port.lawful.same_refl c.args.port.now)
 
 pub serve_chain-requires-clause-quiet : goal.serve_chain-requires-clause-quiet
 serve_chain-requires-clause-quiet g c κs within =
@@ -33,10 +33,11 @@ loop-preserved g c = λ size f n q sent few.
       subst (λ m. IsQuiet g.P.Port.port g.L.Driver.DriverEnd.driver g.L.Device.DeviceEnd.device g.L.Layout.layout c.serve_chain.new.port c.serve_chain.new.driver c.serve_chain.new.device (frame_of g.L.Layout.layout size f) m) (let e : n + c.loop.counter + 1 ≡ n + (c.loop.counter + 1) = omega arith in e) next.0,
       subst (λ cs. HasServed c.args.bench.now c.serve_chain.new.bench n cs) (sym (one_chain_more c.loop.counter chain))
           (served_more c.args.bench.now c.loop.bench c.serve_chain.new.bench n (n + c.loop.counter) (replicate c.loop.counter chain) (chain ∷ []) (ap (λ m. n + m) (sym (length-replicate c.loop.counter chain))) at.1 next.1),
+      g.met.P.Port.lawful.same_trans c.args.port.now c.loop.port c.serve_chain.new.port at.2 next.2,
     )
 
 pub returns : goal.returns
 returns g c = λ size f n q sent few.
     let at = c.loop.invariant size f n q sent few in
     let end : c.loop.counter ≡ c.args.run.now.count = omega arith in
-    subst (λ m. IsQuiet g.P.Port.port g.L.Driver.DriverEnd.driver g.L.Device.DeviceEnd.device g.L.Layout.layout c.loop.port c.loop.driver c.loop.device (frame_of g.L.Layout.layout size f) (n + m) × HasServed c.args.bench.now c.loop.bench n (replicate m c.args.run.now.chain)) end at
+    subst (λ m. IsQuiet g.P.Port.port g.L.Driver.DriverEnd.driver g.L.Device.DeviceEnd.device g.L.Layout.layout c.loop.port c.loop.driver c.loop.device (frame_of g.L.Layout.layout size f) (n + m) × HasServed c.args.bench.now c.loop.bench n (replicate m c.args.run.now.chain) × g.P.Port.port.same c.args.port.now c.loop.port) end at
