@@ -7,3 +7,5 @@ pub mod Events
 pub mod Lines
 pub mod Midway
 pub mod Laid
+pub mod Outcome
+pub mod Queue

@@ -4,3 +4,4 @@ pub mod Bench
 pub mod Floor
 pub mod Report
 pub mod Command
+pub mod Answers

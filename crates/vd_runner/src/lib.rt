@@ -6,8 +6,13 @@ mod command;
 mod floor;
 mod lane;
 mod line;
+mod order;
 mod play;
 mod serve;
+mod status;
+mod top;
 mod writing;
 
 pub use bench::{FirstBench, FirstEvent};
+pub use status::Status;
+pub use top::vdpa;
