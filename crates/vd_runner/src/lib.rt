@@ -10,6 +10,8 @@ mod order;
 mod play;
 mod serve;
 mod status;
+#[cfg(test)]
+mod tests;
 mod top;
 mod writing;
 

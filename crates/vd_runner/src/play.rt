@@ -59,11 +59,5 @@ pub fn play(floor: &mut Floor, runs: &[Run], bench: &mut FirstBench)
     ensures { HasPlayed (chains runs.now) bench.new }
 {
     let mut port = floor.words.port();
-    play_on(
-        &mut floor.driver,
-        &mut floor.device,
-        &mut port,
-        runs,
-        bench,
-    );
+    play_on(&mut floor.driver, &mut floor.device, &mut port, runs, bench);
 }
