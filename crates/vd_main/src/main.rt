@@ -21,12 +21,35 @@ fn number(status: Status) -> u8 {
     }
 }
 
+/// The number of a rule of the machine file.
+fn rule(fault: MachineFault) -> u32 {
+    match fault {
+        MachineFault::M1 => 1,
+        MachineFault::M2 => 2,
+        MachineFault::M3 => 3,
+        MachineFault::M4 => 4,
+        MachineFault::M5 => 5,
+        MachineFault::M6 => 6,
+        MachineFault::M7 => 7,
+        MachineFault::M8 => 8,
+        MachineFault::M9 => 9,
+        MachineFault::M10 => 10,
+        MachineFault::M11 => 11,
+        MachineFault::M12 => 12,
+        MachineFault::M13 => 13,
+        MachineFault::M14 => 14,
+        MachineFault::M15 => 15,
+        MachineFault::M16 => 16,
+        MachineFault::M17 => 17,
+    }
+}
+
 /// Writes the text of a status that isn't Ok to standard error.
 fn explain(rt: &HostRuntime, status: Status) -> io::Result<()> {
     match status {
         Status::Ok => Ok(()),
         Status::Usage => eprintln!(rt; "vdpa: usage: vdpa play"),
-        Status::Machine(MachineFault::M0) => eprintln!(rt; "vdpa: machine file breaks rule M0"),
+        Status::Machine(fault) => eprintln!(rt; "vdpa: machine file breaks rule M{}", rule(fault)),
         Status::ReadFault => eprintln!(rt; "vdpa: read fault"),
         Status::WriteFault => eprintln!(rt; "vdpa: write fault"),
         Status::TooLarge(_) => eprintln!(rt; "vdpa: machine file is larger than 1048576 bytes"),

@@ -1,5 +1,5 @@
 -- One chain alone on a ring: what is taken is what was offered, and what is collected is what was given.
-use Rattle.std.proofs.Common.{◌≡◌, ℕ, ◌+◌, ◌<◌, ◌≤◌, List, [], ◌∷◌, ◌++◌, length, take, get_or, true, false, sym, ap, ◌∙◌, refl, arith, subst, length-append, inl, inr}
+use Rattle.std.proofs.Common.{◌≡◌, ℕ, ◌+◌, ◌<◌, ◌≤◌, List, [], ◌∷◌, ◌++◌, length, take, get_or, true, sym, ap, ◌∙◌, refl, arith, subst, length-append, inl}
 use Rattle.std.specs.List.{Contains, sum_by}
 use Rattle.std.proofs.Math.Seq.{get_or-append_seam, take-length}
 use Rattle.std.proofs.lemmas.List.{length-take-le}
@@ -11,20 +11,16 @@ use Rattle.vd_ring.specs.declared.frame.Frame.{Frame}
 use Rattle.vd_ring.specs.declared.frame.Used.{Used}
 use Rattle.vd_ring.specs.declared.driver.DriverDone.{DriverDone}
 use Rattle.vd_ring.specs.declared.driver.DriverDone.TheVariants.{Offer, Collect}
-use Rattle.vd_ring.specs.declared.driver.DriverView.{DriverView}
 use Rattle.vd_ring.specs.declared.device.DeviceDone.{DeviceDone}
 use Rattle.vd_ring.specs.declared.device.DeviceDone.TheVariants.{Take, Give, Rest}
-use Rattle.vd_ring.specs.declared.device.DeviceView.{DeviceView}
 use Rattle.vd_ring.specs.Frames.{Fits, limit}
-use Rattle.vd_ring.specs.History.{offers, collects, takes, gives, running, open_at, open_size, chain, entry, numbers, occurs, IsWhole}
+use Rattle.vd_ring.specs.History.{offers, collects, takes, gives, running, open_at, open_size, chain, entry, occurs, IsWhole}
 use Rattle.vd_ring.specs.Lists.{Lists}
 use Rattle.vd_ring.specs.Places.{Places}
-use Rattle.vd_ring.proofs.Counts.{Contains_from, occurs_push}
-use Rattle.vd_layout.specs.Begun.{DriverOp, DeviceOp}
+use Rattle.vd_layout.specs.Begun.{DriverOp}
 use Rattle.vd_layout.specs.Device.{DeviceModel, MayGive}
 use Rattle.vd_layout.specs.Driver.{DriverModel, MayOffer}
 use Rattle.vd_layout.specs.Layout.{LayoutModel, IsLawfulLayout}
-use Rattle.vd_layout.specs.Whole.{IsRingAt}
 use Rattle.vd_runner.specs.Lane.{DriverDid, DeviceDid, DeviceTook, IsQuiet, IsFree, CanCarry, IsSuspended}
 
 -- ---- lists

@@ -1,11 +1,10 @@
 -- A ring as it is made is quiet.
-use Rattle.std.proofs.Common.{◌≡◌, ℕ, ◌+◌, ◌%◌, List, length, refl, sym, ap, ◌∙◌, subst, false}
+use Rattle.std.proofs.Common.{◌≡◌, ℕ, ◌%◌, refl, sym, ap, ◌∙◌, subst, false}
 use Rattle.vd_model.specs.declared.features.Features.{Features}
-use Rattle.vd_model.specs.declared.chain.Piece.{Piece}
 use Rattle.vd_words.specs.Model.{PortModel}
 use Rattle.vd_ring.specs.Fresh.{fresh_driver, fresh_device}
 use Rattle.vd_ring.specs.declared.frame.Frame.{Frame}
-use Rattle.vd_layout.specs.Layout.{IsMadeWith, CanMake, IsFresh}
+use Rattle.vd_layout.specs.Layout.{IsMadeWith}
 use Rattle.vd_split.specs.DeviceEnd.{split_device}
 use Rattle.vd_split.specs.DriverEnd.{split_driver}
 use Rattle.vd_split.specs.SplitLayout.{split_layout, split_laws}

@@ -1,8 +1,8 @@
 -- The answer that follows from the bytes of a source, where nothing fails.
-use Rattle.std.proofs.Common.{◌≡◌, ℕ, ◌<◌, ◌≤◌, List, [], ◌++◌, length, Option, Some, None, Bool, true, false, nat_lt, if◌then◌else◌, inl, inr, refl, ap, sym, ◌∙◌, arith, append-nil, length-append}
+use Rattle.std.proofs.Common.{◌≡◌, ℕ, ◌<◌, ◌≤◌, List, ◌++◌, length, Option, Some, None, Bool, if◌then◌else◌, inl, inr, refl, ap, sym, ◌∙◌, arith, append-nil, length-append}
 use Rattle.std.proofs.lemmas.Bool.{lt-ltb, le-ltb}
 use Rattle.std.specs.Io.KnownBytes.{Consumes, IsAtEnd}
-use Rattle.vd_stream.specs.Causes.{ReadsWhole, Rose}
+use Rattle.vd_stream.specs.Causes.{Rose}
 use Rattle.vd_machine.specs.File.{Plan, first}
 use Rattle.vd_machine.specs.declared.machine.MachineFault.{MachineFault}
 use Rattle.vd_runner.specs.declared.status.Status.{Status}

@@ -1,22 +1,21 @@
 -- What a machine of one queue gives the run.
-use Rattle.std.proofs.Common.{◌≡◌, ℕ, ◌+◌, ◌≤◌, ◌<◌, ◌==◌, ◌||◌, Bool, true, false, List, [], ◌∷◌, ◌++◌, refl, length, get_or, map, replicate, sym, ◌∙◌, ap, arith, subst, length-append, inl, inr}
-use Rattle.std.specs.List.{list_all, sum_by}
+use Rattle.std.proofs.Common.{◌≡◌, ℕ, ◌+◌, ◌≤◌, ◌==◌, ◌||◌, Bool, true, false, List, [], ◌∷◌, ◌++◌, refl, length, get_or, map, replicate, ap, arith, subst, length-append, inl, inr}
+use Rattle.std.specs.List.{sum_by}
 use Rattle.std.proofs.lemmas.Bool.{cases_Bool, eqb-true, false≢true}
 use Rattle.std.proofs.lemmas.List.{length-replicate}
 use Rattle.std.proofs.lemmas.List.Sums.{sum_by-cons}
-use Rattle.vd_model.specs.declared.record.Begun.{Begun}
 use Rattle.vd_model.specs.declared.chain.Piece.{Piece}
 use Rattle.vd_model.specs.declared.features.Features.{Features}
 use Rattle.vd_model.specs.declared.record.Run.{Run}
 use Rattle.vd_model.specs.declared.record.Script.{Script}
-use Rattle.vd_machine.specs.Queues.{most_pieces, are_scripts, all_lie, few, chains_of}
+use Rattle.vd_machine.specs.Queues.{most_pieces, are_scripts, all_lie, few}
 use Rattle.vd_machine.specs.Rings.{is_lawful_size}
 use Rattle.vd_machine.specs.declared.regions.Region.{Region}
-use Rattle.vd_machine.proofs.Facts.{one_queue, queue_is_short, run_at, needs_within, IsPower, is_power_of}
+use Rattle.vd_machine.proofs.Facts.{one_queue, queue_is_short, run_at, needs_within}
 use Rattle.vd_layout.specs.Layout.{CanMake}
 use Rattle.vd_split.specs.SplitLayout.{split_layout}
 use Rattle.vd_runner.specs.Journal.{chains, begun_of, given_len}
-use Rattle.vd_runner.specs.Lane.{AreSent, IsSent}
+use Rattle.vd_runner.specs.Lane.{AreSent}
 use Rattle.vd_runner.specs.Report.{len_of}
 
 -- so many chains as the counts say

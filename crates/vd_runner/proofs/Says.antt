@@ -1,5 +1,5 @@
 -- What the answer of a whole operation says of what was done.
-use Rattle.std.proofs.Common.{◌≡◌, ◌≢◌, ℕ, List, [], ◌∷◌, Bool, true, false, refl, ap, sym, ◌∙◌, subst}
+use Rattle.std.proofs.Common.{◌≡◌, ◌≢◌, ℕ, List, [], ◌∷◌, true, false, refl, ap, ◌∙◌}
 use Rattle.vd_model.specs.declared.chain.Piece.{Piece}
 use Rattle.vd_ring.specs.History.{entry}
 use Rattle.vd_ring.specs.declared.act.DriverAct.{DriverAct}

@@ -1,5 +1,5 @@
 -- A chain of a machine may go over the guest's ring.
-use Rattle.std.proofs.Common.{◌≡◌, ℕ, ◌<◌, ◌≤◌, List, ◌∷◌, [], refl}
+use Rattle.std.proofs.Common.{ℕ, ◌<◌, List, refl}
 use Rattle.vd_model.specs.Chains.{IsChain}
 use Rattle.vd_model.specs.declared.chain.Piece.{Piece}
 use Rattle.vd_model.specs.declared.features.Features.{Features}

@@ -1,10 +1,9 @@
 -- Chains served one after the other.
-use Rattle.std.proofs.Common.{◌≡◌, ℕ, ◌+◌, ◌<◌, ◌≤◌, List, [], ◌∷◌, ◌++◌, length, map, take, get_or, replicate, vec_len, vec_capacity, refl, ap, sym, ◌∙◌, arith, append_assoc, append-nil, length-append, suc, zero}
-use Rattle.std.proofs.lemmas.List.{map-append, length-map, take_more, replicate-append-replicate, length-replicate}
+use Rattle.std.proofs.Common.{◌≡◌, ℕ, ◌+◌, ◌<◌, ◌≤◌, List, [], ◌∷◌, ◌++◌, length, map, take, get_or, replicate, vec_len, vec_capacity, refl, ap, sym, ◌∙◌, arith, append_assoc, append-nil, length-append}
+use Rattle.std.proofs.lemmas.List.{map-append, take_more, replicate-append-replicate, length-replicate}
 use Rattle.std.proofs.lemmas.List.Folds.{length-flat_map-take}
 use Rattle.std.proofs.lemmas.Grind.{flat_map-append}
 use Rattle.vd_model.specs.declared.chain.Piece.{Piece}
-use Rattle.vd_model.specs.declared.record.Begun.{Begun}
 use Rattle.vd_model.specs.declared.record.Return.{Return}
 use Rattle.vd_model.specs.declared.record.Run.{Run}
 use Rattle.vd_runner.specs.declared.bench.FirstBench.{FirstBench}

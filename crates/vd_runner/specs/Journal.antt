@@ -1,5 +1,5 @@
 -- What a device's journal and a guest's list hold after a run of one queue in pass mode.
-use Rattle.std.specs.Prelude.{◌≡◌, ℕ, ◌+◌, ◌%◌, min, List, [], ◌∷◌, length, map, replicate, flat_map}
+use Rattle.std.specs.Prelude.{ℕ, ◌+◌, ◌%◌, min, List, [], ◌∷◌, replicate, flat_map}
 use Rattle.arrayvec.specs.ArrayVec.{ArrayVec}
 use Rattle.vd_model.specs.Chains.{readable, writable}
 use Rattle.vd_model.specs.declared.base.Base.{Base}
@@ -7,7 +7,6 @@ use Rattle.vd_model.specs.declared.chain.Piece.{Piece}
 use Rattle.vd_model.specs.declared.record.Begun.{Begun}
 use Rattle.vd_model.specs.declared.record.Return.{Return}
 use Rattle.vd_model.specs.declared.record.Run.{Run}
-use Rattle.vd_model.specs.declared.record.Script.{Script}
 use Rattle.vd_runner.specs.declared.bench.FirstEvent.{FirstEvent}
 use Rattle.vd_runner.specs.declared.bench.FirstEvent.TheVariants.{Attach, Suspend}
 

@@ -1,4 +1,4 @@
-use Rattle.std.proofs.Common.{rules, ◌≡◌, ℕ, length, replicate, arith, ap, sym, ◌∙◌, refl}
+use Rattle.std.proofs.Common.{replicate, ap, ◌∙◌}
 use Rattle.vd_split.specs.SplitLayout.{split_layout}
 use Rattle.vd_runner.specs.Lane.{frame_of}
 use Rattle.vd_runner.proofs.Laid.{made_with}

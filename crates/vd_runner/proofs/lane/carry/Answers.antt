@@ -1,4 +1,4 @@
-use Rattle.std.proofs.Common.{rules, ◌≡◌, ◌≤◌, ◌∙◌, ap, sym, arith, subst}
+use Rattle.std.proofs.Common.{◌≤◌, ◌∙◌, ap, sym, subst}
 use Rattle.vd_model.specs.Chains.{total}
 use Rattle.vd_ring.specs.declared.frame.Used.{Used}
 use Rattle.vd_runner.specs.Journal.{given_len}

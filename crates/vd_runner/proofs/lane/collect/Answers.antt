@@ -1,5 +1,4 @@
-use Rattle.std.proofs.Common.{rules, ◌≡◌, ◌∙◌, ap, length, arith, subst}
-use Rattle.vd_ring.specs.History.{collects, gives}
+use Rattle.std.proofs.Common.{ap, length, arith, subst}
 use Rattle.vd_ring.specs.declared.act.DriverAct.{DriverAct}
 use Rattle.vd_layout.specs.DriverFinish.{IsDriverFinish}
 use Rattle.vd_layout.specs.Plain.{own_plain_driver}

@@ -1,6 +1,4 @@
-use Rattle.std.proofs.Common.{rules, ◌≡◌, ◌∙◌}
-use Rattle.vd_ring.specs.declared.driver.DriverView.{DriverView}
-use Rattle.vd_ring.specs.declared.device.DeviceView.{DeviceView}
+use Rattle.std.proofs.Common.{◌∙◌}
 use Rattle.vd_layout.specs.Plain.{own_plain_device}
 use Rattle.vd_layout.specs.Whole.{device_whole}
 use Rattle.vd_runner.proofs.Says.{give_says}

@@ -1,6 +1,3 @@
-use Rattle.std.proofs.Common.{rules, ◌≡◌}
-use Rattle.vd_ring.specs.declared.driver.DriverView.{DriverView}
-use Rattle.vd_ring.specs.declared.device.DeviceView.{DeviceView}
 use Rattle.vd_layout.specs.Plain.{own_plain_driver}
 use Rattle.vd_layout.specs.Whole.{driver_whole}
 use Rattle.vd_runner.proofs.Says.{offer_says}

@@ -1,4 +1,4 @@
-use Rattle.std.proofs.Common.{rules, ◌≡◌, ◌∙◌, inl, sym}
+use Rattle.std.proofs.Common.{◌∙◌, inl}
 use Rattle.vd_layout.specs.Plain.{own_plain_device}
 use Rattle.vd_layout.specs.Whole.{device_whole}
 use Rattle.vd_runner.proofs.Says.{rest_says}

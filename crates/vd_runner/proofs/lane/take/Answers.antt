@@ -1,7 +1,5 @@
-use Rattle.std.proofs.Common.{rules, ◌≡◌, ◌∙◌, ap, length, arith, subst}
-use Rattle.vd_ring.specs.History.{takes, offers}
+use Rattle.std.proofs.Common.{◌∙◌, ap, length, arith, subst}
 use Rattle.vd_ring.specs.declared.act.DeviceAct.{DeviceAct}
-use Rattle.vd_ring.specs.declared.act.DeviceAct.TheVariants as act
 use Rattle.vd_layout.specs.DeviceFinish.{IsDeviceFinish}
 use Rattle.vd_layout.specs.Plain.{own_plain_device}
 use Rattle.vd_layout.specs.Whole.{device_whole, device_found_none}

@@ -1,4 +1,4 @@
-use Rattle.std.proofs.Common.{rules, ◌≡◌, ◌≤◌, ◌∙◌, List, length, get_or, sym, subst, ap}
+use Rattle.std.proofs.Common.{◌≡◌, ◌≤◌, ◌∙◌, List, length, get_or, sym, subst, ap}
 use Rattle.vd_model.specs.declared.record.Run.{Run}
 use Rattle.vd_model.specs.declared.record.Script.{Script}
 use Rattle.vd_runner.specs.Journal.{chains}

@@ -1,5 +1,4 @@
-use Rattle.std.proofs.Common.{rules, ◌≡◌, ℕ, length, arith, ap, sym, ◌∙◌, refl, subst}
-use Rattle.vd_words.specs.declared.plain.PlainPort.{PlainPort}
+use Rattle.std.proofs.Common.{ap}
 use Rattle.vd_runner.proofs.Laid.{laid_quiet}
 use Rattle.vd_runner.proofs.play.play.Goals as goal
 

@@ -1,4 +1,4 @@
-use Rattle.std.proofs.Common.{rules, ◌≡◌, ℕ, ◌+◌, ◌<◌, ◌≤◌, ◌%◌, ◌++◌, map, length, arith, ap, sym, ◌∙◌, vec_len, vec_capacity}
+use Rattle.std.proofs.Common.{◌≡◌, ◌%◌, ◌++◌, map, length, arith, ap, ◌∙◌, vec_len, vec_capacity}
 use Rattle.vd_split.specs.SplitLayout.{split_layout}
 use Rattle.vd_runner.specs.Journal.{chains, base_of, begun_of, returns_of}
 use Rattle.vd_runner.specs.Lane.{frame_of}

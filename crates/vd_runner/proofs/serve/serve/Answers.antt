@@ -1,9 +1,9 @@
-use Rattle.std.proofs.Common.{rules, ◌≡◌, ◌+◌, ◌<◌, ◌≤◌, ℕ, [], ◌∷◌, ◌++◌, List, length, take, replicate, arith, ap, sym, ◌∙◌, subst, refl, length-append}
+use Rattle.std.proofs.Common.{◌≡◌, ◌+◌, ◌≤◌, List, length, take, replicate, arith, ap, sym, ◌∙◌, subst, length-append}
 use Rattle.std.proofs.Math.Seq.{take-length}
 use Rattle.std.proofs.lemmas.List.{length-replicate}
 use Rattle.vd_model.specs.declared.chain.Piece.{Piece}
 use Rattle.vd_model.specs.declared.record.Run.{Run}
-use Rattle.vd_runner.specs.Bench.{HasServed, HasRoomFor}
+use Rattle.vd_runner.specs.Bench.{HasServed}
 use Rattle.vd_runner.specs.Journal.{chains}
 use Rattle.vd_runner.specs.Lane.{IsQuiet, IsSent, frame_of}
 use Rattle.vd_runner.proofs.Served.{served_none, served_more, chains_more, chains_within}

@@ -1,4 +1,4 @@
-use Rattle.std.proofs.Common.{rules, ◌≡◌, ◌∙◌, ap, arith}
+use Rattle.std.proofs.Common.{rules}
 use Rattle.vd_runner.proofs.Sent.{can_carry}
 use Rattle.vd_runner.proofs.Served.{served_one}
 use Rattle.vd_runner.specs.Lane.{frame_of}

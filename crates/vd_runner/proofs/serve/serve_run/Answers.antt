@@ -1,6 +1,6 @@
-use Rattle.std.proofs.Common.{rules, ◌≡◌, ◌+◌, ◌<◌, ℕ, [], ◌∷◌, length, replicate, arith, ap, sym, ◌∙◌, subst, refl}
+use Rattle.std.proofs.Common.{◌≡◌, ◌+◌, ◌<◌, [], ◌∷◌, replicate, arith, ap, sym, subst}
 use Rattle.std.proofs.lemmas.List.{length-replicate}
-use Rattle.vd_runner.specs.Bench.{HasServed, HasRoomFor}
+use Rattle.vd_runner.specs.Bench.{HasServed}
 use Rattle.vd_runner.specs.Lane.{IsQuiet, frame_of}
 use Rattle.vd_runner.proofs.Served.{served_none, served_more, one_chain_more}
 use Rattle.vd_runner.proofs.serve.serve_run.Goals as goal

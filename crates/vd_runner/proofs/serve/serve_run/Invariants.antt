@@ -1,4 +1,4 @@
-use Rattle.std.proofs.Common.{◌≡◌, ◌+◌, ◌≤◌, ℕ, replicate}
+use Rattle.std.proofs.Common.{◌+◌, ◌≤◌, ℕ, replicate}
 use Rattle.vd_model.specs.declared.features.Features.{Features}
 use Rattle.vd_runner.specs.Bench.{HasServed}
 use Rattle.vd_runner.specs.Lane.{IsQuiet, IsSent, frame_of}

@@ -1,9 +1,8 @@
-use Rattle.std.proofs.Common.{rules, ◌≡◌, ◌≤◌, length, map, arith, ◌∙◌, ap, sym}
+use Rattle.std.proofs.Common.{length, arith, ◌∙◌, ap}
 use Rattle.std.proofs.lemmas.List.{length-map}
 use Rattle.vd_machine.specs.File.{view}
 use Rattle.vd_runner.specs.Journal.{chains, begun_of}
-use Rattle.vd_runner.specs.Report.{len_of}
-use Rattle.vd_runner.proofs.Queue.{journal_lens, can_make}
+use Rattle.vd_runner.proofs.Queue.{journal_lens}
 use Rattle.vd_runner.proofs.top.vdpa.Goals as goal
 
 pub report-requires : goal.report-requires

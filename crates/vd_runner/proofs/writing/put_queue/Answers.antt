@@ -1,4 +1,4 @@
-use Rattle.std.proofs.Common.{◌≡◌, List, ℕ, length, sum, map, sym}
+use Rattle.std.proofs.Common.{◌≡◌, List, length, sum, map, sym}
 use Rattle.std.proofs.lemmas.List.{length-map}
 use Rattle.vd_model.specs.declared.record.Begun.{Begun}
 use Rattle.vd_runner.specs.Report.{len_of, queue_line, queue_lines, chain_lines, epoch_line}
