@@ -10,3 +10,4 @@ pub mod DeviceGiving
 pub mod DeviceTaking
 pub mod DeviceLaws
 pub mod SplitLayout
+pub mod Rig

@@ -1,3 +1,3 @@
 //! Both ends over plain words, against worked rows and an independent model of the format.
-mod floor;
+mod rig;
 mod rows;
