@@ -73,11 +73,7 @@ impl<L: Layout> Rig<L> {
             return None;
         }
         self.driver.begin_offer(c);
-        Some(finish_driver_beside::<L, _>(
-            &mut self.driver,
-            &self.device,
-            &mut self.words.port(),
-        ))
+        Some(finish_driver_beside::<L, _>(&mut self.driver, &self.device, &mut self.words.port()))
     }
 
     pub fn collect(&mut self) -> DriverAct {
@@ -91,11 +87,7 @@ impl<L: Layout> Rig<L> {
             return None;
         }
         self.device.begin_take();
-        Some(finish_device_beside::<L, _>(
-            &self.driver,
-            &mut self.device,
-            &mut self.words.port(),
-        ))
+        Some(finish_device_beside::<L, _>(&self.driver, &mut self.device, &mut self.words.port()))
     }
 
     /// Gives chain number `k` where the device may.
@@ -112,11 +104,7 @@ impl<L: Layout> Rig<L> {
             }
         }
         self.device.begin_give(k, len);
-        Some(finish_device_beside::<L, _>(
-            &self.driver,
-            &mut self.device,
-            &mut self.words.port(),
-        ))
+        Some(finish_device_beside::<L, _>(&self.driver, &mut self.device, &mut self.words.port()))
     }
 
     /// Rests where the chains given are all those below their count.

