@@ -11,3 +11,4 @@ pub mod DeviceTaking
 pub mod DeviceLaws
 pub mod SplitLayout
 pub mod Rig
+pub mod Tracked

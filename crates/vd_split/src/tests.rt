@@ -3,3 +3,4 @@ mod format;
 mod rig;
 mod rows;
 mod table;
+mod tracked;

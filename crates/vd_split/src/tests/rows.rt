@@ -184,6 +184,11 @@ fn a_rest_takes_chains_back(rt: HostRuntime) -> Result<(), Fail> {
 #[test]
 fn the_layout_answers(rt: HostRuntime) -> Result<(), Fail> {
     assert_eq!(rt; Split::words(4, PLAIN, false), 17);
+    assert_eq!(rt; Split::words(4, PLAIN, true), 29);
+    for head in 0..4u32 {
+        assert_eq!(rt; Split::command_word(4, PLAIN, head), 15 + 2 * head);
+        assert_eq!(rt; Split::ack_word(4, PLAIN, head), 23 + head);
+    }
     for (size, lawful) in [
         (0, false),
         (1, false),
