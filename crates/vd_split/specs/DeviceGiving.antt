@@ -145,11 +145,13 @@ holds_fewer table guesses head number len f s h runs is inside = record {
   named = λ i k there. elim (cases_eq i head) [
     | inl e ↦ absurd (no k (sym (get_or-set_same table head None None (omega (arith, h.places))) ∙ ap (number_at (slice_set table head None)) (sym e) ∙ there))
     | inr ne ↦ (
-        let was = h.named i k (sym (get_or-set_other table head i None None ne) ∙ there) in
-        (elim (cases_eq number k) [
-          | inl e ↦ absurd (ne (sym was.1 ∙ ap (taken_head s) (sym e) ∙ is))
-          | inr nk ↦ omega (arith, was.0, occurs_without k number (running s) runs, one_other number k nk)
-        ], was.1)
+        let was = h.named i k (sym (get_or-set_other table head i None None ne) ∙ there) in (
+          elim (cases_eq number k) [
+            | inl e ↦ absurd (ne (sym was.1 ∙ ap (taken_head s) (sym e) ∙ is))
+            | inr nk ↦ omega (arith, was.0, occurs_without k number (running s) runs, one_other number k nk)
+          ],
+          was.1,
+        )
         )
   ];
 }

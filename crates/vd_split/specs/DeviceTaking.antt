@@ -312,15 +312,21 @@ second_last e e2 v r h p x cs l st next off is spelled guesses =
       };
       is = ap (λ k. act.Taken k cs) st.counts.takes ∙ ap (act.Taken t) (sym is_chain) ∙ sym (ap (λ u. device_act_at u v op.Take (Load (2 * p + 1)) x) l.was ∙ ap (λ b. if b then act.Taken t (chain_of f ws) else act.Moved) end);
       left = subst (λ u. 0 < device_left u (length e.pieces.items)) (sym is) (omega arith);
-      says = subst (λ u. DeviceSays split_words (act.Taken e.taken cs) (device_begun u) DeviceOp.idle f s (device_after v op.Take (Load (2 * p + 1)) x).done) (sym is)
-          (h, refl, refl, st.counts.takes, ap (λ (y : DeviceView). y.done) is_after, subst (λ (c : List Piece). IsTaken split_words f s c h) (sym is_told) record {
-            fits = l.told.fits;
-            limited = l.had.limited;
-            room = l.told.room;
-            inside = l.had.new.inside;
-            apart = l.had.new.apart;
-            control = l.told.control;
-          });
+      says = subst (λ u. DeviceSays split_words (act.Taken e.taken cs) (device_begun u) DeviceOp.idle f s (device_after v op.Take (Load (2 * p + 1)) x).done) (sym is) (
+        h,
+        refl,
+        refl,
+        st.counts.takes,
+        ap (λ (y : DeviceView). y.done) is_after,
+        subst (λ (c : List Piece). IsTaken split_words f s c h) (sym is_told) record {
+          fits = l.told.fits;
+          limited = l.had.limited;
+          room = l.told.room;
+          inside = l.had.new.inside;
+          apart = l.had.new.apart;
+          control = l.told.control;
+        },
+      );
       rests = refl;
     }
 

@@ -10,3 +10,5 @@ pub mod DeviceGiving
 pub mod DeviceTaking
 pub mod DeviceLaws
 pub mod SplitLayout
+pub mod Rig
+pub mod Tracked

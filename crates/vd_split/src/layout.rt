@@ -27,7 +27,12 @@ impl Layout for Split {
         all_words(size, f.indirect, control)
     }
 
-    fn make(alloc: Global, size: u32, f: Features, control: bool) -> Result<(SplitDriver, SplitDevice), AllocError> {
+    fn make(
+        alloc: Global,
+        size: u32,
+        f: Features,
+        control: bool,
+    ) -> Result<(SplitDriver, SplitDevice), AllocError> {
         let _ = control;
         let driver = SplitDriver::make(alloc, size, f)?;
         let device = SplitDevice::make(alloc, size, f)?;

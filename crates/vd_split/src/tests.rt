@@ -1,3 +1,6 @@
 //! Both ends over plain words, against worked rows and an independent model of the format.
-mod floor;
+mod format;
+mod rig;
 mod rows;
+mod table;
+mod tracked;

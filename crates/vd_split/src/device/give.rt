@@ -56,7 +56,13 @@ impl SplitDevice {
 
     /// The store of the index, after the whole entry: by it the chain is given. The driver's look at it is the first
     /// access of its collect.
-    pub(super) fn publish<P: Port>(&mut self, port: &mut P, number: u32, head: u32, len: u32) -> DeviceAct
+    pub(super) fn publish<P: Port>(
+        &mut self,
+        port: &mut P,
+        number: u32,
+        head: u32,
+        len: u32,
+    ) -> DeviceAct
         requires now { self.old.doing ≡ DeviceStep.Publish number head len }
         requires own { (v : DeviceView) × DeviceStands self.old v × IsOwn P.port device_side port.old v }
         ensures { (v : DeviceView) → DeviceStands self.old v → IsOwn P.port device_side port.old v → IsDeviceStep P.port split_device port.old port.new v self.old self.new result }

@@ -28,7 +28,11 @@ fn no_guesses(alloc: Global, size: u32) -> Result<Vec<u32>, AllocError>
 
 impl SplitDevice {
     /// The device's end of a fresh ring.
-    pub(crate) fn make(alloc: Global, size: u32, features: Features) -> Result<SplitDevice, AllocError>
+    pub(crate) fn make(
+        alloc: Global,
+        size: u32,
+        features: Features,
+    ) -> Result<SplitDevice, AllocError>
         requires { (0 < size) × (size ≤ 32768) }
         ensures stands { IfOk result (λ e. (f : Frame) → IsMadeFor size features f → DeviceStands e (fresh_device f (width f))) }
         ensures idle { IfOk result (λ e. (e.doing ≡ DeviceStep.Idle) × (e.size ≡ size) × (e.features ≡ features) × (e.taken ≡ 0) × (e.given ≡ 0)) }

@@ -16,4 +16,5 @@ returns g c =
           device_finished g.P.Port.port g.met.P.Port.lawful g.L.Driver.DriverEnd.driver g.L.Device.DeviceEnd.device g.L.Layout.layout g.met.L.Layout.lawful f c.args.port.now c.finish_device.new.port ws c.args.driver.now c.args.device.now c.finish_device.new.end c.finish_device.result plain on (c.finish_device.ensures on.device_view on.serves own);
       idle = f.idle;
       rests = f.rests;
+      says = (h.3.device_view.frame, h.3.device_view.done, f.view.done, f.says);
     }

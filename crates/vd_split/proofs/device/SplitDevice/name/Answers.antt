@@ -21,7 +21,6 @@ goes e v r number head len x old area is small st word read place =
     (let below = used_below e v st in name_goes e v r number head len x is small st (word ∙ ap (λ w. set_lane32 w 1 head) (get_or_read e.area.items e.used old (omega arith) read 0)))
 
 pub access-requires : goal.access-requires
-
 access-requires g c =
     let e : SplitDevice = c.args.self.now in let x : ℕ = c.set_lane32-word.result in
     c.requires.own.2.may op.Give (Store (c.used_area.result + e.used) x)

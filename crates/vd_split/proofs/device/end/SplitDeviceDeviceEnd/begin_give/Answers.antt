@@ -12,4 +12,4 @@ pub unreachable-requires : goal.unreachable-requires
 unreachable-requires c =
     let e : SplitDevice = c.args.self.now in let may = c.requires.may in
     runs_found e may.0 c.args.k may.1 may.2.runs (λ h a there.
-        none_found e.size c.args.k c.deref.result.now c.find_head.result c.in-None.is c.find_head.ensures h a (ap (λ (ys : List (Option ℕ)). number_at ys h) c.deref.ensures.value ∙ there))
+    none_found e.size c.args.k c.deref.result.now c.find_head.result c.in-None.is c.find_head.ensures h a (ap (λ (ys : List (Option ℕ)). number_at ys h) c.deref.ensures.value ∙ there))
