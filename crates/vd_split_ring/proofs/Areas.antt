@@ -6,7 +6,7 @@ use Rattle.std.proofs.lemmas.Nat.{div-add-mod', mul-le, mod_below}
 use Rattle.vd_bits.specs.Lanes.{lane16, set_lane16, lane32, set_lane32}
 use Rattle.vd_bits.proofs.LaneLaws.{set_same, set_other, high_low, low_high, low_lane, lane_high}
 use Rattle.vd_ring.specs.declared.frame.Frame.{Frame}
-use Rattle.vd_split_ring.specs.SplitWords.{IsDrivers, IsDevices, command_word, ack_word, event_lane, shown_from, width, avail_from, used_from, tables_from, commands_from, acks_from, kick_at, lane_at, lane_word, with_lane, entry_lane}
+use Rattle.vd_split_ring.specs.SplitWords.{IsDrivers, IsDevices, command_word, ack_word, shown_from, width, avail_from, used_from, tables_from, commands_from, acks_from, kick_at, lane_at, lane_word, with_lane, entry_lane}
 use Rattle.vd_split_ring.specs.SplitWords.{shows}
 use Rattle.vd_split_ring.specs.SplitRing.{Words}
 

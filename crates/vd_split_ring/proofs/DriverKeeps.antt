@@ -1,5 +1,5 @@
 -- Each access of the driver that is next keeps the ring invariant, and its answer tells what the view says.
-use Rattle.std.proofs.Common.{◌≡◌, ℕ, ◌+◌, ◌%◌, ◌<◌, ◌≤◌, ◌==◌, Bool, List, [], ◌∷◌, ◌++◌, length, if◌then◌else◌, slice_index, slice_set, refl, sym, ap, ◌∙◌, subst, arith, inl, inr}
+use Rattle.std.proofs.Common.{◌≡◌, ℕ, ◌+◌, ◌%◌, ◌≤◌, Bool, List, [], ◌∷◌, ◌++◌, length, if◌then◌else◌, slice_index, slice_set, sym, ap, ◌∙◌, subst, arith, inl, inr}
 use Rattle.std.proofs.lemmas.Bool.{eq-eqb, ne_eqb}
 use Rattle.std.proofs.lemmas.Nat.{mod_below}
 use Rattle.std.proofs.lemmas.List.Elements.{All-nil}
@@ -14,20 +14,17 @@ use Rattle.vd_ring.specs.declared.driver.DriverNow.TheVariants.{Idle, Offering, 
 use Rattle.vd_ring.specs.declared.driver.DriverView.{DriverView}
 use Rattle.vd_ring.specs.declared.device.DeviceView.{DeviceView}
 use Rattle.vd_ring.specs.History.{offers, collects, gives, head}
-use Rattle.vd_ring.specs.Control.{StoresCommand, LoadsAck}
-use Rattle.vd_ring.specs.Steps.{Keeps}
+use Rattle.vd_ring.specs.Control.{LoadsAck}
 use Rattle.vd_ring.proofs.HeldInside.{head_low}
-use Rattle.vd_split_ring.specs.SplitWords.{IsDrivers, width, avail_from, used_from, ack_word, command_word, id_word, len_word, lane_word, entry_lane, shows, Stand, put}
-use Rattle.vd_split_ring.specs.SplitDriver.{DriverNextAt, DriverNext, DriverTells, DriverKnows, driver_side, stores, Begins, Enters, Publishes}
+use Rattle.vd_split_ring.specs.SplitWords.{used_from, ack_word, id_word, len_word, lane_word, entry_lane, put}
+use Rattle.vd_split_ring.specs.SplitDriver.{DriverNextAt, DriverNext, DriverKnows, stores, Publishes}
 use Rattle.vd_split_ring.specs.SplitRing.{Ring, Stages}
+use Rattle.vd_split_ring.specs.SplitDriverLaws.{DriverKeeps}
 use Rattle.vd_split_ring.proofs.Areas.{areas, lane_inside, devices_inside, ack_devices}
 use Rattle.vd_split_ring.proofs.Descriptors.{Stands}
 use Rattle.vd_split_ring.proofs.DriverOffers.{describes, enters, publishes}
 use Rattle.vd_split_ring.proofs.DriverCollects.{looks, look_tells, finds, collects_last}
 use Rattle.vd_split_ring.proofs.DriverControls.{stores_command, loads_ack}
-
-abbrev pub DriverKeeps : List ℕ → DriverView → DeviceView → Op → Access → Type 0
-DriverKeeps ws d e op a = Keeps driver_side (λ us v. Ring us v e) ws d op a
 
 -- a word of the device's area, as the driver loads it
 pub used_word : (ws : List ℕ) (d : DriverView) (e : DeviceView) (p : ℕ) → Ring ws d e → used_from d.frame ≤ p → p ≤ used_from d.frame + d.frame.size → slice_index ws p ≡ slice_index e.stored p

@@ -1,5 +1,5 @@
 -- The accesses of an offer keep the ring invariant.
-use Rattle.std.proofs.Common.{◌≡◌, ◌≢◌, ℕ, ◌+◌, ◌*◌, ◌/◌, ◌%◌, ◌<◌, ◌≤◌, List, [], ◌∷◌, ◌++◌, length, take, slice_index, slice_index_or, slice_set, refl, sym, ap, ◌∙◌, subst, arith, inl}
+use Rattle.std.proofs.Common.{◌≡◌, ℕ, ◌+◌, ◌%◌, ◌<◌, ◌≤◌, List, [], ◌∷◌, ◌++◌, length, take, slice_index_or, slice_set, sym, ap, ◌∙◌, subst, arith, inl}
 use Rattle.std.specs.List.{All}
 use Rattle.std.proofs.lemmas.List.{length_push, length-take-le, get_or-set_same}
 use Rattle.std.proofs.lemmas.List.Elements.{All-nil, All-cons, All-append}
@@ -16,21 +16,20 @@ use Rattle.vd_ring.specs.declared.device.DeviceNow.{DeviceNow}
 use Rattle.vd_ring.specs.declared.device.DeviceNow.TheVariants as device
 use Rattle.vd_ring.specs.declared.device.DeviceView.{DeviceView}
 use Rattle.vd_ring.specs.Frames.{lent}
-use Rattle.vd_ring.specs.History.{offers, takes, gives, free, places, head, next_head, chain, first, occurs, used_at}
+use Rattle.vd_ring.specs.History.{offers, takes, free, places, next_head, chain, first, occurs}
 use Rattle.vd_ring.specs.Places.{Places}
-use Rattle.vd_ring.specs.Lists.{Lists, entry_at}
+use Rattle.vd_ring.specs.Lists.{Lists}
 use Rattle.vd_ring.proofs.Counts.{occurs_parts}
 use Rattle.vd_ring.proofs.HeldPlaces.{free_once, free_inside, lent_some, offer_places, places_before, chain_before}
 use Rattle.vd_ring.proofs.ListSteps.{lists_offered, entry_is, given_below}
 use Rattle.vd_ring.proofs.ControlSteps.{next_free, head_before, commands_elsewhere, commands_offered, acks_offered}
-use Rattle.vd_split_ring.specs.SplitWords.{IsLawful, IsBuilt, width, avail_from, used_from, command_word, ack_word, lane_at, lane_word, with_lane, entry_lane, described, spelling, reading, put, words_of, pieces_of, staged_chain, Stand}
+use Rattle.vd_split_ring.specs.SplitWords.{IsLawful, IsBuilt, width, avail_from, used_from, command_word, ack_word, lane_word, with_lane, entry_lane, described, reading, put, words_of, staged_chain, Stand}
 use Rattle.vd_split_ring.specs.SplitDriver.{CanOffer, Begins, Publishes, plan, stores, driver_offers}
 use Rattle.vd_split_ring.specs.SplitDriver.{Enters as EntersNext}
-use Rattle.vd_split_ring.specs.SplitDevice.{loaded_head}
-use Rattle.vd_split_ring.specs.SplitRing.{Ring, Served, Stages, HasEntered, HasSeen, Loads, DeviceDoing}
+use Rattle.vd_split_ring.specs.SplitRing.{Ring, Served, Stages, HasEntered, Loads, DeviceDoing}
 use Rattle.vd_split_ring.proofs.Descriptors.{IsAt, IsApart, Stands, described_at, described_before, described_below, stand_other, pieces_back}
 use Rattle.vd_split_ring.proofs.Direct.{IsNext, is_next, lent_pieces, spelling_is, staged_is}
-use Rattle.vd_split_ring.proofs.Areas.{driver_stores, lane_same, lane_inside, entry_inside, areas}
+use Rattle.vd_split_ring.proofs.Areas.{driver_stores, lane_same, lane_inside, areas}
 use Rattle.vd_split_ring.proofs.DriverParts.{room_lent, slot_free, driven_described, driven_entered, driven_published, signals_below, signals_lane}
 
 -- the places that the chain gets

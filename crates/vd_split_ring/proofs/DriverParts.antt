@@ -1,17 +1,15 @@
 -- What the parts of the ring invariant keep when the driver stores.
-use Rattle.std.proofs.Common.{◌≡◌, ◌≢◌, ℕ, zero, suc, ◌+◌, ◌*◌, ◌/◌, ◌%◌, ◌<◌, ◌≤◌, Bool, true, false, List, [], ◌∷◌, ◌++◌, length, take, if◌then◌else◌, slice_index, slice_set, Option, Some, refl, sym, ap, ◌∙◌, subst, arith, inl, inr}
-use Rattle.std.specs.List.{All, Contains}
+use Rattle.std.proofs.Common.{◌≡◌, ◌≢◌, ℕ, ◌+◌, ◌*◌, ◌%◌, ◌<◌, ◌≤◌, List, [], ◌∷◌, ◌++◌, length, take, slice_set, Option, sym, ap, ◌∙◌, subst, arith, inl, inr}
+use Rattle.std.specs.List.{Contains}
 use Rattle.std.proofs.lemmas.Bool.{cases_eq, cases_lt}
-use Rattle.std.proofs.lemmas.List.{length_push, length-take-le, get_or-take, get_or-set_other}
+use Rattle.std.proofs.lemmas.List.{length_push, get_or-set_other}
 use Rattle.vd_model.specs.declared.chain.Piece.{Piece}
-use Rattle.vd_model.specs.Chains.{needs}
 use Rattle.vd_ring.specs.declared.frame.Frame.{Frame}
 use Rattle.vd_ring.specs.declared.frame.Put.{Put}
 use Rattle.vd_ring.specs.declared.driver.DriverDone.{DriverDone}
 use Rattle.vd_ring.specs.declared.driver.DriverDone.TheVariants.{Offer}
-use Rattle.vd_ring.specs.declared.device.DeviceDone.{DeviceDone}
-use Rattle.vd_ring.specs.Frames.{Fits, lent}
-use Rattle.vd_ring.specs.History.{offers, collects, open_at, free, places, head, next_head, chain, first, occurs}
+use Rattle.vd_ring.specs.Frames.{lent}
+use Rattle.vd_ring.specs.History.{offers, collects, open_at, free, places, head, next_head, chain, occurs}
 use Rattle.vd_ring.specs.Places.{Places}
 use Rattle.vd_ring.proofs.Counts.{one_other, occurs_from, occurs_push, occurs_parts, Contains_from}
 use Rattle.vd_ring.proofs.HeldPlaces.{open_below, few_open, lent_some, free_apart, free_inside, places_inside, places_before, places_new, chain_before, chain_new}
@@ -19,8 +17,8 @@ use Rattle.vd_ring.proofs.ControlSteps.{head_before, head_new}
 use Rattle.vd_split_ring.specs.SplitWords.{IsLawful, IsBuilt, avail_from, used_from, kick_at, lane_at, lane_word, with_lane, entry_lane, event_lane, described, spelling, Stand}
 use Rattle.vd_split_ring.specs.SplitDriver.{CanOffer}
 use Rattle.vd_split_ring.specs.SplitRing.{Driven, DriverSignals}
-use Rattle.vd_split_ring.proofs.Descriptors.{IsAt, IsApart, described_apart, described_below, stand_other}
-use Rattle.vd_split_ring.proofs.Direct.{lent_needs, lent_pieces, spelling_is}
+use Rattle.vd_split_ring.proofs.Descriptors.{IsAt, described_apart, stand_other}
+use Rattle.vd_split_ring.proofs.Direct.{lent_needs, spelling_is}
 use Rattle.vd_split_ring.proofs.Areas.{areas, lane_same, lane_other, lane_elsewhere, lane_past, lane_inside, entries_differ, entry_inside}
 
 pub room_lent : (f : Frame) (o : List DriverDone) (c : List Piece) → IsLawful f → CanOffer f o c → lent f c ≤ length (free f o)

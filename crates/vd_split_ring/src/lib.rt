@@ -1,2 +1,11 @@
 //! A split ring (VIRTIO 1.2, 2.7): its words, what each of its two sides may do next, and the invariant that they keep.
 #![tactic(auto)]
+
+mod driver_laws;
+mod laws;
+
+pub use driver_laws::{
+    driver_alone_law, driver_bag_law, driver_collected_law, driver_law, driver_nothing_law,
+    driver_offered_law,
+};
+pub use laws::{agreement_law, fresh_law, looks_law, spelling_law};
