@@ -1,17 +1,15 @@
 -- The definitions on worked rings: each number is one that the standard's layout gives by hand.
-use Rattle.std.proofs.Common.{◌≡◌, ℕ, ◌+◌, Bool, true, false, List, [], ◌∷◌, length, take, refl, slice_index_or}
-use Rattle.std.specs.Prelude.{None, replicate, slice_set}
+use Rattle.std.proofs.Common.{◌≡◌, ℕ, ◌+◌, Bool, true, false, List, [], ◌∷◌, take, refl, slice_index_or}
+use Rattle.std.specs.Prelude.{None, replicate}
 use Rattle.vd_bits.specs.Lanes.{set_lane32, set_lane16}
 use Rattle.vd_model.specs.declared.chain.Piece.{Piece}
 use Rattle.vd_ring.specs.declared.device.DeviceDone.{DeviceDone}
 use Rattle.vd_ring.specs.declared.device.DeviceDone.TheVariants.{Take, Give, Rest}
-use Rattle.vd_ring.specs.declared.driver.DriverDone.{DriverDone}
 use Rattle.vd_ring.specs.declared.driver.DriverDone.TheVariants.{Offer, Collect, StoreCommand}
 use Rattle.vd_ring.specs.declared.frame.Frame.{Frame}
-use Rattle.vd_ring.specs.History.{entry, free, head, places, open_at, takes, running, given, gives, collected}
+use Rattle.vd_ring.specs.History.{entry, free, head, takes, given, collected}
 use Rattle.vd_ring.specs.Control.{command_of}
-use Rattle.vd_ring.specs.Lists.{entry_at}
-use Rattle.vd_split_ring.specs.SplitWords.{avail_from, used_from, tables_from, width, lane_word, entry_lane, with_lane, put, spelling, reading, words_of, is_whole, chain_of, cursor, staged_chain}
+use Rattle.vd_split_ring.specs.SplitWords.{avail_from, used_from, width, with_lane, put, spelling, reading, words_of, is_whole, chain_of, cursor, staged_chain}
 
 abbrev ring : ℕ → Bool → Bool → Frame
 ring n indirect in_order = record { ring = 0; packed = false; size = n; features = record { indirect = indirect; event_idx = false; in_order = in_order }; control = false; bounds = None }

@@ -4,3 +4,4 @@ pub mod SplitDevice
 pub mod SplitRing
 pub mod SplitDriverLaws
 pub mod SplitLaws
+pub mod SplitDeviceLaws
