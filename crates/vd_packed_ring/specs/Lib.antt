@@ -1,0 +1,6 @@
+pub mod PackedWords
+pub mod PackedChains
+pub mod PackedPositions
+pub mod PackedDriver
+pub mod PackedDevice
+pub mod PackedRing
