@@ -1,0 +1,4 @@
+pub mod WordFacts
+pub mod Areas
+pub mod Plans
+pub mod Rows
