@@ -2,3 +2,5 @@ pub mod WordFacts
 pub mod Areas
 pub mod Plans
 pub mod Rows
+pub mod Spelled
+pub mod Positions
