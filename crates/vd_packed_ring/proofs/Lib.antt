@@ -4,3 +4,4 @@ pub mod Plans
 pub mod Rows
 pub mod Spelled
 pub mod Positions
+pub mod Made
