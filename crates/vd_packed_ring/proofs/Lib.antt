@@ -5,3 +5,5 @@ pub mod Rows
 pub mod Spelled
 pub mod Positions
 pub mod Made
+pub mod Clear
+pub mod Offers
