@@ -7,3 +7,6 @@ pub mod Positions
 pub mod Made
 pub mod Clear
 pub mod Offers
+pub mod Collects
+pub mod DriverControls
+pub mod DriverKeeping

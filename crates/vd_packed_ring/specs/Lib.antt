@@ -4,3 +4,4 @@ pub mod PackedPositions
 pub mod PackedDriver
 pub mod PackedDevice
 pub mod PackedRing
+pub mod PackedDriverLaws
