@@ -10,3 +10,5 @@ pub mod Offers
 pub mod Collects
 pub mod DriverControls
 pub mod DriverKeeping
+pub mod DeviceParts
+pub mod Takes
