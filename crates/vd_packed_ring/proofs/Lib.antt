@@ -12,3 +12,6 @@ pub mod DriverControls
 pub mod DriverKeeping
 pub mod DeviceParts
 pub mod Takes
+pub mod Gives
+pub mod DeviceControls
+pub mod DeviceKeeping

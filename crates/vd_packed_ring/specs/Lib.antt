@@ -5,3 +5,4 @@ pub mod PackedDriver
 pub mod PackedDevice
 pub mod PackedRing
 pub mod PackedDriverLaws
+pub mod PackedDeviceLaws
