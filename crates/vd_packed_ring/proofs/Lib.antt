@@ -15,3 +15,8 @@ pub mod Takes
 pub mod Gives
 pub mod DeviceControls
 pub mod DeviceKeeping
+pub mod Opens
+pub mod Agreement
+pub mod DriverViews
+pub mod DeviceViews
+pub mod Spelling

@@ -21,11 +21,11 @@ use Rattle.vd_ring.proofs.HeldInside.{head_low, next_low}
 use Rattle.vd_ring.proofs.ListSteps.{some_same, entry_is}
 use Rattle.vd_packed_ring.specs.PackedWords.{IsLawful, IsBuilt, used_word}
 use Rattle.vd_packed_ring.specs.PackedChains.{Descriptor, blank, direct, descriptors, avail_word}
-use Rattle.vd_packed_ring.specs.PackedPositions.{opos, cpos, upos, made, made_at, block, marks, mark_at, stands, second_at}
+use Rattle.vd_packed_ring.specs.PackedPositions.{start, opos, cpos, upos, made, made_at, block, marks, mark_at, stands, second_at}
 use Rattle.vd_packed_ring.proofs.WordFacts.{Fits}
 use Rattle.vd_packed_ring.proofs.Plans.{all_left, all_right, all_are}
 use Rattle.vd_packed_ring.proofs.Spelled.{needs_pieces, lent_one, descriptors_is, length_direct, direct_fits}
-use Rattle.vd_packed_ring.proofs.Positions.{start, opos_offered}
+use Rattle.vd_packed_ring.proofs.Positions.{opos_offered}
 
 -- ---- the descriptors made available
 

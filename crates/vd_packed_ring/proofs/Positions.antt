@@ -20,7 +20,7 @@ use Rattle.vd_ring.proofs.Counts.{one_small, one_below, one_above, occurs-append
 use Rattle.vd_ring.proofs.HeldPlaces.{open_below, chain_fits, chain_before, chain_new}
 use Rattle.vd_ring.proofs.ListSteps.{given_below, number_in}
 use Rattle.vd_packed_ring.specs.PackedWords.{IsLawful}
-use Rattle.vd_packed_ring.specs.PackedPositions.{opos, cpos, tpos, upos}
+use Rattle.vd_packed_ring.specs.PackedPositions.{opos, cpos, tpos, upos, start}
 use Rattle.vd_packed_ring.proofs.Spelled.{lent_one}
 
 -- ---- sums by number
@@ -89,10 +89,6 @@ taken_chain f o s k l h = ap (λ (cs : List (List Piece)). chain_at cs k) l.take
 -- the device's position of what it gave, by the chains offered
 pub upos_is : (f : Frame) (o : List DriverDone) (s : List DeviceDone) → Lists f o s → upos f s ≡ sum_by (λ u. needs f.features (chain o u.number)) (gives s)
 upos_is f o s l = sum_entries (λ u. needs f.features (chain_at (takes s) u.number)) (λ u. needs f.features (chain o u.number)) (gives s) (λ j h. ap (needs f.features) (taken_chain f o s (used_at (gives s) j).number l (given_below f o s j l h)))
-
--- where the chain of a number begins
-abbrev pub start : Frame → List DriverDone → ℕ → ℕ
-start f o k = sum_by (needs f.features) (take k (offers o))
 
 pub tpos_is : (f : Frame) (o : List DriverDone) (s : List DeviceDone) → Lists f o s → tpos f s ≡ start f o (length (takes s))
 tpos_is f o s l = ap (sum_by (needs f.features)) l.taken

@@ -24,14 +24,14 @@ use Rattle.vd_ring.proofs.DeviceLists.{next_taken_open, running_below, running_o
 use Rattle.vd_ring.proofs.DeviceAcks.{acks_taken}
 use Rattle.vd_packed_ring.specs.PackedWords.{IsBuilt, addr_word, second_word, put, words_of, id_of, is_available, Stand, ack_word, command_word}
 use Rattle.vd_packed_ring.specs.PackedChains.{Descriptor, blank, avail_word, direct, loaded, reading, ends, following, pieces_in, loaded_head, is_whole, chain_of, cursor}
-use Rattle.vd_packed_ring.specs.PackedPositions.{opos, cpos, tpos, upos, made_at, mark_at, stands, second_at}
+use Rattle.vd_packed_ring.specs.PackedPositions.{start, opos, cpos, tpos, upos, made_at, mark_at, stands, second_at}
 use Rattle.vd_packed_ring.specs.PackedDevice.{IsNewHead, BeginsChain, device_looks, device_takes, device_loads}
 use Rattle.vd_packed_ring.specs.PackedRing.{Ring, Loads}
 use Rattle.vd_packed_ring.proofs.WordFacts.{avail_shows, avail_id, zero_unavailable}
 use Rattle.vd_packed_ring.proofs.WordFacts.{Fits as FitsWord}
 use Rattle.vd_packed_ring.proofs.Rows.{row_same, row_ahead}
 use Rattle.vd_packed_ring.proofs.Spelled.{needs_pieces, reading_is, whole_is, chain_is, cursor_is, length_direct, direct_fits, direct_id, length_loaded, not_whole, whole, loaded_back, following_at, words_more, loaded_stand}
-use Rattle.vd_packed_ring.proofs.Positions.{needs_some, order, tpos_is, upos_is, takes_below, start}
+use Rattle.vd_packed_ring.proofs.Positions.{needs_some, order, tpos_is, upos_is, takes_below}
 use Rattle.vd_packed_ring.proofs.Made.{made_chain, mark_past}
 use Rattle.vd_packed_ring.proofs.Clear.{doing_clear, doing_ahead}
 use Rattle.vd_packed_ring.proofs.Collects.{old_unavailable}
@@ -88,7 +88,7 @@ ahead ws d e r more =
     }
 
 -- where all that was offered is taken
-none_shows : (ws : List ℕ) (d : DriverView) (e : DeviceView) → Ring ws d e → length (offers d.done) ≤ length (takes e.done) → (tpos d.frame e.done ≡ opos d.frame d.done)
+pub none_shows : (ws : List ℕ) (d : DriverView) (e : DeviceView) → Ring ws d e → length (offers d.done) ≤ length (takes e.done) → (tpos d.frame e.done ≡ opos d.frame d.done)
     × (is_available d.frame.size (tpos d.frame e.done) (slice_index ws (second_word d.frame.size (tpos d.frame e.done))) ≡ false)
 none_shows ws d e r none =
     let f : Frame = d.frame in let o : List DriverDone = d.done in let s : List DeviceDone = e.done in let n : ℕ = f.size in
@@ -165,6 +165,30 @@ begins us d e ws r more some is most =
 
 -- ---- the look
 
+first_stands : (ws : List ℕ) (n q : ℕ) (ds : List Descriptor) → 0 < length ds → Stand ws (loaded n q ds) → slice_index ws (second_word n q) ≡ (slice_index_or (loaded n q ds) 0 (put 0 0)).word
+first_stands ws n q [] h stand = absurd (omega arith)
+first_stands ws n q (d ∷ ds) h stand = stand 0 (put 0 0) (omega arith)
+
+first_taken : (n q : ℕ) (ds : List Descriptor) → 0 < length ds → words_of (take 1 (loaded n q ds)) ≡ (slice_index_or (loaded n q ds) 0 (put 0 0)).word ∷ []
+first_taken n q [] h = absurd (omega arith)
+first_taken n q (d ∷ ds) h = refl
+
+-- the word at the next position is the first of the next chain's
+pub next_word : (ws : List ℕ) (d : DriverView) (e : DeviceView) → Ring ws d e → length (takes e.done) < length (offers d.done) → slice_index ws (second_word d.frame.size (tpos d.frame e.done)) ∷ [] ≡ words_of (take 1 (next_words d.frame d.done e.done))
+next_word ws d e r more =
+    let f : Frame = d.frame in let k : ℕ = length (takes e.done) in
+    let ds : List Descriptor = direct (head f d.done k) (chain d.done k) in
+    let a = ahead ws d e r more in
+    let some : 0 < length ds = omega (arith, a.fits.chain.0, length_direct (head f d.done k) (chain d.done k)) in
+    ap (λ (x : ℕ). x ∷ []) (first_stands ws f.size (tpos f e.done) ds some a.stand) ∙ sym (first_taken f.size (tpos f e.done) ds some)
+
+-- and shows as available
+pub shows_next : (ws : List ℕ) (d : DriverView) (e : DeviceView) → Ring ws d e → length (takes e.done) < length (offers d.done) → is_available d.frame.size (tpos d.frame e.done) (slice_index ws (second_word d.frame.size (tpos d.frame e.done))) ≡ true
+shows_next ws d e r more =
+    let f : Frame = d.frame in let k : ℕ = length (takes e.done) in
+    let a = ahead ws d e r more in
+    (first_word f.size (tpos f e.done) (head f d.done k) (chain d.done k) (slice_index ws (second_word f.size (tpos f e.done)) ∷ []) a.small a.fits.chain.3 a.fits.chain.0 (omega arith) (next_word ws d e r more)).1
+
 abbrev pub LookTells : DriverView → DeviceView → ℕ → Type 0
 LookTells d e w = (is_available d.frame.size (tpos d.frame e.done) w ≡ true → (length (takes e.done) < limit d.frame) × BeginsChain d.frame e.done (w ∷ [])) × (e.shown ≡ true → is_available d.frame.size (tpos d.frame e.done) w ≡ true)
 
@@ -178,10 +202,8 @@ looks ws d e w r is =
     elim (cases_lt (length (takes s)) (length (offers o))) [
       | inl more ↦ (
           let a = ahead ws d E r more in
-          let full : 0 < length (chain o (length (takes s))) = a.fits.chain.0 in
-          let stand0 : slice_index ws (second_word f.size (tpos f s)) ≡ (slice_index_or (next_words f o s) 0 (put 0 0)).word = first_stands ws f.size (tpos f s) (direct (head f o (length (takes s))) (chain o (length (takes s)))) (omega (arith, length_direct (head f o (length (takes s))) (chain o (length (takes s))))) a.stand in
-          let one : w ∷ [] ≡ words_of (take 1 (next_words f o s)) = ap (λ (x : ℕ). x ∷ []) (is ∙ stand0) ∙ sym (first_taken f.size (tpos f s) (direct (head f o (length (takes s))) (chain o (length (takes s)))) (omega (arith, length_direct (head f o (length (takes s))) (chain o (length (takes s)))))) in
-          let shows : is_available f.size (tpos f s) w ≡ true = (first_word f.size (tpos f s) (head f o (length (takes s))) (chain o (length (takes s))) (w ∷ []) a.small a.fits.chain.3 full (omega arith) one).1 in
+          let one : w ∷ [] ≡ words_of (take 1 (next_words f o s)) = ap (λ (x : ℕ). x ∷ []) is ∙ next_word ws d E r more in
+          let shows : is_available f.size (tpos f s) w ≡ true = ap (is_available f.size (tpos f s)) is ∙ shows_next ws d E r more in
           let read : reading f (tpos f s) (head f o (length (takes s))) (chain o (length (takes s))) ≡ next_words f o s = reading_is f (tpos f s) (head f o (length (takes s))) (chain o (length (takes s))) r.built in
           let b = begins ws d E (w ∷ []) r more (omega arith) one (omega (arith, a.long)) in (
             subst (λ (t : Bool). Ring ws d (if t then saw else not_saw)) (sym shows) (ring_with ws ws d E saw r record {
@@ -231,14 +253,6 @@ looks ws d e w r is =
           )
           )
     ]
-  where
-    first_stands : (ws : List ℕ) (n q : ℕ) (ds : List Descriptor) → 0 < length ds → Stand ws (loaded n q ds) → slice_index ws (second_word n q) ≡ (slice_index_or (loaded n q ds) 0 (put 0 0)).word
-    first_stands ws n q [] h stand = absurd (omega arith)
-    first_stands ws n q (d ∷ ds) h stand = stand 0 (put 0 0) (omega arith)
-
-    first_taken : (n q : ℕ) (ds : List Descriptor) → 0 < length ds → words_of (take 1 (loaded n q ds)) ≡ (slice_index_or (loaded n q ds) 0 (put 0 0)).word ∷ []
-    first_taken n q [] h = absurd (omega arith)
-    first_taken n q (d ∷ ds) h = refl
 
 -- ---- a further load
 

@@ -6,3 +6,4 @@ pub mod PackedDevice
 pub mod PackedRing
 pub mod PackedDriverLaws
 pub mod PackedDeviceLaws
+pub mod PackedLaws

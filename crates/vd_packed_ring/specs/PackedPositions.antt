@@ -1,5 +1,5 @@
 -- The positions of a packed ring, and what stands at each, by the acts of its two sides.
-use Rattle.std.specs.Prelude.{ℕ, zero, suc, List, [], ◌∷◌, ◌++◌, replicate, Option, Some, None, slice_index_or}
+use Rattle.std.specs.Prelude.{ℕ, zero, suc, List, [], ◌∷◌, ◌++◌, take, replicate, Option, Some, None, slice_index_or}
 use Rattle.std.specs.List.{sum_by}
 use Rattle.vd_model.specs.Chains.{needs}
 use Rattle.vd_ring.specs.declared.frame.Frame.{Frame}
@@ -25,6 +25,10 @@ tpos f s = sum_by (needs f.features) (takes s)
 
 abbrev pub upos : Frame → List DeviceDone → ℕ
 upos f s = sum_by (λ u. needs f.features (chain_at (takes s) u.number)) (gives s)
+
+-- the position at which chain number k begins
+abbrev pub start : Frame → List DriverDone → ℕ → ℕ
+start f o k = sum_by (needs f.features) (take k (offers o))
 
 -- ---- what stands at each position
 
