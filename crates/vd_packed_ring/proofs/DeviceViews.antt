@@ -40,10 +40,10 @@ either_frame : (v w : DeviceView) (b : Bool) → v.frame ≡ w.frame → (if b t
 either_frame v w true e = e
 either_frame v w false e = refl
 
-abbrev saw : DeviceView → ℕ → DeviceView
+abbrev pub saw : DeviceView → ℕ → DeviceView
 saw e r = record e { seen = tpos e.frame e.done + 1; shown = true; doing = Taking (r ∷ []) }
 
-abbrev saw_none : DeviceView → DeviceView
+abbrev pub saw_none : DeviceView → DeviceView
 saw_none e = record e { seen = tpos e.frame e.done; shown = false }
 
 frame_at : (doing : DeviceNow) (e : DeviceView) (o : Op) (a : Access) (r : ℕ) → (device_after_at doing e o a r).frame ≡ e.frame

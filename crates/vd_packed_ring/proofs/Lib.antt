@@ -20,3 +20,6 @@ pub mod Agreement
 pub mod DriverViews
 pub mod DeviceViews
 pub mod Spelling
+pub mod DriverAnswers
+pub mod DeviceAnswers
+pub mod DeviceBagSteps

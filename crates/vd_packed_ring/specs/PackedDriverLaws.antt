@@ -1,17 +1,20 @@
 -- What the laws of a packed ring's driver say. Each is the contract of a function in src/driver_laws.rt.
-use Rattle.std.specs.Prelude.{◌≡◌, ◌⊎◌, ℕ, ◌+◌, ◌<◌, ◌≤◌, List, [], ◌∷◌, ◌++◌, length}
+use Rattle.std.specs.Prelude.{◌≡◌, ◌⊎◌, ℕ, ◌+◌, ◌<◌, ◌≤◌, false, List, [], ◌∷◌, ◌++◌, length}
 use Rattle.vd_model.specs.declared.chain.Piece.{Piece}
 use Rattle.vd_words.specs.declared.access.Access.{Access}
 use Rattle.vd_words.specs.declared.access.Op.{Op}
+use Rattle.vd_words.specs.declared.access.Op.TheVariants as op
 use Rattle.vd_words.specs.Step.{place_of, answered, written}
+use Rattle.vd_ring.specs.declared.act.DriverAct.TheVariants as act
 use Rattle.vd_ring.specs.declared.frame.Frame.{Frame}
+use Rattle.vd_ring.specs.declared.driver.DriverNow.TheVariants.{Idle}
 use Rattle.vd_ring.specs.declared.driver.DriverView.{DriverView}
 use Rattle.vd_ring.specs.declared.driver.DriverDone.{DriverDone}
 use Rattle.vd_ring.specs.declared.device.DeviceView.{DeviceView}
 use Rattle.vd_ring.specs.History.{offers, collects, gives, head, next_head, entry, used_at}
 use Rattle.vd_ring.specs.Bag.{State}
 use Rattle.vd_ring.specs.Steps.{Keeps, StandsFor, DriverBagStep}
-use Rattle.vd_packed_ring.specs.PackedWords.{width, addr_word, second_word}
+use Rattle.vd_packed_ring.specs.PackedWords.{width, addr_word, second_word, is_used}
 use Rattle.vd_packed_ring.specs.PackedChains.{Spells}
 use Rattle.vd_packed_ring.specs.PackedPositions.{opos, cpos}
 use Rattle.vd_packed_ring.specs.PackedDriver.{CanOffer, driver_side, driver_after, driver_act}
@@ -55,3 +58,11 @@ pub record StoresAhead (f : Frame) (o : List DriverDone) (p : ℕ) : Type 0 wher
   pub place : (p ≡ addr_word f.size position) ⊎ (p ≡ second_word f.size position)
   pub least : opos f o ≤ position
   pub most : position < cpos f o + f.size
+
+-- Nothing is the answer of a collect alone, exactly where the loaded word isn't used for the position's wrap; then all entries given are
+-- collected
+pub record LooksNothing (ws : List ℕ) (d : DriverView) (e : DeviceView) (o : Op) (a : Access) : Type 0 where
+  pub only : driver_act d o a (answered ws a) ≡ act.Nothing → (d.doing ≡ Idle) × (o ≡ op.Collect)
+  pub says : driver_act d o a (answered ws a) ≡ act.Nothing → is_used d.frame.size (cpos d.frame d.done) (answered ws a) ≡ false
+  pub shown : d.doing ≡ Idle → o ≡ op.Collect → is_used d.frame.size (cpos d.frame d.done) (answered ws a) ≡ false → driver_act d o a (answered ws a) ≡ act.Nothing
+  pub all : driver_act d o a (answered ws a) ≡ act.Nothing → collects d.done ≡ gives e.done
