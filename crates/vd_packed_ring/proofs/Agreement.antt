@@ -1,10 +1,9 @@
 -- The lists and positions of the two sides agree; what the two looks show; where each side stores.
-use Rattle.std.proofs.Common.{◌≡◌, ◌≢◌, ℕ, zero, suc, ◌+◌, ◌*◌, ◌%◌, ◌<◌, ◌≤◌, Bool, true, false, List, [], ◌∷◌, ◌++◌, length, take, nat_lt, slice_index, slice_index_or, refl, sym, ap, ◌∙◌, subst, arith, inl, inr}
+use Rattle.std.proofs.Common.{◌≡◌, ℕ, zero, suc, ◌+◌, ◌%◌, ◌<◌, ◌≤◌, Bool, true, false, List, [], ◌∷◌, ◌++◌, length, take, nat_lt, slice_index, slice_index_or, refl, sym, ap, ◌∙◌, subst, arith, inl, inr}
 use Rattle.std.specs.List.{Contains}
 use Rattle.std.proofs.lemmas.Bool.{cases_lt}
 use Rattle.std.proofs.lemmas.List.{length-map, get_or_append_left, get_or_push, get_or-take}
 use Rattle.std.proofs.lemmas.Grind.{same_number_lists}
-use Rattle.vd_model.specs.declared.chain.Piece.{Piece}
 use Rattle.vd_model.specs.Chains.{needs}
 use Rattle.vd_words.specs.declared.access.Access.TheVariants.{Store}
 use Rattle.vd_words.specs.declared.access.Op.TheVariants as op
@@ -20,13 +19,13 @@ use Rattle.vd_ring.specs.declared.device.DeviceNow.{DeviceNow}
 use Rattle.vd_ring.specs.declared.device.DeviceNow.TheVariants as device
 use Rattle.vd_ring.specs.declared.device.DeviceView.{DeviceView}
 use Rattle.vd_ring.specs.Account.{Ordered}
-use Rattle.vd_ring.specs.History.{offers, collects, takes, gives, open_at, head, chain, chain_at, numbers, used_at, upto, entry, running}
+use Rattle.vd_ring.specs.History.{offers, collects, takes, gives, chain, numbers, used_at, upto, entry, running}
 use Rattle.vd_ring.proofs.Counts.{one_small, length_upto, occurs_from}
 use Rattle.vd_ring.proofs.HeldPlaces.{chain_fits}
 use Rattle.vd_ring.proofs.ListSteps.{given_below, given_within, number_at}
 use Rattle.vd_ring.proofs.DeviceLists.{running_below}
-use Rattle.vd_packed_ring.specs.PackedWords.{IsLawful, IsBuilt, second_word, is_used, is_available, put}
-use Rattle.vd_packed_ring.specs.PackedPositions.{opos, cpos, tpos, upos}
+use Rattle.vd_packed_ring.specs.PackedWords.{IsLawful, IsBuilt, second_word, is_used, put}
+use Rattle.vd_packed_ring.specs.PackedPositions.{opos, cpos}
 use Rattle.vd_packed_ring.specs.PackedDriver.{Begins, Publishes, DriverNextAt, DriverNext}
 use Rattle.vd_packed_ring.specs.PackedDevice.{Returns, DeviceNextAt, DeviceNext}
 use Rattle.vd_packed_ring.specs.PackedDriverLaws.{StoresAhead}

@@ -1,5 +1,5 @@
 -- Where an offer in progress has stored nothing: the positions of the chains offered and not collected, and of what comes next.
-use Rattle.std.proofs.Common.{◌≡◌, ◌≢◌, ℕ, ◌+◌, ◌*◌, ◌%◌, ◌<◌, ◌≤◌, ◌⊎◌, List, [], ◌∷◌, ◌++◌, length, take, slice_index, slice_set, refl, sym, ap, ◌∙◌, subst, arith, inl, inr}
+use Rattle.std.proofs.Common.{◌≡◌, ◌≢◌, ℕ, ◌+◌, ◌*◌, ◌%◌, ◌<◌, ◌≤◌, List, length, take, slice_set, sym, ap, ◌∙◌, subst, arith, inl, inr}
 use Rattle.std.specs.List.{All}
 use Rattle.std.proofs.lemmas.Nat.{mod_below}
 use Rattle.std.proofs.lemmas.List.{get_or-set_other}
@@ -10,8 +10,8 @@ use Rattle.vd_ring.specs.declared.driver.DriverDone.{DriverDone}
 use Rattle.vd_ring.specs.declared.driver.DriverNow.{DriverNow}
 use Rattle.vd_ring.specs.declared.driver.DriverNow.TheVariants as driver
 use Rattle.vd_ring.specs.History.{next_head}
-use Rattle.std.specs.Prelude.{Option, Some}
-use Rattle.vd_packed_ring.specs.PackedWords.{IsLawful, IsBuilt, IsDrivers, addr_word, second_word, put}
+use Rattle.std.specs.Prelude.{Option}
+use Rattle.vd_packed_ring.specs.PackedWords.{IsLawful, IsBuilt, second_word}
 use Rattle.vd_packed_ring.specs.PackedChains.{Descriptor, direct, staged}
 use Rattle.vd_packed_ring.specs.PackedPositions.{opos, cpos}
 use Rattle.vd_packed_ring.specs.PackedDriver.{CanOffer, Begins, plan}
@@ -95,9 +95,9 @@ stored_words f ws driven served q d p x pos w h = elim w.place [
       (driver_stores f ws driven served p x h (inl (low, omega arith)), low)
       )
   | inr a ↦ (
-      subst (λ (i : ℕ). Words f (slice_set ws i x) (slice_set driven i x) served) (sym a.0) (driver_second f ws driven served w.position x pos h),
-      omega (arith, a.0, second_low f w.position pos),
-      )
+    subst (λ (i : ℕ). Words f (slice_set ws i x) (slice_set driven i x) served) (sym a.0) (driver_second f ws driven served w.position x pos h),
+    omega (arith, a.0, second_low f w.position pos),
+  )
 ]
 
 -- signals after a store elsewhere

@@ -1,11 +1,10 @@
 -- The load of a collect keeps the ring invariant, and finds the next entry exactly where there is one.
-use Rattle.std.proofs.Common.{◌≡◌, ℕ, ◌+◌, ◌*◌, ◌%◌, ◌<◌, ◌≤◌, Bool, true, false, List, [], ◌∷◌, ◌++◌, length, take, if◌then◌else◌, slice_index, slice_index_or, Option, Some, None, refl, sym, ap, ◌∙◌, subst, arith, inl, inr}
+use Rattle.std.proofs.Common.{◌≡◌, ℕ, ◌+◌, ◌<◌, ◌≤◌, Bool, true, false, List, [], ◌∷◌, length, if◌then◌else◌, slice_index, Option, Some, None, refl, sym, ap, ◌∙◌, subst, arith, inl, inr}
 use Rattle.std.specs.List.{All, sum_by}
 use Rattle.std.proofs.lemmas.Bool.{cases_lt}
-use Rattle.std.proofs.lemmas.List.{length_push, take_all}
+use Rattle.std.proofs.lemmas.List.{take_all}
 use Rattle.vd_model.specs.Chains.{needs}
 use Rattle.vd_ring.specs.declared.frame.Frame.{Frame}
-use Rattle.vd_ring.specs.declared.frame.Put.{Put}
 use Rattle.vd_ring.specs.declared.frame.Used.{Used}
 use Rattle.vd_ring.specs.declared.driver.DriverDone.{DriverDone}
 use Rattle.vd_ring.specs.declared.driver.DriverDone.TheVariants.{Collect}
@@ -27,7 +26,7 @@ use Rattle.vd_packed_ring.specs.PackedWords.{IsLawful, IsBuilt, command_word, ac
 use Rattle.vd_packed_ring.specs.PackedChains.{Descriptor}
 use Rattle.vd_packed_ring.specs.PackedPositions.{opos, cpos, tpos, upos, made_at, mark_at, stands, second_at}
 use Rattle.vd_packed_ring.specs.PackedDriver.{NamesOpen, driver_looks, driver_collects}
-use Rattle.vd_packed_ring.specs.PackedRing.{Ring, Row, Loads, DeviceDoing}
+use Rattle.vd_packed_ring.specs.PackedRing.{Ring, Loads, DeviceDoing}
 use Rattle.vd_packed_ring.proofs.WordFacts.{Fits, avail_unused, avail_unused_next, avail_next, used_shows, used_next, used_unavailable, zero_unused, used_id, used_len}
 use Rattle.vd_packed_ring.proofs.Rows.{nothing_staged, row_same, row_ahead}
 use Rattle.vd_packed_ring.proofs.Spelled.{table_stands}

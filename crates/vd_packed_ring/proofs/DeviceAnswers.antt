@@ -1,5 +1,5 @@
 -- What each answer of the device means: the chain taken, the used descriptor given, when nothing is left, and a rest.
-use Rattle.std.proofs.Common.{◌≡◌, ℕ, ◌+◌, ◌<◌, ◌≤◌, Bool, true, false, List, [], ◌∷◌, ◌++◌, length, if◌then◌else◌, slice_index, slice_set, refl, sym, ap, ◌∙◌, subst, arith, inl, inr}
+use Rattle.std.proofs.Common.{◌≡◌, ℕ, ◌+◌, ◌<◌, Bool, true, false, List, [], ◌∷◌, ◌++◌, length, if◌then◌else◌, slice_index, slice_set, refl, sym, ap, ◌∙◌, subst, arith, inl, inr}
 use Rattle.std.specs.List.{Contains}
 use Rattle.std.proofs.lemmas.Bool.{cases_lt}
 use Rattle.std.proofs.lemmas.List.{length_push, take_all, get_or_push, get_or-take, get_or-set_same}
@@ -16,12 +16,12 @@ use Rattle.vd_ring.specs.declared.frame.Used.{Used}
 use Rattle.vd_ring.specs.declared.driver.DriverDone.{DriverDone}
 use Rattle.vd_ring.specs.declared.driver.DriverView.{DriverView}
 use Rattle.vd_ring.specs.declared.device.DeviceDone.{DeviceDone}
-use Rattle.vd_ring.specs.declared.device.DeviceDone.TheVariants.{Take, Give, Rest}
+use Rattle.vd_ring.specs.declared.device.DeviceDone.TheVariants.{Take, Rest}
 use Rattle.vd_ring.specs.declared.device.DeviceNow.{DeviceNow}
 use Rattle.vd_ring.specs.declared.device.DeviceNow.TheVariants.{Idle, Taking}
 use Rattle.vd_ring.specs.declared.device.DeviceView.{DeviceView}
 use Rattle.vd_ring.specs.DeviceSteps.{Did}
-use Rattle.vd_ring.specs.History.{offers, takes, gives, heads, running, taken_head, head, chain, chain_at, given, entry, last_used}
+use Rattle.vd_ring.specs.History.{offers, takes, heads, running, taken_head, head, chain, chain_at, given, entry, last_used}
 use Rattle.vd_ring.specs.Lists.{Lists, Rested}
 use Rattle.vd_packed_ring.specs.PackedWords.{width, second_word, used_word, len_of, id_of, is_available}
 use Rattle.vd_packed_ring.specs.PackedChains.{is_whole, chain_of}

@@ -7,7 +7,7 @@ use Rattle.vd_ring.specs.declared.device.DeviceDone.{DeviceDone}
 use Rattle.vd_ring.specs.declared.device.DeviceDone.TheVariants.{StoreAck, LoadCommand}
 use Rattle.vd_ring.specs.declared.device.DeviceNow.TheVariants.{Idle}
 use Rattle.vd_ring.specs.declared.device.DeviceView.{DeviceView}
-use Rattle.vd_ring.specs.History.{offers, running, open_at, taken_head, head, with_head}
+use Rattle.vd_ring.specs.History.{offers, running, open_at, taken_head, with_head}
 use Rattle.vd_ring.specs.Control.{LoadsCommand, StoresAck, command_of}
 use Rattle.vd_ring.proofs.Counts.{occurs_from, Contains_from, with_head_is}
 use Rattle.vd_ring.proofs.DeviceLists.{running_below, running_open, running_head, same_taken_head, lists_commanded, lists_acked}

@@ -19,7 +19,7 @@ use Rattle.vd_ring.proofs.ControlSteps.{next_free, commands_stored, commands_loa
 use Rattle.vd_packed_ring.specs.PackedWords.{width, driver_event, kick_at, commands_from, command_word, ack_word}
 use Rattle.vd_packed_ring.specs.PackedPositions.{opos, tpos, made_at, mark_at, second_at}
 use Rattle.vd_packed_ring.specs.PackedDriver.{driver_commands, driver_acks}
-use Rattle.vd_packed_ring.specs.PackedRing.{Ring, Row, DeviceDoing, Loads}
+use Rattle.vd_packed_ring.specs.PackedRing.{Ring, DeviceDoing, Loads}
 use Rattle.vd_packed_ring.proofs.Areas.{areas, acks_follow, driver_stores, drivers_inside, commands_apart, command_drivers}
 use Rattle.vd_packed_ring.proofs.Rows.{row_same, row_elsewhere}
 use Rattle.vd_packed_ring.proofs.Spelled.{table_stands}

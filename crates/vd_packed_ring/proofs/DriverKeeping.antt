@@ -1,5 +1,5 @@
 -- Each access of the driver that is next keeps the ring invariant, and its answer tells what the view says.
-use Rattle.std.proofs.Common.{◌≡◌, ℕ, ◌+◌, ◌%◌, ◌≤◌, Bool, List, [], ◌∷◌, ◌++◌, length, if◌then◌else◌, slice_index, slice_set, refl, sym, ap, ◌∙◌, subst, arith, inl, inr}
+use Rattle.std.proofs.Common.{◌≡◌, ℕ, Bool, List, [], ◌∷◌, ◌++◌, if◌then◌else◌, slice_index, slice_set, refl, sym, ap, ◌∙◌, subst, arith, inl, inr}
 use Rattle.std.proofs.lemmas.Bool.{eq-eqb, ne_eqb}
 use Rattle.std.proofs.lemmas.List.Elements.{All-nil}
 use Rattle.vd_words.specs.declared.access.Access.{Access}
@@ -16,7 +16,7 @@ use Rattle.vd_ring.specs.Control.{LoadsAck}
 use Rattle.vd_ring.proofs.HeldInside.{head_low}
 use Rattle.vd_packed_ring.specs.PackedWords.{ack_word, second_word, put}
 use Rattle.vd_packed_ring.specs.PackedPositions.{opos, cpos}
-use Rattle.vd_packed_ring.specs.PackedDriver.{DriverNextAt, DriverNext, DriverKnows, Publishes, stores, driver_offers}
+use Rattle.vd_packed_ring.specs.PackedDriver.{DriverNextAt, DriverNext, DriverKnows, stores, driver_offers}
 use Rattle.vd_packed_ring.specs.PackedDriverLaws.{DriverKeeps}
 use Rattle.vd_packed_ring.specs.PackedRing.{Ring, Stages}
 use Rattle.vd_packed_ring.proofs.Areas.{areas, devices_inside, ack_devices, second_inside}

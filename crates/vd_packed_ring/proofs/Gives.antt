@@ -1,6 +1,5 @@
 -- The device's give and rest keep the ring invariant.
 use Rattle.std.proofs.Common.{◌≡◌, ◌≢◌, ℕ, ◌+◌, ◌*◌, ◌%◌, ◌<◌, ◌≤◌, List, [], ◌∷◌, ◌++◌, length, take, slice_index, slice_set, Option, Some, None, refl, sym, ap, ◌∙◌, subst, arith}
-use Rattle.std.specs.List.{All, Contains, sum_by}
 use Rattle.std.proofs.lemmas.List.{length-take-le}
 use Rattle.std.proofs.lemmas.List.Elements.{All-push}
 use Rattle.vd_model.specs.Chains.{needs}
@@ -12,20 +11,20 @@ use Rattle.vd_ring.specs.declared.device.DeviceDone.{DeviceDone}
 use Rattle.vd_ring.specs.declared.device.DeviceDone.TheVariants.{Give, Rest}
 use Rattle.vd_ring.specs.declared.device.DeviceNow.TheVariants.{Idle}
 use Rattle.vd_ring.specs.declared.device.DeviceView.{DeviceView}
-use Rattle.vd_ring.specs.History.{offers, takes, gives, running, running_size, taken_head, with_head, head, chain, chain_at, given, batch, entry, occurs, last_used, IsWhole}
+use Rattle.vd_ring.specs.History.{takes, gives, running, running_size, taken_head, with_head, head, chain, chain_at, given, batch, entry, IsWhole}
 use Rattle.vd_ring.proofs.Counts.{occurs_from, with_head_is}
 use Rattle.vd_ring.proofs.HeldPlaces.{chain_fits}
 use Rattle.vd_ring.proofs.ListSteps.{batch_one}
 use Rattle.vd_ring.proofs.DeviceLists.{running_below, running_head, same_taken_head, lists_given, lists_rested}
 use Rattle.vd_ring.proofs.DeviceAcks.{acks_given, acks_rested, acks_elsewhere}
 use Rattle.vd_packed_ring.specs.PackedWords.{width, device_event, call_at, ack_word, second_word, len_of, id_of, used_word}
-use Rattle.vd_packed_ring.specs.PackedPositions.{opos, cpos, tpos, upos, made_at, mark_at, marks, stands, second_at}
+use Rattle.vd_packed_ring.specs.PackedPositions.{opos, upos, made_at, marks, stands, second_at}
 use Rattle.vd_packed_ring.specs.PackedDevice.{Returns, device_gives, device_rests}
 use Rattle.vd_packed_ring.specs.PackedRing.{Ring, puts_of}
 use Rattle.vd_packed_ring.proofs.WordFacts.{used_id, used_len}
 use Rattle.vd_packed_ring.proofs.Areas.{areas, second_low, second_inside, device_second}
 use Rattle.vd_packed_ring.proofs.Rows.{row_same, row_over}
-use Rattle.vd_packed_ring.proofs.Positions.{Order, needs_some, order, upos_is, taken_chain, device_span, gives_below, upos_given}
+use Rattle.vd_packed_ring.proofs.Positions.{needs_some, order, upos_is, taken_chain, gives_below, upos_given}
 use Rattle.vd_packed_ring.proofs.Made.{length_marks, mark_new, mark_old}
 use Rattle.vd_packed_ring.proofs.Clear.{doing_clear, doing_other, signals_elsewhere}
 use Rattle.vd_packed_ring.proofs.DeviceParts.{ring_with}

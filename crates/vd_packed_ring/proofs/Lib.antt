@@ -23,3 +23,4 @@ pub mod Spelling
 pub mod DriverAnswers
 pub mod DeviceAnswers
 pub mod DeviceBagSteps
+mod Examples

@@ -1,12 +1,12 @@
 -- What stands at each position: the descriptors made available, and the used descriptors.
-use Rattle.std.proofs.Common.{◌≡◌, ◌≢◌, ℕ, zero, suc, ◌+◌, ◌-◌, ◌<◌, ◌≤◌, Bool, true, false, List, [], ◌∷◌, ◌++◌, length, take, replicate, nat_lt, if◌then◌else◌, slice_index_or, Option, Some, None, refl, sym, ap, ◌∙◌, subst, arith, inl, inr}
+use Rattle.std.proofs.Common.{◌≡◌, ◌≢◌, ℕ, zero, suc, ◌+◌, ◌-◌, ◌<◌, ◌≤◌, Bool, List, [], ◌∷◌, ◌++◌, length, take, replicate, if◌then◌else◌, slice_index_or, Option, Some, None, refl, sym, ap, ◌∙◌, subst, arith, inl, inr}
 use Rattle.std.specs.List.{All, sum_by}
 use Rattle.std.proofs.lemmas.Bool.{cases_eq, cases_lt, eq-eqb, ne_eqb}
-use Rattle.std.proofs.lemmas.List.{length-append, length_push, length-replicate, append-nil, get_or_append_left, get_or-append-add, get_or_push, get_or_past, take-append-le, take_all}
-use Rattle.std.proofs.lemmas.List.Sums.{sum_by-append, sum_by-cons, sum_by_push}
+use Rattle.std.proofs.lemmas.List.{length-append, length_push, length-replicate, get_or_append_left, get_or-append-add, get_or_push, get_or_past, take-append-le, take_all}
+use Rattle.std.proofs.lemmas.List.Sums.{sum_by-append, sum_by-cons}
 use Rattle.std.proofs.lemmas.List.Elements.{All-nil, All-head, All-append}
 use Rattle.vd_model.specs.declared.chain.Piece.{Piece}
-use Rattle.vd_model.specs.Chains.{IsPiece, needs}
+use Rattle.vd_model.specs.Chains.{needs}
 use Rattle.vd_ring.specs.declared.frame.Frame.{Frame}
 use Rattle.vd_ring.specs.declared.frame.Used.{Used}
 use Rattle.vd_ring.specs.declared.driver.DriverDone.{DriverDone}
@@ -15,15 +15,15 @@ use Rattle.vd_ring.specs.declared.device.DeviceDone.{DeviceDone}
 use Rattle.vd_ring.specs.declared.device.DeviceDone.TheVariants.{Take, Give, Rest, StoreAck, LoadCommand}
 use Rattle.vd_ring.specs.Frames.{lent}
 use Rattle.vd_ring.specs.Frames.{Fits as FitsRing}
-use Rattle.vd_ring.specs.History.{offers, collects, takes, gives, held, free, head, next_head, chain, first, last_used, used_at, entry}
-use Rattle.vd_ring.specs.Lists.{Lists, AreGives, entry_at}
-use Rattle.vd_ring.proofs.HeldInside.{head_low, next_low}
+use Rattle.vd_ring.specs.History.{offers, gives, held, free, head, next_head, chain, first, last_used}
+use Rattle.vd_ring.specs.Lists.{AreGives, entry_at}
+use Rattle.vd_ring.proofs.HeldInside.{next_low}
 use Rattle.vd_ring.proofs.ListSteps.{some_same, entry_is}
-use Rattle.vd_packed_ring.specs.PackedWords.{IsLawful, IsBuilt, used_word}
-use Rattle.vd_packed_ring.specs.PackedChains.{Descriptor, blank, direct, descriptors, avail_word}
-use Rattle.vd_packed_ring.specs.PackedPositions.{start, opos, cpos, upos, made, made_at, block, marks, mark_at, stands, second_at}
+use Rattle.vd_packed_ring.specs.PackedWords.{IsLawful, IsBuilt}
+use Rattle.vd_packed_ring.specs.PackedChains.{Descriptor, blank, direct, descriptors}
+use Rattle.vd_packed_ring.specs.PackedPositions.{start, opos, made, made_at, block, marks}
 use Rattle.vd_packed_ring.proofs.WordFacts.{Fits}
-use Rattle.vd_packed_ring.proofs.Plans.{all_left, all_right, all_are}
+use Rattle.vd_packed_ring.proofs.Plans.{all_left, all_right}
 use Rattle.vd_packed_ring.proofs.Spelled.{needs_pieces, lent_one, descriptors_is, length_direct, direct_fits}
 use Rattle.vd_packed_ring.proofs.Positions.{opos_offered}
 

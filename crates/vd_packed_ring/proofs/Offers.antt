@@ -1,7 +1,7 @@
 -- The stores of an offer keep the ring invariant.
 use Rattle.std.proofs.Common.{◌≡◌, ◌≢◌, ℕ, ◌+◌, ◌*◌, ◌%◌, ◌<◌, ◌≤◌, List, [], ◌∷◌, ◌++◌, length, take, slice_index, slice_index_or, slice_set, Option, Some, None, refl, sym, ap, ◌∙◌, subst, arith, inl, inr}
 use Rattle.std.specs.List.{All}
-use Rattle.std.proofs.lemmas.List.{length_push, get_or-set_same, get_or-set_other, get_or_default}
+use Rattle.std.proofs.lemmas.List.{length_push, get_or-set_same, get_or_default}
 use Rattle.std.proofs.lemmas.List.Elements.{All-nil, All-cons, All-append}
 use Rattle.vd_model.specs.declared.chain.Piece.{Piece}
 use Rattle.vd_model.specs.Chains.{needs}
@@ -18,7 +18,7 @@ use Rattle.vd_ring.specs.declared.device.DeviceNow.{DeviceNow}
 use Rattle.vd_ring.specs.declared.device.DeviceNow.TheVariants as device
 use Rattle.vd_ring.specs.declared.device.DeviceView.{DeviceView}
 use Rattle.vd_ring.specs.Frames.{lent}
-use Rattle.vd_ring.specs.History.{offers, collects, takes, gives, free, head, next_head, chain, used_at, entry}
+use Rattle.vd_ring.specs.History.{offers, takes, gives, free, head, next_head, chain, used_at, entry}
 use Rattle.vd_ring.specs.Places.{Places}
 use Rattle.vd_ring.specs.Lists.{Lists}
 use Rattle.vd_ring.proofs.HeldPlaces.{offer_places, chain_before}
@@ -34,9 +34,9 @@ use Rattle.vd_packed_ring.proofs.Areas.{areas, second_low, driver_second}
 use Rattle.vd_packed_ring.proofs.Plans.{IsStored, IsWithin, IsNext, is_next, Stands, all_are, staged_stored, staged_before, stand_other, described_stand, staged_all, within_from, within_apart, publishing_within, publishing_apart}
 use Rattle.vd_packed_ring.proofs.Rows.{row_staged, row_published}
 use Rattle.vd_packed_ring.proofs.Spelled.{needs_pieces, lent_one, table_stands, publishing_is, staged_is, length_direct, staged_back}
-use Rattle.vd_packed_ring.proofs.Positions.{needs_some, order, free_some, opos_offered, cpos_offered, upos_is}
+use Rattle.vd_packed_ring.proofs.Positions.{order, free_some, opos_offered, cpos_offered, upos_is}
 use Rattle.vd_packed_ring.proofs.Made.{made_before, made_new, IsMark, marks_are, marks_same, mark_past}
-use Rattle.vd_packed_ring.proofs.Clear.{plan_is, stored_all, room_pieces, stored_words, signals_elsewhere}
+use Rattle.vd_packed_ring.proofs.Clear.{plan_is, room_pieces, stored_words, signals_elsewhere}
 
 -- ---- a store before the last
 

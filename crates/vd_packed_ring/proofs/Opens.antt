@@ -1,11 +1,11 @@
 -- A fresh ring meets the ring invariant.
-use Rattle.std.proofs.Common.{◌≡◌, ℕ, ◌+◌, ◌*◌, ◌%◌, ◌<◌, length, replicate, slice_index, refl, sym, ap, arith}
+use Rattle.std.proofs.Common.{◌≡◌, ℕ, ◌+◌, ◌*◌, ◌<◌, length, replicate, slice_index, refl, sym, arith}
 use Rattle.std.proofs.lemmas.List.{length-replicate, get_or-replicate}
 use Rattle.std.proofs.lemmas.List.Elements.{All-nil}
 use Rattle.vd_ring.specs.declared.frame.Frame.{Frame}
 use Rattle.vd_ring.specs.Frames.{Fits}
 use Rattle.vd_ring.proofs.Counts.{one_above, length_upto, occurs_upto}
-use Rattle.vd_packed_ring.specs.PackedWords.{IsLawful, IsBuilt, width, driver_event, device_event, kick_at, call_at, command_word, ack_word}
+use Rattle.vd_packed_ring.specs.PackedWords.{IsLawful, IsBuilt, width, kick_at, call_at, command_word, ack_word}
 use Rattle.vd_packed_ring.specs.PackedLaws.{IsFresh}
 use Rattle.vd_packed_ring.proofs.Areas.{areas, drivers_inside, devices_inside, command_drivers, ack_devices}
 

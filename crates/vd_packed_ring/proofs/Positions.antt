@@ -1,6 +1,6 @@
 -- Sums of descriptors: how the four positions lie to each other.
-use Rattle.std.proofs.Common.{◌≡◌, ℕ, zero, suc, ◌+◌, ◌-◌, ◌<◌, ◌≤◌, Bool, true, false, List, [], ◌∷◌, ◌++◌, length, take, drop, nat_lt, if◌then◌else◌, slice_index_or, refl, sym, ap, ◌∙◌, subst, arith, inl, inr}
-use Rattle.std.specs.List.{All, sum_by}
+use Rattle.std.proofs.Common.{◌≡◌, ℕ, zero, suc, ◌+◌, ◌<◌, ◌≤◌, Bool, true, false, List, [], ◌∷◌, ◌++◌, length, take, drop, nat_lt, if◌then◌else◌, refl, sym, ap, ◌∙◌, arith, inl, inr}
+use Rattle.std.specs.List.{sum_by}
 use Rattle.std.proofs.lemmas.Bool.{cases_lt}
 use Rattle.std.proofs.lemmas.List.{length-append, length_push, length-take-le, take-append-drop, get_or_append_left, get_or_push, get_or-take}
 use Rattle.std.proofs.lemmas.List.Sums.{sum_by-append, sum_by-cons, sum_by_push}
@@ -11,13 +11,13 @@ use Rattle.vd_ring.specs.declared.frame.Used.{Used}
 use Rattle.vd_ring.specs.declared.driver.DriverDone.{DriverDone}
 use Rattle.vd_ring.specs.declared.driver.DriverDone.TheVariants.{Offer, Collect}
 use Rattle.vd_ring.specs.declared.device.DeviceDone.{DeviceDone}
-use Rattle.vd_ring.specs.declared.device.DeviceDone.TheVariants.{Take, Give, Rest}
+use Rattle.vd_ring.specs.declared.device.DeviceDone.TheVariants.{Give}
 use Rattle.vd_ring.specs.Frames.{Fits, lent}
-use Rattle.vd_ring.specs.History.{offers, collects, takes, gives, running, running_size, open_at, open_size, free, chain, chain_at, numbers, occurs, upto, used_at, entry, IsWhole}
+use Rattle.vd_ring.specs.History.{offers, collects, takes, gives, running, running_size, open_at, open_size, free, chain, chain_at, numbers, occurs, upto, used_at}
 use Rattle.vd_ring.specs.Places.{Places}
 use Rattle.vd_ring.specs.Lists.{Lists}
-use Rattle.vd_ring.proofs.Counts.{one_small, one_below, one_above, occurs-append, occurs_upto, occurs_some, sum_same, sum_within, sum_at_least, sum_one, length_upto}
-use Rattle.vd_ring.proofs.HeldPlaces.{open_below, chain_fits, chain_before, chain_new}
+use Rattle.vd_ring.proofs.Counts.{one_above, occurs-append, occurs_upto, sum_same, sum_within, sum_at_least, sum_one}
+use Rattle.vd_ring.proofs.HeldPlaces.{open_below, chain_fits, chain_before}
 use Rattle.vd_ring.proofs.ListSteps.{given_below, number_in}
 use Rattle.vd_packed_ring.specs.PackedWords.{IsLawful}
 use Rattle.vd_packed_ring.specs.PackedPositions.{opos, cpos, tpos, upos, start}

@@ -1,5 +1,5 @@
 -- What the words of a chain spell, without INDIRECT_DESC: each chain stands in descriptors of the ring.
-use Rattle.std.proofs.Common.{◌≡◌, ◌≢◌, ℕ, zero, suc, ◌+◌, ◌-◌, ◌*◌, ◌^◌, ◌<◌, ◌≤◌, ◌==◌, ◌&&◌, nat_lt, Bool, true, false, not, List, [], ◌∷◌, ◌++◌, length, take, drop, if◌then◌else◌, slice_index, slice_index_or, refl, sym, ap, ◌∙◌, subst, arith}
+use Rattle.std.proofs.Common.{◌≡◌, ℕ, zero, suc, ◌+◌, ◌-◌, ◌*◌, ◌<◌, ◌≤◌, ◌==◌, ◌&&◌, nat_lt, Bool, true, false, not, List, [], ◌∷◌, ◌++◌, length, take, drop, if◌then◌else◌, slice_index, slice_index_or, refl, sym, ap, ◌∙◌, subst, arith}
 use Rattle.std.specs.List.{All}
 use Rattle.std.proofs.lemmas.List.{map-append, take_more, append-nil}
 use Rattle.std.proofs.lemmas.List.Elements.{All-nil, All-cons, All-head, All-tail}
@@ -10,7 +10,7 @@ use Rattle.vd_ring.specs.declared.frame.Put.{Put}
 use Rattle.vd_ring.specs.Frames.{lent}
 use Rattle.vd_packed_ring.specs.PackedWords.{IsLawful, IsBuilt, addr_word, second_word, put, words_of, len_of, id_of, goes_on, is_write, names_table, Stand}
 use Rattle.vd_packed_ring.specs.PackedChains.{Descriptor, blank, avail_word, more, flags, direct, is_tabled, pointer, descriptors, tabled, table, staged, described, publishing, loaded, spelling, reading, piece_of, pieces_of, pieces_in, ends, following, has_table, table_words, loaded_head, is_whole, chain_of, cursor, staged_pieces, staged_chain}
-use Rattle.vd_packed_ring.proofs.WordFacts.{Fits, bit, write_bit, avail_len, avail_id, avail_flags}
+use Rattle.vd_packed_ring.proofs.WordFacts.{Fits, bit, write_bit, avail_len, avail_flags}
 use Rattle.vd_packed_ring.proofs.Plans.{Stands}
 
 -- ---- without INDIRECT_DESC

@@ -13,8 +13,8 @@ use Rattle.vd_ring.specs.declared.device.DeviceDone.{DeviceDone}
 use Rattle.vd_ring.specs.declared.device.DeviceView.{DeviceView}
 use Rattle.vd_ring.specs.History.{offers, takes, head, chain}
 use Rattle.vd_packed_ring.specs.PackedWords.{addr_word, second_word, Stand}
-use Rattle.vd_packed_ring.specs.PackedChains.{Descriptor, blank, avail_word, direct, descriptors, described, Spells}
-use Rattle.vd_packed_ring.specs.PackedPositions.{opos, cpos, tpos, upos, start, made_at, mark_at, stands, second_at}
+use Rattle.vd_packed_ring.specs.PackedChains.{Descriptor, blank, avail_word, direct, described, Spells}
+use Rattle.vd_packed_ring.specs.PackedPositions.{opos, upos, start, made_at, mark_at, stands}
 use Rattle.vd_packed_ring.specs.PackedRing.{Ring}
 use Rattle.vd_packed_ring.proofs.Plans.{described_from}
 use Rattle.vd_packed_ring.proofs.Spelled.{needs_pieces, descriptors_is, table_stands, length_direct}

@@ -1,9 +1,9 @@
 -- The loads of a take keep the ring invariant, and find the next chain exactly where there is one.
-use Rattle.std.proofs.Common.{◌≡◌, ◌≢◌, ℕ, ◌+◌, ◌*◌, ◌%◌, ◌<◌, ◌≤◌, Bool, true, false, List, [], ◌∷◌, ◌++◌, length, take, if◌then◌else◌, slice_index, slice_index_or, Option, Some, None, refl, sym, ap, ◌∙◌, subst, arith, inl, inr}
-use Rattle.std.specs.List.{All, Contains, sum_by}
+use Rattle.std.proofs.Common.{◌≡◌, ℕ, ◌+◌, ◌*◌, ◌%◌, ◌<◌, ◌≤◌, Bool, true, false, List, [], ◌∷◌, ◌++◌, length, take, if◌then◌else◌, slice_index, slice_index_or, Option, None, refl, sym, ap, ◌∙◌, subst, arith, inl, inr}
+use Rattle.std.specs.List.{All, sum_by}
 use Rattle.std.proofs.lemmas.Bool.{cases_lt}
 use Rattle.std.proofs.lemmas.Nat.{mod_below}
-use Rattle.std.proofs.lemmas.List.{length_push, take_all, length-map, length-take-le}
+use Rattle.std.proofs.lemmas.List.{length_push, take_all}
 use Rattle.std.proofs.lemmas.List.Sums.{sum_by_push}
 use Rattle.vd_model.specs.declared.chain.Piece.{Piece}
 use Rattle.vd_model.specs.Chains.{needs, IsPiece}
@@ -13,25 +13,24 @@ use Rattle.vd_ring.specs.declared.driver.DriverDone.{DriverDone}
 use Rattle.vd_ring.specs.declared.driver.DriverView.{DriverView}
 use Rattle.vd_ring.specs.declared.device.DeviceDone.{DeviceDone}
 use Rattle.vd_ring.specs.declared.device.DeviceDone.TheVariants.{Take}
-use Rattle.vd_ring.specs.declared.device.DeviceNow.{DeviceNow}
 use Rattle.vd_ring.specs.declared.device.DeviceNow.TheVariants.{Idle, Taking}
 use Rattle.vd_ring.specs.declared.device.DeviceView.{DeviceView}
 use Rattle.vd_ring.specs.Frames.{Fits, limit}
-use Rattle.vd_ring.specs.History.{offers, takes, gives, open_at, running, taken_head, head, chain, occurs}
+use Rattle.vd_ring.specs.History.{offers, takes, running, head, chain}
 use Rattle.vd_ring.proofs.Counts.{occurs_from}
 use Rattle.vd_ring.proofs.HeldPlaces.{chain_fits, head_inside, same_head}
 use Rattle.vd_ring.proofs.DeviceLists.{next_taken_open, running_below, running_open, running_head, lists_taken, room_left}
 use Rattle.vd_ring.proofs.DeviceAcks.{acks_taken}
 use Rattle.vd_packed_ring.specs.PackedWords.{IsBuilt, addr_word, second_word, put, words_of, id_of, is_available, Stand, ack_word, command_word}
 use Rattle.vd_packed_ring.specs.PackedChains.{Descriptor, blank, avail_word, direct, loaded, reading, ends, following, pieces_in, loaded_head, is_whole, chain_of, cursor}
-use Rattle.vd_packed_ring.specs.PackedPositions.{start, opos, cpos, tpos, upos, made_at, mark_at, stands, second_at}
-use Rattle.vd_packed_ring.specs.PackedDevice.{IsNewHead, BeginsChain, device_looks, device_takes, device_loads}
+use Rattle.vd_packed_ring.specs.PackedPositions.{start, opos, tpos, made_at, mark_at, stands, second_at}
+use Rattle.vd_packed_ring.specs.PackedDevice.{BeginsChain, device_looks, device_takes, device_loads}
 use Rattle.vd_packed_ring.specs.PackedRing.{Ring, Loads}
 use Rattle.vd_packed_ring.proofs.WordFacts.{avail_shows, avail_id, zero_unavailable}
 use Rattle.vd_packed_ring.proofs.WordFacts.{Fits as FitsWord}
 use Rattle.vd_packed_ring.proofs.Rows.{row_same, row_ahead}
-use Rattle.vd_packed_ring.proofs.Spelled.{needs_pieces, reading_is, whole_is, chain_is, cursor_is, length_direct, direct_fits, direct_id, length_loaded, not_whole, whole, loaded_back, following_at, words_more, loaded_stand}
-use Rattle.vd_packed_ring.proofs.Positions.{needs_some, order, tpos_is, upos_is, takes_below}
+use Rattle.vd_packed_ring.proofs.Spelled.{needs_pieces, reading_is, whole_is, chain_is, cursor_is, length_direct, direct_fits, length_loaded, not_whole, whole, loaded_back, following_at, words_more, loaded_stand}
+use Rattle.vd_packed_ring.proofs.Positions.{order, tpos_is, upos_is, takes_below}
 use Rattle.vd_packed_ring.proofs.Made.{made_chain, mark_past}
 use Rattle.vd_packed_ring.proofs.Clear.{doing_clear, doing_ahead}
 use Rattle.vd_packed_ring.proofs.Collects.{old_unavailable}
