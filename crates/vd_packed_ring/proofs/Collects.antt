@@ -198,7 +198,7 @@ names_open f o s w l more n =
     record { number = u.number; is_open = Contains_from u.number (open_at o) n.here; is_head = sym n.is_id; in_order = λ on. l.in_order on (length (collects o)) more }
 
 abbrev pub Tells : DriverView → ℕ → Type 0
-Tells d w = (is_used d.frame.size (cpos d.frame d.done) w ≡ true → NamesOpen d.frame d.done (id_of w)) × (d.shown ≡ true → is_used d.frame.size (cpos d.frame d.done) w ≡ true)
+Tells d w = (is_used d.frame.size (cpos d.frame d.done) w ≡ true → NamesOpen d.frame d.done (id_of w)) × (d.shown ≡ true → is_used d.frame.size (cpos d.frame d.done) w ≡ true) × (cpos d.frame d.done < d.seen → is_used d.frame.size (cpos d.frame d.done) w ≡ true)
 
 pub looks : (ws : List ℕ) (d : DriverView) (e : DeviceView) (w : ℕ) → Ring ws (record d { doing = Idle }) e → w ≡ slice_index ws (second_word d.frame.size (cpos d.frame d.done)) → Ring ws (driver_looks (record d { doing = Idle }) w) e × Tells d w
 looks ws d e w r is =
@@ -207,7 +207,7 @@ looks ws d e w r is =
       | inl more ↦ (
           let n : Found f o s w = subst (Found f o s) (sym is) (found ws d e r more) in (
             subst (λ (b : Bool). Ring ws (if b then driver_collects (record d { doing = Idle }) w else record d { doing = Idle; seen = cpos f o; shown = false }) e) (sym n.shows) (collects_entry ws d e w r more n),
-            (λ on. names_open f o s w r.lists more n, λ h. n.shows),
+            (λ on. names_open f o s w r.lists more n, λ h. n.shows, λ h. n.shows),
           )
           )
       | inr none ↦ (
@@ -216,6 +216,7 @@ looks ws d e w r is =
             (
               λ on. absurd (let x : false ≡ true = sym off ∙ on in cc),
               λ h. absurd (omega (arith, r.driver_shown h, r.driver_seen, all_collected f o s r.lists none)),
+              λ h. absurd (omega (arith, r.driver_seen, all_collected f o s r.lists none)),
             ),
           )
           )

@@ -6,7 +6,7 @@ use Rattle.vd_ring.specs.declared.driver.DriverDone.TheVariants.{Offer, Collect}
 use Rattle.vd_ring.specs.declared.device.DeviceDone.TheVariants.{Take, Give}
 use Rattle.vd_ring.specs.declared.frame.Frame.{Frame}
 use Rattle.vd_ring.specs.History.{entry, head, given, collected}
-use Rattle.vd_packed_ring.specs.PackedWords.{width, table_of, put, words_of, used_word, event_word, is_used, is_available, id_of, len_of}
+use Rattle.vd_packed_ring.specs.PackedWords.{width, table_of, put, words_of, used_word, event_word, base_at, is_base, is_used, is_available, id_of, len_of}
 use Rattle.vd_packed_ring.specs.PackedChains.{descriptors, described, spelling, publishing, reading, is_whole, chain_of, cursor, staged_chain}
 use Rattle.vd_packed_ring.specs.PackedPositions.{opos, upos}
 
@@ -130,3 +130,14 @@ tabled_cursor = refl
 
 tabled_staged : staged_chain (ring 4 true) (words_of (spelling (ring 4 true) 5 3 two)) 9224497949646520352 ≡ two
 tabled_staged = refl
+
+-- ---- bases: 0x80008000 of a fresh ring, 0x00010001 at position 4 of a ring of three
+
+fresh_base : base_at 3 0 ≡ 2147516416
+fresh_base = refl
+
+later_base : base_at 3 4 ≡ 65537
+later_base = refl
+
+not_of_three : is_base 3 196608 ≡ false
+not_of_three = refl

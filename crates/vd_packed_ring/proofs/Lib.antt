@@ -9,7 +9,7 @@ pub mod Clear
 pub mod Offers
 pub mod Collects
 pub mod DriverControls
-pub mod DriverKeeping
+pub mod DriverKeeps
 pub mod DeviceParts
 pub mod Takes
 pub mod Gives

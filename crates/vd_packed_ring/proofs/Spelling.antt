@@ -1,13 +1,14 @@
 -- Each chain whose position is not behind what was given is spelled there.
-use Rattle.std.proofs.Common.{◌≡◌, ℕ, ◌+◌, ◌*◌, ◌%◌, ◌<◌, ◌≤◌, List, length, take, slice_index, slice_index_or, Option, None, refl, sym, ap, ◌∙◌, subst, arith, inl}
+use Rattle.std.proofs.Common.{◌≡◌, ℕ, ◌+◌, ◌*◌, ◌%◌, ◌<◌, ◌≤◌, List, [], ◌∷◌, length, take, slice_index, slice_index_or, Option, None, refl, sym, ap, ◌∙◌, subst, arith, inl}
 use Rattle.std.specs.List.{sum_by}
 use Rattle.std.proofs.lemmas.Nat.{mod_below}
-use Rattle.std.proofs.lemmas.List.{take-append-drop, take-take}
+use Rattle.std.proofs.lemmas.List.{take-append-le, take_all, take-append-drop, take-take}
 use Rattle.std.proofs.lemmas.List.Sums.{sum_by-append}
 use Rattle.vd_model.specs.declared.chain.Piece.{Piece}
 use Rattle.vd_model.specs.Chains.{needs}
 use Rattle.vd_ring.specs.declared.frame.Frame.{Frame}
 use Rattle.vd_ring.specs.declared.driver.DriverDone.{DriverDone}
+use Rattle.vd_ring.specs.declared.driver.DriverDone.TheVariants.{Offer}
 use Rattle.vd_ring.specs.declared.driver.DriverView.{DriverView}
 use Rattle.vd_ring.specs.declared.device.DeviceDone.{DeviceDone}
 use Rattle.vd_ring.specs.declared.device.DeviceView.{DeviceView}
@@ -60,3 +61,7 @@ pub spells_untaken : (ws : List ℕ) (d : DriverView) (e : DeviceView) (k : ℕ)
 spells_untaken ws d e k r low more =
     let ord = order d.frame d.done e.done r.places r.lists in
     spells ws d e k r more (omega (arith, ord.given, tpos_is d.frame d.done e.done r.lists, start_grows d.frame d.done (length (takes e.done)) k low))
+
+-- the chain offered last begins where the driver was
+pub start_last : (f : Frame) (o : List DriverDone) (c : List Piece) → start f (Offer c ∷ o) (length (offers o)) ≡ opos f o
+start_last f o c = ap (sum_by (needs f.features)) (take-append-le (length (offers o)) (offers o) (c ∷ []) (omega arith) ∙ take_all (length (offers o)) (offers o) (omega arith))

@@ -189,7 +189,7 @@ shows_next ws d e r more =
     (first_word f.size (tpos f e.done) (head f d.done k) (chain d.done k) (slice_index ws (second_word f.size (tpos f e.done)) ∷ []) a.small a.fits.chain.3 a.fits.chain.0 (omega arith) (next_word ws d e r more)).1
 
 abbrev pub LookTells : DriverView → DeviceView → ℕ → Type 0
-LookTells d e w = (is_available d.frame.size (tpos d.frame e.done) w ≡ true → (length (takes e.done) < limit d.frame) × BeginsChain d.frame e.done (w ∷ [])) × (e.shown ≡ true → is_available d.frame.size (tpos d.frame e.done) w ≡ true)
+LookTells d e w = (is_available d.frame.size (tpos d.frame e.done) w ≡ true → (length (takes e.done) < limit d.frame) × BeginsChain d.frame e.done (w ∷ [])) × (e.shown ≡ true → is_available d.frame.size (tpos d.frame e.done) w ≡ true) × (tpos d.frame e.done < e.seen → is_available d.frame.size (tpos d.frame e.done) w ≡ true)
 
 pub looks : (ws : List ℕ) (d : DriverView) (e : DeviceView) (w : ℕ) → Ring ws d (record e { frame = d.frame; doing = Idle }) → w ≡ slice_index ws (second_word d.frame.size (tpos d.frame e.done)) → Ring ws d (device_looks (record e { frame = d.frame; doing = Idle }) w) × LookTells d e w
 looks ws d e w r is =
@@ -224,7 +224,7 @@ looks ws d e w r is =
               device_shown = λ h. omega arith;
               rested = r.rested;
             }),
-            (λ on. (omega (arith, r.places.limited), b.0), λ h. shows),
+            (λ on. (omega (arith, r.places.limited), b.0), λ h. shows, λ h. shows),
           )
           )
       | inr none ↦ (
@@ -248,6 +248,7 @@ looks ws d e w r is =
             (
               λ on. absurd (let x : false ≡ true = sym off ∙ on in cc),
               λ h. absurd (omega (arith, r.device_shown h, r.device_seen, no.0)),
+              λ h. absurd (omega (arith, r.device_seen, no.0)),
             ),
           )
           )

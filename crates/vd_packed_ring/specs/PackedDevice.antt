@@ -131,10 +131,12 @@ pub record BeginsChain (f : Frame) (s : List DeviceDone) (ws : List ℕ) : Type 
   -- it and the chains taken and not given are no more descriptors than places
   pub room : running_size f s + needs f.features chain ≤ f.size
 
+-- a look shows a chain before a position seen
 abbrev pub DeviceTellsAt : DeviceNow → DeviceView → Op → Access → ℕ → Type 0
 DeviceTellsAt Idle v op.Take (Load p) r =
     (is_available v.frame.size (tpos v.frame v.done) r ≡ true → (length (takes v.done) < limit v.frame) × BeginsChain v.frame v.done (r ∷ []))
     × (v.shown ≡ true → is_available v.frame.size (tpos v.frame v.done) r ≡ true)
+    × (tpos v.frame v.done < v.seen → is_available v.frame.size (tpos v.frame v.done) r ≡ true)
 DeviceTellsAt (Taking (w ∷ ws)) v op.Take (Load p) r = BeginsChain v.frame v.done (w ∷ ws ++ r ∷ [])
 DeviceTellsAt _ _ _ _ _ = Unit {0}
 

@@ -127,10 +127,12 @@ pub record NamesOpen (f : Frame) (o : List DriverDone) (id : ℕ) : Type 0 where
   pub is_head : head f o number ≡ id
   pub in_order : f.features.in_order ≡ true → number ≡ length (collects o)
 
+-- a look shows an entry before a position seen
 abbrev pub DriverTellsAt : DriverNow → DriverView → Op → Access → ℕ → Type 0
 DriverTellsAt Idle v op.Collect (Load p) r =
     (is_used v.frame.size (cpos v.frame v.done) r ≡ true → NamesOpen v.frame v.done (id_of r))
     × (v.shown ≡ true → is_used v.frame.size (cpos v.frame v.done) r ≡ true)
+    × (cpos v.frame v.done < v.seen → is_used v.frame.size (cpos v.frame v.done) r ≡ true)
 DriverTellsAt _ _ _ _ _ = Unit {0}
 
 -- a load of a word that only the driver stores answers what it stored there last

@@ -1,6 +1,7 @@
 -- The positions of a packed ring, and what stands at each, by the acts of its two sides.
 use Rattle.std.specs.Prelude.{ℕ, zero, suc, List, [], ◌∷◌, ◌++◌, take, replicate, Option, Some, None, slice_index_or}
 use Rattle.std.specs.List.{sum_by}
+use Rattle.vd_model.specs.declared.chain.Piece.{Piece}
 use Rattle.vd_model.specs.Chains.{needs}
 use Rattle.vd_ring.specs.declared.frame.Frame.{Frame}
 use Rattle.vd_ring.specs.declared.frame.Used.{Used}
@@ -9,7 +10,7 @@ use Rattle.vd_ring.specs.declared.driver.DriverDone.TheVariants.{Offer, Collect,
 use Rattle.vd_ring.specs.declared.device.DeviceDone.{DeviceDone}
 use Rattle.vd_ring.specs.declared.device.DeviceDone.TheVariants.{Take, Give, Rest, StoreAck, LoadCommand}
 use Rattle.vd_ring.specs.History.{offers, collects, takes, gives, head, next_head, chain, chain_at, last_used}
-use Rattle.vd_packed_ring.specs.PackedWords.{used_word}
+use Rattle.vd_packed_ring.specs.PackedWords.{used_word, base_at}
 use Rattle.vd_packed_ring.specs.PackedChains.{Descriptor, blank, descriptors, avail_word}
 
 -- ---- the positions at which each side goes on: sums of descriptors of the chains offered, collected, taken and given
@@ -29,6 +30,10 @@ upos f s = sum_by (λ u. needs f.features (chain_at (takes s) u.number)) (gives 
 -- the position at which chain number k begins
 abbrev pub start : Frame → List DriverDone → ℕ → ℕ
 start f o k = sum_by (needs f.features) (take k (offers o))
+
+-- the base of a device at rest that has taken these chains
+abbrev pub base_of : Frame → List (List Piece) → ℕ
+base_of f cs = base_at f.size (sum_by (needs f.features) cs)
 
 -- ---- what stands at each position
 

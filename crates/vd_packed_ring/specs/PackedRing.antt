@@ -32,8 +32,8 @@ pub record Words (f : Frame) (ws driven served : List ℕ) : Type 0 where
 abbrev pub IsClear : List Put → ℕ → Type 0
 IsClear puts i = All (λ s. s.place ≢ i) puts
 
--- what stands in the words of a place, of its two words that with this half: what belongs to the greatest position with that place of
--- those below `top`, and 0 where there is none; but for the words that an offer in progress has stored
+-- one word of each place, by `half` 0 its address and by 1 its second word: it is what belongs to the greatest position with that place
+-- below `top`, and 0 where there is none; but for the words that an offer in progress has stored
 pub record Row (n half : ℕ) (ws : List ℕ) (top : ℕ) (puts : List Put) (cur : ℕ → ℕ) : Type 0 where
   pub kept : (q : ℕ) → q < top → top ≤ q + n → IsClear puts (2 * (q % n) + half) → slice_index ws (2 * (q % n) + half) ≡ cur q
   pub fresh : (p : ℕ) → p < n → top ≤ p → IsClear puts (2 * p + half) → slice_index ws (2 * p + half) ≡ 0

@@ -123,6 +123,16 @@ used_word n q id len = packed_word len id ((if nat_lt 0 len then 2 else 0) + 128
 abbrev pub event_word : ℕ → ℕ → ℕ
 event_word n q = q % n + 32768 * wrap_bit n q + 131072
 
+-- ---- the base of a ring at rest: bits 0 to 14 the available place, bit 15 its wrap, bits 16 to 30 the used place, bit 31 its wrap
+
+-- both are of one position
+abbrev pub base_at : ℕ → ℕ → ℕ
+base_at n q = 65537 * (q % n + 32768 * wrap_bit n q)
+
+-- both places are the ring's
+abbrev pub is_base : ℕ → ℕ → Bool
+is_base n b = nat_lt (b % 32768) n && nat_lt ((b / 65536) % 32768) n
+
 -- ---- words at places
 
 abbrev pub put : ℕ → ℕ → Put

@@ -1,5 +1,5 @@
 //! What always holds of a packed ring. These functions do nothing: their contracts are the laws.
-ghost use Rattle.std.specs.Prelude.{◌≡◌, ℕ, ◌+◌, ◌%◌, ◌<◌, ◌≤◌, List, length};
+ghost use Rattle.std.specs.Prelude.{◌≡◌, ℕ, ◌+◌, ◌%◌, ◌<◌, ◌≤◌, true, List, length};
 ghost use Rattle.vd_ring.specs.declared.device.DeviceView.{DeviceView};
 ghost use Rattle.vd_ring.specs.declared.driver.DriverView.{DriverView};
 ghost use Rattle.vd_ring.specs.declared.frame.Frame.{Frame};
@@ -8,7 +8,7 @@ ghost use Rattle.vd_packed_ring.specs.PackedChains.{Spells};
 ghost use Rattle.vd_packed_ring.specs.PackedLaws.{IsFresh, Agree, LooksShow};
 ghost use Rattle.vd_packed_ring.specs.PackedPositions.{upos, start};
 ghost use Rattle.vd_packed_ring.specs.PackedRing.{Ring};
-ghost use Rattle.vd_packed_ring.specs.PackedWords.{IsLawful, IsBuilt};
+ghost use Rattle.vd_packed_ring.specs.PackedWords.{IsLawful, IsBuilt, base_at, is_base};
 
 /// Words of 0 and the views of a fresh ring meet the ring invariant.
 pub fn fresh_law()
@@ -35,4 +35,10 @@ pub fn looks_law()
 /// Of the positions less than the size past what was collected, none with the place of a position that is not collected is past it.
 pub fn position_law()
     ensures { (n collected at other : ℕ) → 0 < n → collected ≤ at → other < collected + n → other % n ≡ at % n → other ≤ at }
+{}
+
+/// The base at any position is a lawful one, and that of a fresh ring is 0x80008000.
+pub fn base_law()
+    ensures lawful { (n q : ℕ) → 2 ≤ n → n ≤ 32768 → is_base n (base_at n q) ≡ true }
+    ensures fresh { (n : ℕ) → 2 ≤ n → base_at n 0 ≡ 2147516416 }
 {}

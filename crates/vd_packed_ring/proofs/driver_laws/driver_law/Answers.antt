@@ -1,4 +1,4 @@
-use Rattle.vd_packed_ring.proofs.DriverKeeping.{driver_keeps}
+use Rattle.vd_packed_ring.proofs.DriverKeeps.{driver_keeps}
 use Rattle.vd_packed_ring.proofs.driver_laws.driver_law.Goals as goal
 
 pub returns : goal.returns
