@@ -1,9 +1,7 @@
 -- The lists and positions of the two sides agree; what the two looks show; where each side stores.
-use Rattle.std.proofs.Common.{◌*◌, ◌/◌, ◌≡◌, ℕ, zero, suc, ◌+◌, ◌%◌, ◌<◌, ◌≤◌, Bool, true, false, List, [], ◌∷◌, ◌++◌, length, take, nat_lt, slice_index, slice_index_or, refl, sym, ap, ◌∙◌, subst, arith, inl, inr}
+use Rattle.std.proofs.Common.{◌≡◌, ℕ, zero, suc, ◌+◌, ◌%◌, ◌<◌, ◌≤◌, Bool, true, false, List, [], ◌∷◌, ◌++◌, length, take, nat_lt, slice_index, slice_index_or, refl, sym, ap, ◌∙◌, subst, arith, inl, inr}
 use Rattle.std.specs.List.{Contains}
-use Rattle.std.proofs.lemmas.Bool.{cases_lt, lt-ltb}
-use Rattle.std.proofs.lemmas.Nat.{mod_below}
-use native.Mathlib.Nat.{mod-eq_of_lt, div-eq_of_lt}
+use Rattle.std.proofs.lemmas.Bool.{cases_lt}
 use Rattle.std.proofs.lemmas.List.{length-map, get_or_append_left, get_or_push, get_or-take}
 use Rattle.std.proofs.lemmas.Grind.{same_number_lists}
 use Rattle.vd_model.specs.Chains.{needs}
@@ -26,7 +24,7 @@ use Rattle.vd_ring.proofs.Counts.{one_small, length_upto, occurs_from}
 use Rattle.vd_ring.proofs.HeldPlaces.{chain_fits}
 use Rattle.vd_ring.proofs.ListSteps.{given_below, given_within, number_at}
 use Rattle.vd_ring.proofs.DeviceLists.{running_below}
-use Rattle.vd_packed_ring.specs.PackedWords.{wrap_bit, base_at, is_base, IsLawful, IsBuilt, second_word, is_used, put}
+use Rattle.vd_packed_ring.specs.PackedWords.{IsLawful, IsBuilt, second_word, is_used, put}
 use Rattle.vd_packed_ring.specs.PackedPositions.{opos, cpos}
 use Rattle.vd_packed_ring.specs.PackedDriver.{Begins, Publishes, DriverNextAt, DriverNext}
 use Rattle.vd_packed_ring.specs.PackedDevice.{Returns, DeviceNextAt, DeviceNext}
@@ -38,7 +36,8 @@ use Rattle.vd_packed_ring.proofs.Plans.{IsStored}
 use Rattle.vd_packed_ring.proofs.Positions.{needs_some, order, taken_chain, device_span, gives_below}
 use Rattle.vd_packed_ring.proofs.Clear.{stored_all, room_pieces}
 use Rattle.vd_packed_ring.proofs.Collects.{shows_none, found}
-use Rattle.vd_packed_ring.proofs.Takes.{none_shows, shows_next}
+use Rattle.vd_packed_ring.proofs.Ahead.{none_shows}
+use Rattle.vd_packed_ring.proofs.Takes.{shows_next}
 
 upto_at : (n j : ℕ) → j < n → slice_index (upto n) j ≡ j
 upto_at zero j h = absurd (omega arith)
@@ -150,25 +149,3 @@ gives_behind e p x c h = behind_at e e.doing p x c h
 -- of the positions that the driver stores, none is past a position from what it collected on with the same place
 pub greatest : (n low u p : ℕ) → 0 < n → low ≤ u → p < low + n → p % n ≡ u % n → p ≤ u
 greatest n low u p pos a b same = elim (cases_lt u p) [ inl h ↦ absurd (places_differ n u p pos h (omega arith) (sym same)) | inr h ↦ h ]
-
--- ---- bases
-
-half_low : (n q : ℕ) → 0 < n → n ≤ 32768 → (q % n < n) × (wrap_bit n q ≤ 1)
-half_low n q pos few = (mod_below q n pos, omega arith)
-
-lower : (h w n : ℕ) → h < n → n ≤ 32768 → w ≤ 1 → (65537 * (h + 32768 * w)) % 32768 ≡ h
-lower h w n a b c = omega arith
-
-upper : (h w n : ℕ) → h < n → n ≤ 32768 → w ≤ 1 → ((65537 * (h + 32768 * w)) / 65536) % 32768 ≡ h
-upper h w n a b c = omega arith
-
--- the base at a position is one of the ring's
-pub lawful_base : (n q : ℕ) → 2 ≤ n → n ≤ 32768 → is_base n (base_at n q) ≡ true
-lawful_base n q least most =
-    let low = half_low n q (omega arith) most in
-    let a : nat_lt (base_at n q % 32768) n ≡ true = lt-ltb (base_at n q % 32768) n (omega (arith, lower (q % n) (wrap_bit n q) n low.0 most low.1, low.0)) in
-    let b : nat_lt ((base_at n q / 65536) % 32768) n ≡ true = lt-ltb ((base_at n q / 65536) % 32768) n (omega (arith, upper (q % n) (wrap_bit n q) n low.0 most low.1, low.0)) in
-    rw (a, b) refl
-
-pub fresh_base : (n : ℕ) → 2 ≤ n → base_at n 0 ≡ 2147516416
-fresh_base n least = let d : 0 / n ≡ 0 = div-eq_of_lt (let x : 0 < n = omega arith in x) in let m : 0 % n ≡ 0 = mod-eq_of_lt (let x : 0 < n = omega arith in x) in omega arith

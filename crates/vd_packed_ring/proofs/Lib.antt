@@ -11,12 +11,14 @@ pub mod Collects
 pub mod DriverControls
 pub mod DriverKeeps
 pub mod DeviceParts
+pub mod Ahead
 pub mod Takes
 pub mod Gives
 pub mod DeviceControls
 pub mod DeviceKeeping
 pub mod Opens
 pub mod Agreement
+pub mod Bases
 pub mod DriverViews
 pub mod DeviceViews
 pub mod Spelling

@@ -7,6 +7,7 @@ use Rattle.std.proofs.lemmas.List.Sums.{sum_by-append}
 use Rattle.vd_model.specs.declared.chain.Piece.{Piece}
 use Rattle.vd_model.specs.Chains.{needs}
 use Rattle.vd_ring.specs.declared.frame.Frame.{Frame}
+use Rattle.vd_ring.specs.declared.frame.Used.{Used}
 use Rattle.vd_ring.specs.declared.driver.DriverDone.{DriverDone}
 use Rattle.vd_ring.specs.declared.driver.DriverDone.TheVariants.{Offer}
 use Rattle.vd_ring.specs.declared.driver.DriverView.{DriverView}
@@ -15,7 +16,7 @@ use Rattle.vd_ring.specs.declared.device.DeviceView.{DeviceView}
 use Rattle.vd_ring.specs.History.{offers, takes, head, chain}
 use Rattle.vd_packed_ring.specs.PackedWords.{addr_word, second_word, Stand}
 use Rattle.vd_packed_ring.specs.PackedChains.{Descriptor, blank, avail_word, direct, described, Spells}
-use Rattle.vd_packed_ring.specs.PackedPositions.{opos, upos, start, made_at, mark_at, stands}
+use Rattle.vd_packed_ring.specs.PackedPositions.{cpos, opos, upos, start, made_at, mark_at, stands}
 use Rattle.vd_packed_ring.specs.PackedRing.{Ring}
 use Rattle.vd_packed_ring.proofs.Plans.{described_from}
 use Rattle.vd_packed_ring.proofs.Spelled.{needs_pieces, descriptors_is, table_stands, length_direct}
@@ -23,31 +24,37 @@ use Rattle.vd_packed_ring.proofs.Positions.{order, upos_is, tpos_is, takes_below
 use Rattle.vd_packed_ring.proofs.Made.{made_chain, mark_past}
 use Rattle.vd_packed_ring.proofs.Clear.{doing_clear}
 
-pub spells : (ws : List ℕ) (d : DriverView) (e : DeviceView) (k : ℕ) → Ring ws d e → k < length (offers d.done) → upos d.frame e.done ≤ start d.frame d.done k → Spells d.frame ws (start d.frame d.done k) (head d.frame d.done k) (chain d.done k)
-spells ws d e k r more past =
+-- its words stand
+pub words_stand : (ws : List ℕ) (d : DriverView) (e : DeviceView) (k j : ℕ) → Ring ws d e → k < length (offers d.done) → upos d.frame e.done ≤ start d.frame d.done k → j < length (chain d.done k)
+    → (slice_index ws (addr_word d.frame.size (start d.frame d.done k + j)) ≡ (slice_index_or (direct (head d.frame d.done k) (chain d.done k)) j blank).addr)
+    × (slice_index ws (second_word d.frame.size (start d.frame d.done k + j)) ≡ avail_word d.frame.size (start d.frame d.done k + j) (slice_index_or (direct (head d.frame d.done k) (chain d.done k)) j blank))
+words_stand ws d e k j r more past a =
     let f : Frame = d.frame in let o : List DriverDone = d.done in let s : List DeviceDone = e.done in
-    let n : ℕ = f.size in let c : List Piece = chain o k in let q0 : ℕ = start f o k in
+    let n : ℕ = f.size in let c : List Piece = chain o k in let q : ℕ = start f o k + j in
     let ds : List Descriptor = direct (head f o k) c in
     let pos : 0 < n = omega (arith, r.lawful.least) in
     let ord = order f o s r.places r.lists in
+    let below : q < opos f o = omega (arith, takes_below f o k more, needs_pieces f c r.built) in
+    let near : opos f o ≤ q + n = omega (arith, r.room, ord.collected) in
+    let behind : cpos f o ≤ q = omega (arith, ord.collected) in
+    let made_is : made_at f o q ≡ slice_index_or ds j blank = made_chain f o k j r.lawful r.built more a in
+    let low : 2 * (q % n) < 2 * n = omega (arith, mod_below q n pos) in
+    let even : (2 * (q % n)) % 2 ≡ 0 = omega arith in
+    let plain : addr_word n q ≡ 2 * (q % n) + 0 = omega arith in
+    let unmarked : mark_at f o s q ≡ None = mark_past (λ i. needs f.features (chain o i)) s q (omega (arith, upos_is f o s r.lists)) in (
+      r.words.drivers (addr_word n q) (inl (low, even))
+          ∙ (ap (λ (i : ℕ). slice_index d.stored i) plain ∙ (r.addresses.kept q below near (doing_clear d.doing f o ws q 0 r.lawful r.built r.driver_doing (omega arith) behind below) ∙ ap (λ (y : Descriptor). y.addr) made_is)),
+      r.seconds.kept q below near (doing_clear d.doing f o ws q 1 r.lawful r.built r.driver_doing (omega arith) behind below)
+          ∙ (ap (λ (m : Option Used). stands f o q (made_at f o q) m) unmarked ∙ ap (avail_word n q) made_is),
+    )
+
+pub spells : (ws : List ℕ) (d : DriverView) (e : DeviceView) (k : ℕ) → Ring ws d e → k < length (offers d.done) → upos d.frame e.done ≤ start d.frame d.done k → Spells d.frame ws (start d.frame d.done k) (head d.frame d.done k) (chain d.done k)
+spells ws d e k r more past =
+    let f : Frame = d.frame in let o : List DriverDone = d.done in let c : List Piece = chain o k in
+    let ds : List Descriptor = direct (head f o k) c in
     let len : length ds ≡ length c = length_direct (head f o k) c in
-    let ends_at : q0 + length c ≤ opos f o = omega (arith, takes_below f o k more, needs_pieces f c r.built) in
-    let made_is = λ (j : ℕ) (a : j < length c). made_chain f o k j r.lawful r.built more a in
-    let addr_is = λ (j : ℕ) (a : j < length c).
-    let low : 2 * ((q0 + j) % n) < 2 * n = omega (arith, mod_below (q0 + j) n pos) in
-    let even : (2 * ((q0 + j) % n)) % 2 ≡ 0 = omega arith in
-    let plain : addr_word n (q0 + j) ≡ 2 * ((q0 + j) % n) + 0 = omega arith in
-    let x : slice_index ws (addr_word n (q0 + j)) ≡ (slice_index_or ds j blank).addr =
-    r.words.drivers (addr_word n (q0 + j)) (inl (low, even))
-    ∙ (ap (λ (i : ℕ). slice_index d.stored i) plain ∙ (r.addresses.kept (q0 + j) (omega arith) (omega (arith, r.room, ord.collected)) (doing_clear d.doing f o ws (q0 + j) 0 r.lawful r.built r.driver_doing (omega arith) (omega (arith, ord.collected)) (omega arith))
-    ∙ ap (λ (y : Descriptor). y.addr) (made_is j a))) in x in
-    let second_is = λ (j : ℕ) (a : j < length c).
-    let unmarked : mark_at f o s (q0 + j) ≡ None = mark_past (λ i. needs f.features (chain o i)) s (q0 + j) (omega (arith, upos_is f o s r.lists)) in
-    let x : slice_index ws (second_word n (q0 + j)) ≡ avail_word n (q0 + j) (slice_index_or ds j blank) =
-    r.seconds.kept (q0 + j) (omega arith) (omega (arith, r.room, ord.collected)) (doing_clear d.doing f o ws (q0 + j) 1 r.lawful r.built r.driver_doing (omega arith) (omega (arith, ord.collected)) (omega arith))
-    ∙ (ap (λ (m : Option _). stands f o (q0 + j) (made_at f o (q0 + j)) m) unmarked ∙ ap (avail_word n (q0 + j)) (made_is j a)) in x in
     record {
-      ring = subst (λ (l : List Descriptor). Stand ws (described n q0 l)) (sym (descriptors_is f (head f o k) c r.built)) (described_from ws n q0 ds (λ j a. let b : j < length c = omega arith in (addr_is j b, second_is j b)));
+      ring = subst (λ (l : List Descriptor). Stand ws (described f.size (start f o k) l)) (sym (descriptors_is f (head f o k) c r.built)) (described_from ws f.size (start f o k) ds (λ j a. words_stand ws d e k j r more past (omega arith)));
       table = table_stands f ws (head f o k) c r.built;
     }
 

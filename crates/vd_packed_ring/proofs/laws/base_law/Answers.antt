@@ -1,4 +1,4 @@
-use Rattle.vd_packed_ring.proofs.Agreement.{lawful_base, fresh_base}
+use Rattle.vd_packed_ring.proofs.Bases.{lawful_base, fresh_base}
 use Rattle.vd_packed_ring.proofs.laws.base_law.Goals as goal
 
 pub returns-clause-lawful : goal.returns-clause-lawful
