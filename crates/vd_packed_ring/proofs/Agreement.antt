@@ -1,8 +1,7 @@
 -- The lists and positions of the two sides agree; what the two looks show; where each side stores.
-use Rattle.std.proofs.Common.{◌≡◌, ℕ, zero, suc, ◌+◌, ◌%◌, ◌<◌, ◌≤◌, Bool, true, false, List, [], ◌∷◌, ◌++◌, length, take, nat_lt, slice_index, slice_index_or, refl, sym, ap, ◌∙◌, subst, arith, inl, inr}
-use Rattle.std.specs.List.{Contains}
+use Rattle.std.proofs.Common.{◌↔◌, ◌≡◌, ℕ, zero, suc, ◌+◌, ◌%◌, ◌<◌, ◌≤◌, Bool, true, false, List, [], ◌∷◌, ◌++◌, length, take, nat_lt, slice_index, slice_index_or, refl, sym, ap, ◌∙◌, subst, arith, inl, inr}
 use Rattle.std.proofs.lemmas.Bool.{cases_lt}
-use Rattle.std.proofs.lemmas.List.{length-map, get_or_append_left, get_or_push, get_or-take}
+use Rattle.std.proofs.lemmas.List.{length_push, length-map, get_or_append_left, get_or_push, get_or-take}
 use Rattle.std.proofs.lemmas.Grind.{same_number_lists}
 use Rattle.vd_model.specs.Chains.{needs}
 use Rattle.vd_words.specs.declared.access.Access.TheVariants.{Store}
@@ -84,7 +83,7 @@ not_both : (b : Bool) → b ≡ false → b ≡ true → ⊥
 not_both b off on = let e : false ≡ true = sym off ∙ on in absurd cc
 
 driver_shows : (ws : List ℕ) (d : DriverView) (e : DeviceView) (now : DriverNow) → now ≡ driver.Idle → Ring ws (record d { doing = now }) e
-    → Rattle.std.specs.Prelude.◌↔◌ (is_used d.frame.size (cpos d.frame d.done) (slice_index ws (second_word d.frame.size (cpos d.frame d.done))) ≡ true) (length (collects d.done) < length (gives e.done))
+    → (is_used d.frame.size (cpos d.frame d.done) (slice_index ws (second_word d.frame.size (cpos d.frame d.done))) ≡ true) ↔ (length (collects d.done) < length (gives e.done))
 driver_shows ws d e now idle r0 =
     let r = subst (λ (x : DriverNow). Ring ws (record d { doing = x }) e) idle r0 in (
       λ on. elim (cases_lt (length (collects d.done)) (length (gives e.done))) [ inl h ↦ h | inr h ↦ absurd (not_both _ (shows_none ws d e r h) on) ],
@@ -106,7 +105,7 @@ stored_last : (f : Frame) (o : List DriverDone) (puts : List Put) (p x : ℕ) �
 stored_last f o puts p x l b n =
     let all : List Put = puts ++ put p x ∷ [] in
     let at : (slice_index_or all (length puts) (put 0 0)).place ≡ p = ap (λ (s : Put). s.place) (get_or_push puts (put p x) (put 0 0) (length puts) refl) in
-    let w : IsStored f.size (opos f o) (length n.chain) p = subst (λ (i : ℕ). IsStored f.size (opos f o) (length n.chain) i) at (stored_all f o n.chain all b n.first (length puts) (put 0 0) (omega (arith, Rattle.std.proofs.lemmas.List.length_push puts (put p x)))) in
+    let w : IsStored f.size (opos f o) (length n.chain) p = subst (λ (i : ℕ). IsStored f.size (opos f o) (length n.chain) i) at (stored_all f o n.chain all b n.first (length puts) (put 0 0) (omega (arith, length_push puts (put p x)))) in
     record {
       position = w.position;
       place = elim w.place [ inl a ↦ inl a | inr a ↦ inr a.0 ];

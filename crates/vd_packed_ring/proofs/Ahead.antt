@@ -1,4 +1,5 @@
 -- The chain that a device takes next, and the words of it that are loaded.
+use Rattle.vd_ring.specs.Control.{IsControlChain}
 use Rattle.std.proofs.Common.{◌≡◌, ℕ, ◌+◌, ◌*◌, ◌<◌, ◌≤◌, true, false, List, [], ◌∷◌, length, take, slice_index, slice_index_or, sym, ap, ◌∙◌, subst, arith, inl, inr}
 use Rattle.std.specs.List.{All, sum_by}
 use Rattle.std.proofs.lemmas.Bool.{cases_lt}
@@ -20,7 +21,7 @@ use Rattle.vd_packed_ring.specs.PackedWords.{IsBuilt, second_word, words_of, id_
 use Rattle.vd_packed_ring.specs.PackedChains.{Descriptor, blank, avail_word, direct, loaded, reading, ends, pieces_in, loaded_head, is_whole, chain_of}
 use Rattle.vd_packed_ring.specs.PackedPositions.{start, opos, tpos, second_at}
 use Rattle.vd_packed_ring.specs.PackedDevice.{BeginsChain}
-use Rattle.vd_packed_ring.specs.PackedRing.{Ring, Loads}
+use Rattle.vd_packed_ring.specs.PackedRing.{puts_of, Ring}
 use Rattle.vd_packed_ring.proofs.WordFacts.{avail_shows, avail_id, zero_unavailable}
 use Rattle.vd_packed_ring.proofs.WordFacts.{Fits as FitsWord}
 use Rattle.vd_packed_ring.proofs.Rows.{row_ahead}
@@ -73,7 +74,7 @@ none_shows ws d e r none =
     let top : tpos f s ≡ opos f o = tpos_is f o s r.lists ∙ ap (sum_by (needs f.features)) (take_all (length (takes s)) (offers o) none) in (
       top,
       subst (λ (t : ℕ). is_available n t (slice_index ws (second_word n t)) ≡ false) (sym top)
-          (row_ahead n 1 ws (opos f o) (Rattle.vd_packed_ring.specs.PackedRing.puts_of d.doing) (second_at f o s) (λ x. is_available n (opos f o) x ≡ false) pos (doing_ahead d.doing f o ws r.lawful r.built (omega (arith, ord.open_span)) r.driver_doing) (λ a. zero_unavailable n (opos f o))
+          (row_ahead n 1 ws (opos f o) (puts_of d.doing) (second_at f o s) (λ x. is_available n (opos f o) x ≡ false) pos (doing_ahead d.doing f o ws r.lawful r.built (omega (arith, ord.open_span)) r.driver_doing) (λ a. zero_unavailable n (opos f o))
           (λ q h. subst (λ (t : ℕ). is_available n t (second_at f o s q) ≡ false) h (old_unavailable f o s q r.lawful r.built r.places r.lists r.short)) r.seconds),
     )
 
@@ -124,7 +125,7 @@ begins us d e ws r more some is most =
         };
         chain = c;
         fits = a.fits;
-        control = λ on. subst (λ (i : ℕ). Rattle.vd_ring.specs.Control.IsControlChain (command_word f i) (ack_word f i) c) (sym is_head) (r.commands.chains on k more);
+        control = λ on. subst (λ (i : ℕ). IsControlChain (command_word f i) (ack_word f i) c) (sym is_head) (r.commands.chains on k more);
         words = is ∙ ap (λ (l : List Put). words_of (take (length ws) l)) (sym read2);
         left = λ off. elim (cases_lt (length ws) (length (next_words f o s))) [
           | inl less ↦ omega (arith, count)

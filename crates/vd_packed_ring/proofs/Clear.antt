@@ -17,7 +17,7 @@ use Rattle.vd_packed_ring.specs.PackedPositions.{opos, cpos}
 use Rattle.vd_packed_ring.specs.PackedDriver.{CanOffer, Begins, plan}
 use Rattle.vd_packed_ring.specs.PackedRing.{Words, IsClear, Signals, puts_of, Stages, DriverDoing}
 use Rattle.vd_packed_ring.proofs.Areas.{driver_stores, driver_second, second_low, window_differ}
-use Rattle.vd_packed_ring.proofs.Plans.{IsStored, IsWithin, all_take, all_are, staged_stored, within_from, within_apart}
+use Rattle.vd_packed_ring.proofs.Plans.{stand_other, IsStored, all_take, all_are, staged_stored, within_from, within_apart}
 use Rattle.vd_packed_ring.proofs.Rows.{nothing_staged}
 use Rattle.vd_packed_ring.proofs.Spelled.{needs_pieces, spelling_is, length_direct}
 
@@ -71,7 +71,7 @@ doing_ahead _ f o ws l b le h = absurd h
 pub doing_other : (now : DriverNow) (f : Frame) (o : List DriverDone) (ws : List ℕ) (p x : ℕ) → IsClear (puts_of now) p → DriverDoing now f o ws → DriverDoing now f o (slice_set ws p x)
 doing_other driver.Idle f o ws p x clear h = tt
 doing_other (driver.Offering puts) f o ws p x clear h =
-    let h2 : Stages f o ws puts = h in record { begins = h2.begins; stand = Rattle.vd_packed_ring.proofs.Plans.stand_other ws puts p x h2.stand clear }
+    let h2 : Stages f o ws puts = h in record { begins = h2.begins; stand = stand_other ws puts p x h2.stand clear }
 doing_other _ f o ws p x clear h = absurd h
 
 -- clear at each word past the descriptors

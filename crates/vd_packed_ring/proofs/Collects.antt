@@ -14,10 +14,10 @@ use Rattle.vd_ring.specs.declared.device.DeviceDone.{DeviceDone}
 use Rattle.vd_ring.specs.declared.device.DeviceNow.{DeviceNow}
 use Rattle.vd_ring.specs.declared.device.DeviceNow.TheVariants as device
 use Rattle.vd_ring.specs.declared.device.DeviceView.{DeviceView}
-use Rattle.vd_ring.specs.History.{offers, collects, takes, gives, open_at, head, chain, occurs, used_at, collected, with_head}
+use Rattle.vd_ring.specs.History.{entry, open_size, offers, collects, takes, gives, open_at, head, chain, occurs, used_at, collected, with_head}
 use Rattle.vd_ring.specs.Places.{Places}
 use Rattle.vd_ring.specs.Lists.{Lists}
-use Rattle.vd_ring.proofs.Counts.{Contains_from, with_head_is}
+use Rattle.vd_ring.proofs.Counts.{sum_one, Contains_from, with_head_is}
 use Rattle.vd_ring.proofs.HeldPlaces.{open_below, chain_fits, collect_places, same_head}
 use Rattle.vd_ring.proofs.HeldInside.{head_low}
 use Rattle.vd_ring.proofs.ListSteps.{same_used, batch_one, entry_is, next_open, lists_collected}
@@ -102,9 +102,9 @@ found ws d e r more =
     let marked : mark_at f o s c ≡ Some u = ap (λ (q : ℕ). mark_at f o s q) (cpos_is f o s r.lists)
     ∙ mark_entry f (λ k. needs f.features (chain o k)) s m u r.lists.entries (cut.1 ∙ ap Some (sym same)) some in
     let ord = order f o s r.places r.lists in
-    let held : 1 ≤ Rattle.vd_ring.specs.History.open_size f o = omega (arith, Rattle.vd_ring.proofs.Counts.sum_one (λ k. needs f.features (chain o k)) u.number (open_at o) here) in
+    let held : 1 ≤ open_size f o = omega (arith, sum_one (λ k. needs f.features (chain o k)) u.number (open_at o) here) in
     let word : slice_index ws (second_word n c) ≡ used_word n c (head f o u.number) u.len = r.seconds.kept c (omega (arith, ord.open_span)) r.room (nothing_staged (second_word n c)) ∙ ap (λ (x : Option Used). stands f o c (made_at f o c) x) marked in
-    let short : u.len < 4294967296 = r.short m (Rattle.vd_ring.specs.History.entry 0 0) more in
+    let short : u.len < 4294967296 = r.short m (entry 0 0) more in
     let low = low_head f o u.number r.lawful in
     let w : ℕ = slice_index ws (second_word n c) in
     let id : id_of w ≡ head f o u.number = ap id_of word ∙ used_id n c (head f o u.number) u.len low short in

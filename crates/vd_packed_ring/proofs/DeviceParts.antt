@@ -1,5 +1,6 @@
 -- The parts of the ring invariant that an access of the device touches.
-use Rattle.std.proofs.Common.{◌≡◌, ℕ, ◌<◌, ◌≤◌, true, List, length}
+use Rattle.vd_ring.specs.declared.frame.Frame.{Frame}
+use Rattle.std.proofs.Common.{subst, ◌≡◌, ℕ, ◌<◌, ◌≤◌, true, List}
 use Rattle.std.specs.List.{All}
 use Rattle.vd_words.specs.declared.access.Access.{Access}
 use Rattle.vd_words.specs.declared.access.Access.TheVariants.{Load, Store}
@@ -9,7 +10,7 @@ use Rattle.vd_ring.specs.declared.device.DeviceView.{DeviceView}
 use Rattle.vd_ring.specs.History.{gives}
 use Rattle.vd_ring.specs.Control.{Acks}
 use Rattle.vd_ring.specs.Lists.{Lists, Rested}
-use Rattle.vd_packed_ring.specs.PackedWords.{ack_word, device_event, call_at}
+use Rattle.vd_packed_ring.specs.PackedWords.{IsDevices, ack_word, device_event, call_at}
 use Rattle.vd_packed_ring.specs.PackedPositions.{opos, tpos, upos, second_at}
 use Rattle.vd_packed_ring.specs.PackedDevice.{DeviceKnows}
 use Rattle.vd_packed_ring.specs.PackedRing.{Ring, Words, Row, Signals, puts_of, DriverDoing, DeviceDoing}
@@ -56,5 +57,5 @@ ring_with ws us d e e2 r p = record {
 }
 
 pub knows : (ws : List ℕ) (d : DriverView) (e : DeviceView) (a : Access) → Ring ws d e → DeviceKnows e a (answered ws a)
-knows ws d e (Load p) r = λ own. r.words.devices p (Rattle.std.proofs.Common.subst (λ (f : Rattle.vd_ring.specs.declared.frame.Frame.Frame). Rattle.vd_packed_ring.specs.PackedWords.IsDevices f p) r.same own)
+knows ws d e (Load p) r = λ own. r.words.devices p (subst (λ (f : Frame). IsDevices f p) r.same own)
 knows ws d e (Store p x) r = tt

@@ -1,5 +1,5 @@
 -- What the answers of the driver's steps say: of the chain offered, of the entry collected, when nothing is left, and of the bag.
-use Rattle.std.proofs.Common.{◌≡◌, ℕ, ◌<◌, ◌≤◌, Bool, true, false, List, [], ◌∷◌, ◌++◌, length, if◌then◌else◌, slice_index, slice_set, refl, sym, ap, ◌∙◌, subst, inl, inr}
+use Rattle.std.proofs.Common.{take, ◌==◌, ◌≡◌, ℕ, ◌<◌, ◌≤◌, Bool, true, false, List, [], ◌∷◌, ◌++◌, length, if◌then◌else◌, slice_index, slice_set, refl, sym, ap, ◌∙◌, subst, inl, inr}
 use Rattle.std.proofs.lemmas.Bool.{cases_lt, eq-eqb, ne_eqb}
 use Rattle.std.proofs.lemmas.List.{take_all}
 use Rattle.vd_model.specs.declared.chain.Piece.{Piece}
@@ -166,7 +166,7 @@ collected_at ws d e Idle op.Collect (Load p) k l h r n is = elim (cases_lt (leng
   | inl more ↦ collects_entry ws d e p k l h r n.1 is more
   | inr none ↦ absurd (not_collected act.Nothing k l h refl (sym (ap (look_act (record d { doing = Idle }) (slice_index ws p)) (subst (λ (q : ℕ). is_used d.frame.size (cpos d.frame d.done) (slice_index ws q) ≡ false) (sym n.1) (shows_none ws d e r none))) ∙ is))
 ]
-collected_at ws d e (Offering puts) op.Offer (Store p x) k l h r n is = absurd (not_collected _ k l h (store_not_collected (length (offers d.done)) (Rattle.std.specs.Prelude.◌==◌ p (second_word d.frame.size (opos d.frame d.done)))) is)
+collected_at ws d e (Offering puts) op.Offer (Store p x) k l h r n is = absurd (not_collected _ k l h (store_not_collected (length (offers d.done)) (p == (second_word d.frame.size (opos d.frame d.done)))) is)
 collected_at ws d e _ _ _ k l h r n is = absurd (not_collected act.Moved k l h refl is)
 
 pub driver_collected : (ws : List ℕ) (d : DriverView) (e : DeviceView) (op : Op) (a : Access) (k l h : ℕ) → Ring ws d e → DriverNext d op a → driver_act d op a (answered ws a) ≡ act.Collected k l h → IsCollected ws d e op a k l h
@@ -177,7 +177,7 @@ driver_collected ws d e op a k l h r n is = collected_at ws d e d.doing op a k l
 other_answer : (ws : List ℕ) (d : DriverView) (e : DeviceView) (o : Op) (a : Access) → (driver_act d o a (answered ws a) ≡ act.Nothing → ⊥) → (d.doing ≡ Idle → o ≡ op.Collect → ⊥) → LooksNothing ws d e o a
 other_answer ws d e o a never other = record { only = λ is. absurd (never is); says = λ is. absurd (never is); shown = λ idle collect word. absurd (other idle collect); all = λ is. absurd (never is) }
 
-all_collected : (o : List DriverDone) (s : List DeviceDone) → collects o ≡ Rattle.std.specs.Prelude.take (length (collects o)) (gives s) → length (gives s) ≤ length (collects o) → collects o ≡ gives s
+all_collected : (o : List DriverDone) (s : List DeviceDone) → collects o ≡ take (length (collects o)) (gives s) → length (gives s) ≤ length (collects o) → collects o ≡ gives s
 all_collected o s is none = is ∙ take_all (length (collects o)) (gives s) none
 
 nothing_at : (ws : List ℕ) (d : DriverView) (e : DeviceView) (now : DriverNow) (o : Op) (a : Access) → Ring ws (record d { doing = now }) e → DriverNextAt now (record d { doing = now }) o a → LooksNothing ws (record d { doing = now }) e o a
@@ -192,7 +192,7 @@ nothing_at ws d e Idle op.Collect (Load p) r h =
       ];
     }
 nothing_at ws d e (Offering puts) op.Offer (Store p x) r h = other_answer ws (record d { doing = Offering puts }) e op.Offer (Store p x)
-    (λ is. not_nothing _ (store_not_nothing (length (offers d.done)) (Rattle.std.specs.Prelude.◌==◌ p (second_word d.frame.size (opos d.frame d.done)))) is) (λ idle collect. cc)
+    (λ is. not_nothing _ (store_not_nothing (length (offers d.done)) (p == (second_word d.frame.size (opos d.frame d.done)))) is) (λ idle collect. cc)
 nothing_at ws d e Idle op.Offer (Store p x) r h = other_answer ws (record d { doing = Idle }) e op.Offer (Store p x) (λ is. cc) (λ idle collect. cc)
 nothing_at ws d e Idle op.Control (Store p x) r h = other_answer ws (record d { doing = Idle }) e op.Control (Store p x) (λ is. cc) (λ idle collect. cc)
 nothing_at ws d e Idle op.Control (Load p) r h = other_answer ws (record d { doing = Idle }) e op.Control (Load p) (λ is. cc) (λ idle collect. cc)
@@ -214,7 +214,7 @@ store_bag ws v e puts p x false b r st = (b, refl, st)
 bags_at : (ws : List ℕ) (d : DriverView) (e : DeviceView) (now : DriverNow) (op : Op) (a : Access) (b : List State) → Ring ws (record d { doing = now }) e → DriverNextAt now (record d { doing = now }) op a → StandsFor d.done e.done b
     → DriverBags ws (record d { doing = now }) e op a b
 bags_at ws d e (Offering puts) op.Offer (Store p x) b r h st =
-    let did = store_bag ws (record d { doing = Offering puts }) e puts p x (Rattle.std.specs.Prelude.◌==◌ p (second_word d.frame.size (opos d.frame d.done))) b r st in
+    let did = store_bag ws (record d { doing = Offering puts }) e puts p x (p == (second_word d.frame.size (opos d.frame d.done))) b r st in
     record { bag = did.0; step = did.1; stands = did.2 }
 bags_at ws d e Idle op.Collect (Load p) b r h st =
     let did = look_bag (record d { doing = Idle }) e (slice_index ws p) (is_used d.frame.size (cpos d.frame d.done) (slice_index ws p)) b st in

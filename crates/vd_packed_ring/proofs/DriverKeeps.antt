@@ -4,6 +4,7 @@ use Rattle.std.proofs.lemmas.Bool.{eq-eqb, ne_eqb}
 use Rattle.std.proofs.lemmas.List.Elements.{All-nil}
 use Rattle.vd_words.specs.declared.access.Access.{Access}
 use Rattle.vd_words.specs.declared.access.Access.TheVariants.{Load, Store}
+use Rattle.vd_words.specs.Step.{answered}
 use Rattle.vd_words.specs.declared.access.Op.{Op}
 use Rattle.vd_words.specs.declared.access.Op.TheVariants as op
 use Rattle.vd_ring.specs.declared.frame.Put.{Put}
@@ -25,7 +26,7 @@ use Rattle.vd_packed_ring.proofs.Offers.{describes, publishes}
 use Rattle.vd_packed_ring.proofs.Collects.{looks}
 use Rattle.vd_packed_ring.proofs.DriverControls.{stores_command, loads_ack}
 
-knows : (ws : List ℕ) (d : DriverView) (e : DeviceView) (a : Access) → Ring ws d e → DriverKnows d a (Rattle.vd_words.specs.Step.answered ws a)
+knows : (ws : List ℕ) (d : DriverView) (e : DeviceView) (a : Access) → Ring ws d e → DriverKnows d a (answered ws a)
 knows ws d e (Load p) r = λ own. r.words.drivers p own
 knows ws d e (Store p x) r = tt
 

@@ -1,5 +1,5 @@
 -- What holds of the driver's view alone: the place of an access that is next, and the frame.
-use Rattle.std.proofs.Common.{◌≡◌, ℕ, ◌+◌, ◌<◌, Bool, true, false, List, [], ◌∷◌, ◌++◌, if◌then◌else◌, refl, arith, inl, inr}
+use Rattle.std.proofs.Common.{◌==◌, ◌≡◌, ℕ, ◌+◌, ◌<◌, Bool, true, false, List, [], ◌∷◌, ◌++◌, if◌then◌else◌, refl, arith, inl, inr}
 use Rattle.std.proofs.lemmas.Nat.{mod_below}
 use Rattle.vd_words.specs.declared.access.Access.{Access}
 use Rattle.vd_words.specs.declared.access.Access.TheVariants.{Load, Store}
@@ -49,7 +49,7 @@ frame_at d Idle op.Collect (Load p) r =
 frame_at d Idle op.Offer (Store p x) r = refl
 frame_at d (Offering puts) op.Offer (Store p x) r =
     let v : DriverView = record d { doing = Offering puts } in
-    either_frame (driver_offers v puts p x) (stores v p x (Offering (puts ++ put p x ∷ []))) (Rattle.std.specs.Prelude.◌==◌ p (second_word d.frame.size (opos d.frame d.done))) d.frame refl refl
+    either_frame (driver_offers v puts p x) (stores v p x (Offering (puts ++ put p x ∷ []))) (p == (second_word d.frame.size (opos d.frame d.done))) d.frame refl refl
 frame_at d Idle op.Control (Store p x) r = refl
 frame_at d Idle op.Control (Load p) r = refl
 frame_at d _ _ _ r = refl

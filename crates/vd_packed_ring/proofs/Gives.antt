@@ -1,5 +1,5 @@
 -- The device's give and rest keep the ring invariant.
-use Rattle.std.proofs.Common.{◌≡◌, ◌≢◌, ℕ, ◌+◌, ◌*◌, ◌%◌, ◌<◌, ◌≤◌, List, [], ◌∷◌, ◌++◌, length, take, slice_index, slice_set, Option, Some, None, refl, sym, ap, ◌∙◌, subst, arith}
+use Rattle.std.proofs.Common.{slice_index_or, ◌≡◌, ◌≢◌, ℕ, ◌*◌, ◌<◌, ◌≤◌, List, [], ◌∷◌, length, take, slice_set, Option, None, refl, sym, ap, ◌∙◌, subst, arith}
 use Rattle.std.proofs.lemmas.List.{length-take-le}
 use Rattle.std.proofs.lemmas.List.Elements.{All-push}
 use Rattle.vd_model.specs.Chains.{needs}
@@ -64,7 +64,7 @@ second_given f o s u q e ne = ap (λ (m : Option Used). stands f o q (made_at f 
 second_here : (f : Frame) (o : List DriverDone) (s : List DeviceDone) (u : Used) → upos f s ≡ length (marks (λ k. needs f.features (chain o k)) s) → 1 ≤ needs f.features (chain o u.number) → second_at f o (Give (u ∷ []) ∷ s) (upos f s) ≡ used_word f.size (upos f s) (head f o u.number) u.len
 second_here f o s u e some =
     ap (λ (m : Option Used). stands f o (upos f s) (made_at f o (upos f s)) m)
-    (ap (λ (q : ℕ). Rattle.std.proofs.Common.slice_index_or (marks (λ k. needs f.features (chain o k)) (Give (u ∷ []) ∷ s)) q None) e ∙ mark_new (λ k. needs f.features (chain o k)) s u some)
+    (ap (λ (q : ℕ). slice_index_or (marks (λ k. needs f.features (chain o k)) (Give (u ∷ []) ∷ s)) q None) e ∙ mark_new (λ k. needs f.features (chain o k)) s u some)
 
 pub returns : (ws : List ℕ) (d : DriverView) (e : DeviceView) (p x : ℕ) → Ring ws d (record e { frame = d.frame; doing = Idle }) → Returns d.frame e.done p x → Ring (slice_set ws p x) d (device_gives (record e { frame = d.frame; doing = Idle }) p x) × (p < width d.frame)
 returns ws d e p x r n =

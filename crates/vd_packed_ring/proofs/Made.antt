@@ -25,7 +25,7 @@ use Rattle.vd_packed_ring.specs.PackedPositions.{start, opos, made, made_at, blo
 use Rattle.vd_packed_ring.proofs.WordFacts.{Fits}
 use Rattle.vd_packed_ring.proofs.Plans.{all_left, all_right}
 use Rattle.vd_packed_ring.proofs.Spelled.{needs_pieces, lent_one, descriptors_is, length_direct, direct_fits}
-use Rattle.vd_packed_ring.proofs.Positions.{opos_offered}
+use Rattle.vd_packed_ring.proofs.Positions.{takes_below, opos_offered}
 
 -- ---- the descriptors made available
 
@@ -100,7 +100,7 @@ made_chain f (Offer c ∷ o) k j l b h low = elim (cases_eq k (length (offers o)
       let below : k < length (offers o) = elim (cases_lt k (length (offers o))) [ inl a ↦ a | inr a ↦ absurd (ne (omega (arith, length_push (offers o) c))) ] in
       let same : chain (Offer c ∷ o) k ≡ chain o k = get_or_append_left (offers o) (c ∷ []) [] k below in
       let begins : start f (Offer c ∷ o) k ≡ start f o k = start_old f o c k (omega arith) in
-      let inside : start f o k + j < opos f o = omega (arith, Rattle.vd_packed_ring.proofs.Positions.takes_below f o k below, needs_pieces f (chain o k) b, ap (λ (d : List Piece). length d) same) in
+      let inside : start f o k + j < opos f o = omega (arith, takes_below f o k below, needs_pieces f (chain o k) b, ap (λ (d : List Piece). length d) same) in
       ap (λ (q : ℕ). made_at f (Offer c ∷ o) (q + j)) begins
       ∙ (made_before f o c (start f o k + j) b inside
       ∙ (made_chain f o k j l b below (omega (arith, ap (λ (d : List Piece). length d) same)) ∙ (ap (λ (id : ℕ). slice_index_or (direct id (chain o k)) j blank) (sym (head_old f o c k below)) ∙ ap (λ (d : List Piece). slice_index_or (direct (head f (Offer c ∷ o) k) d) j blank) (sym same))))

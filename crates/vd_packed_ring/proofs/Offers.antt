@@ -1,5 +1,6 @@
 -- The stores of an offer keep the ring invariant.
-use Rattle.std.proofs.Common.{◌≡◌, ◌≢◌, ℕ, ◌+◌, ◌*◌, ◌%◌, ◌<◌, ◌≤◌, List, [], ◌∷◌, ◌++◌, length, take, slice_index, slice_index_or, slice_set, Option, Some, None, refl, sym, ap, ◌∙◌, subst, arith, inl, inr}
+use Rattle.std.proofs.Common.{mod-eq_of_lt, ◌≡◌, ◌≢◌, ℕ, ◌+◌, ◌*◌, ◌%◌, ◌<◌, ◌≤◌, List, [], ◌∷◌, ◌++◌, length, take, slice_index, slice_index_or, slice_set, Option, Some, None, refl, sym, ap, ◌∙◌, subst, arith, inl, inr}
+use Rattle.std.proofs.lemmas.Nat.{mod_below}
 use Rattle.std.specs.List.{All}
 use Rattle.std.proofs.lemmas.List.{length_push, get_or-set_same, get_or_default}
 use Rattle.std.proofs.lemmas.List.Elements.{All-nil, All-cons, All-append}
@@ -25,14 +26,14 @@ use Rattle.vd_ring.proofs.HeldPlaces.{offer_places, chain_before}
 use Rattle.vd_ring.proofs.HeldInside.{next_low}
 use Rattle.vd_ring.proofs.ListSteps.{lists_offered, given_below}
 use Rattle.vd_ring.proofs.ControlSteps.{head_before, commands_elsewhere, commands_offered, acks_offered}
-use Rattle.vd_packed_ring.specs.PackedWords.{IsLawful, IsBuilt, width, command_word, ack_word, driver_event, kick_at, addr_word, second_word, put, words_of, Stand}
-use Rattle.vd_packed_ring.specs.PackedChains.{Descriptor, blank, avail_word, direct, described, staged, publishing, reading, staged_chain}
+use Rattle.vd_packed_ring.specs.PackedWords.{used_word, IsLawful, IsBuilt, width, command_word, ack_word, driver_event, kick_at, addr_word, second_word, put, words_of, Stand}
+use Rattle.vd_packed_ring.specs.PackedChains.{staged_pieces, Descriptor, blank, avail_word, direct, described, staged, publishing, reading, staged_chain}
 use Rattle.vd_packed_ring.specs.PackedPositions.{opos, cpos, tpos, upos, made_at, mark_at, stands, second_at, marks}
 use Rattle.vd_packed_ring.specs.PackedDriver.{CanOffer, Begins, Publishes, plan, stores, driver_offers}
-use Rattle.vd_packed_ring.specs.PackedRing.{Ring, Row, IsClear, Stages, puts_of, Loads, DeviceDoing}
+use Rattle.vd_packed_ring.specs.PackedRing.{Words, Ring, Row, IsClear, Stages, puts_of, Loads, DeviceDoing}
 use Rattle.vd_packed_ring.proofs.Areas.{areas, second_low, driver_second}
 use Rattle.vd_packed_ring.proofs.Plans.{IsStored, IsWithin, IsNext, is_next, Stands, all_are, staged_stored, staged_before, stand_other, described_stand, staged_all, within_from, within_apart, publishing_within, publishing_apart}
-use Rattle.vd_packed_ring.proofs.Rows.{row_staged, row_published}
+use Rattle.vd_packed_ring.proofs.Rows.{turned, row_staged, row_published}
 use Rattle.vd_packed_ring.proofs.Spelled.{needs_pieces, lent_one, table_stands, publishing_is, staged_is, length_direct, staged_back}
 use Rattle.vd_packed_ring.proofs.Positions.{order, free_some, opos_offered, cpos_offered, upos_is}
 use Rattle.vd_packed_ring.proofs.Made.{made_before, made_new, IsMark, marks_are, marks_same, mark_past}
@@ -99,7 +100,7 @@ given_all P s each = λ k d h. subst P (get_or_default (gives s) k (entry 0 0) d
 
 stands_same : (f : Frame) (o o2 : List DriverDone) (q : ℕ) (d : Descriptor) (m : Option Used) → IsMark (λ u. head f o2 u.number ≡ head f o u.number) m → stands f o2 q d m ≡ stands f o q d m
 stands_same f o o2 q d None h = refl
-stands_same f o o2 q d (Some u) h = ap (λ (id : ℕ). Rattle.vd_packed_ring.specs.PackedWords.used_word f.size q id u.len) h
+stands_same f o o2 q d (Some u) h = ap (λ (id : ℕ). used_word f.size q id u.len) h
 
 second_offered : (f : Frame) (o : List DriverDone) (c : List Piece) (s : List DeviceDone) (q : ℕ) → IsBuilt f → Places f o → Lists f o s → q < opos f o → second_at f (Offer c ∷ o) s q ≡ second_at f o s q
 second_offered f o c s q b p l h =
@@ -139,7 +140,7 @@ doing_offered _ f o c s pl h = absurd h
 pub staged_is_chain : (f : Frame) (o : List DriverDone) (c : List Piece) (puts : List Put) (x : ℕ) → IsLawful f → IsBuilt f → CanOffer f o c → puts ≡ plan f o c → x ≡ (publishing f.size (opos f o) (direct (next_head f o) c)).word → staged_chain f (words_of puts) x ≡ c
 staged_is_chain f o c puts x l b can whole is =
     staged_is f (words_of puts) x b
-    ∙ (ap (λ (ps : List Put). Rattle.vd_packed_ring.specs.PackedChains.staged_pieces (words_of ps) x) (whole ∙ plan_is f o c b) ∙ (ap (Rattle.vd_packed_ring.specs.PackedChains.staged_pieces (words_of (staged f.size (opos f o) (direct (next_head f o) c)))) is
+    ∙ (ap (λ (ps : List Put). staged_pieces (words_of ps) x) (whole ∙ plan_is f o c b) ∙ (ap (staged_pieces (words_of (staged f.size (opos f o) (direct (next_head f o) c)))) is
     ∙ staged_back f.size (opos f o) (next_head f o) c can.fits.chain.0 (omega (arith, next_low f o (omega (arith, l.least)), l.most)) can.fits.chain.3))
 
 -- all stores of the offer, the last included, and their places
@@ -171,9 +172,9 @@ rows f o c half ws cur cur2 l b can le two old new r =
     let W : Put → Type 0 = λ s. IsWithin n q0 (length c) s.place in
     subst (λ (t : ℕ). Row n half ws t [] cur2) far
     (row_published n half ws q0 (length c) (all_puts f o c) cur cur2 pos (omega arith)
-    (λ q a near. subst (λ (i : ℕ). IsClear (all_puts f o c) (2 * i + half)) (Rattle.vd_packed_ring.proofs.Rows.turned q n)
+    (λ q a near. subst (λ (i : ℕ). IsClear (all_puts f o c) (2 * i + half)) (turned q n)
     (all_are W (λ s. s.place ≢ 2 * ((q + n) % n) + half) (all_puts f o c) (λ s w. within_apart n q0 q0 (length c) s.place (q + n) half pos two (omega arith) (omega arith) (omega arith) (omega arith) (inr near) w) within))
-    (λ p a near. subst (λ (i : ℕ). IsClear (all_puts f o c) (2 * i + half)) (native.Mathlib.Nat.mod-eq_of_lt a)
+    (λ p a near. subst (λ (i : ℕ). IsClear (all_puts f o c) (2 * i + half)) (mod-eq_of_lt a)
     (all_are W (λ s. s.place ≢ 2 * (p % n) + half) (all_puts f o c) (λ s w. within_apart n q0 q0 (length c) s.place p half pos two (omega arith) (omega arith) (omega arith) (omega arith) (inr near) w) within))
     old new r)
 
@@ -202,13 +203,13 @@ publishes ws d e puts p x r h =
     let all : puts ++ put p x ∷ [] ≡ all_puts f o c = ap (λ (l : List Put). l ++ put p x ∷ []) whole ∙ ap (λ (t : Put). staged n q0 ds ++ t ∷ []) last in
     let stood : Stand us (puts ++ put p x ∷ []) = All-append (Stands us) puts (put p x ∷ []) (stand_other ws puts p x doing.stand clear) (All-cons (Stands us) (put p x) [] (get_or-set_same ws p x 0 (omega (arith, areas f))) (All-nil (Stands us))) in
     let there : Stand us (described n q0 ds) = staged_all us n q0 ds (subst (λ (l : List Put). Stand us l) all stood) in
-    let words : Rattle.vd_packed_ring.specs.PackedRing.Words f us st e.stored = subst (λ (i : ℕ). Rattle.vd_packed_ring.specs.PackedRing.Words f (slice_set ws i x) (slice_set d.stored i x) e.stored) (sym place) (driver_second f ws d.stored e.stored q0 x r.lawful.least r.words) in
+    let words : Words f us st e.stored = subst (λ (i : ℕ). Words f (slice_set ws i x) (slice_set d.stored i x) e.stored) (sym place) (driver_second f ws d.stored e.stored q0 x r.lawful.least r.words) in
     let each = λ (j : ℕ) (a : j < length c). described_stand us n q0 ds j (let y : j < length ds = omega arith in y) there in
     let fits = h.can.fits in
     let lent_le : lent f c ≤ length (free f o) = omega (arith, lent_one f c r.lawful, free_some f o c r.lawful r.places fits h.can.room) in
     let lists2 = lists_offered f o c s r.places r.lists in
     let is_chain : staged_chain f (words_of puts) x ≡ c = staged_is_chain f o c puts x r.lawful r.built h.can h.whole word in
-    let addr_own = λ (j : ℕ) (a : j < length c). words.drivers (addr_word n (q0 + j)) (inl (let y : 2 * ((q0 + j) % n) < 2 * n = omega (arith, Rattle.std.proofs.lemmas.Nat.mod_below (q0 + j) n pos) in y, let y : (2 * ((q0 + j) % n)) % 2 ≡ 0 = omega arith in y)) in
+    let addr_own = λ (j : ℕ) (a : j < length c). words.drivers (addr_word n (q0 + j)) (inl (let y : 2 * ((q0 + j) % n) < 2 * n = omega (arith, mod_below (q0 + j) n pos) in y, let y : (2 * ((q0 + j) % n)) % 2 ≡ 0 = omega arith in y)) in
     let addr_row = rows f o c 0 st (λ q. (made_at f o q).addr) (λ q. (made_at f (Offer c ∷ o) q).addr) r.lawful r.built h.can (omega (arith, ord.open_span)) (omega arith)
     (λ q a. ap (λ (y : Descriptor). y.addr) (made_before f o c q r.built a))
     (λ j a. ap (λ (i : ℕ). slice_index st i) (let y : 2 * ((q0 + j) % n) + 0 ≡ addr_word n (q0 + j) = omega arith in y) ∙ (sym (addr_own j a) ∙ ((each j a).0 ∙ ap (λ (y : Descriptor). y.addr) (sym (made_new f o c j r.built)))))

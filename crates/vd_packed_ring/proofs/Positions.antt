@@ -1,8 +1,8 @@
 -- Sums of descriptors: how the four positions lie to each other.
-use Rattle.std.proofs.Common.{◌≡◌, ℕ, zero, suc, ◌+◌, ◌<◌, ◌≤◌, Bool, true, false, List, [], ◌∷◌, ◌++◌, length, take, drop, nat_lt, if◌then◌else◌, refl, sym, ap, ◌∙◌, arith, inl, inr}
+use Rattle.std.proofs.Common.{append_assoc, append-nil, take_all, ◌≡◌, ℕ, zero, suc, ◌+◌, ◌<◌, ◌≤◌, Bool, true, false, List, [], ◌∷◌, ◌++◌, length, take, drop, nat_lt, if◌then◌else◌, refl, sym, ap, ◌∙◌, arith, inl, inr}
 use Rattle.std.specs.List.{sum_by}
 use Rattle.std.proofs.lemmas.Bool.{cases_lt}
-use Rattle.std.proofs.lemmas.List.{length-append, length_push, length-take-le, take-append-drop, get_or_append_left, get_or_push, get_or-take}
+use Rattle.std.proofs.lemmas.List.{take_more, length-take-le, take-append-drop, get_or_append_left, get_or-take}
 use Rattle.std.proofs.lemmas.List.Sums.{sum_by-append, sum_by-cons, sum_by_push}
 use Rattle.vd_model.specs.declared.chain.Piece.{Piece}
 use Rattle.vd_model.specs.Chains.{needs}
@@ -44,11 +44,11 @@ sum_chains g cs more = by_count (length cs) cs more refl
     by_count (suc n) cs more e =
         let front : List (List Piece) = take n cs in
         let len : length front ≡ n = length-take-le n cs (omega arith) in
-        let split : cs ≡ front ++ chain_at cs n ∷ [] = sym (Rattle.std.proofs.lemmas.List.take_all (suc n) cs (omega arith)) ∙ ap (λ (m : ℕ). take m cs) (let x : suc n ≡ n + 1 = omega arith in x) ∙ Rattle.std.proofs.lemmas.List.take_more cs n [] (omega arith) in
+        let split : cs ≡ front ++ chain_at cs n ∷ [] = sym (take_all (suc n) cs (omega arith)) ∙ ap (λ (m : ℕ). take m cs) (let x : suc n ≡ n + 1 = omega arith in x) ∙ take_more cs n [] (omega arith) in
         let here : chain_at (cs ++ more) n ≡ chain_at cs n = get_or_append_left cs more [] n (omega arith) in
         let whole : sum_by g cs ≡ sum_by g front + g (chain_at cs n) = ap (sum_by g) split ∙ sum_by_push g front (chain_at cs n) in
         let before : sum_by g front ≡ sum_by (λ k. g (chain_at (cs ++ more) k)) (upto n) = by_count n front (chain_at cs n ∷ more) len
-        ∙ ap (λ (l : List (List Piece)). sum_by (λ k. g (chain_at l k)) (upto n)) (sym (Rattle.std.proofs.lemmas.List.append_assoc front (chain_at cs n ∷ []) more) ∙ ap (λ (l : List (List Piece)). l ++ more) (sym split)) in
+        ∙ ap (λ (l : List (List Piece)). sum_by (λ k. g (chain_at l k)) (upto n)) (sym (append_assoc front (chain_at cs n ∷ []) more) ∙ ap (λ (l : List (List Piece)). l ++ more) (sym split)) in
         omega (arith, whole, before, sum_by_push (λ k. g (chain_at (cs ++ more) k)) (upto n) n, ap g here)
 
 -- two lists of numbers that together have each number below n once
@@ -63,14 +63,14 @@ sum_parts g xs ys n each =
 pub driver_span : (f : Frame) (o : List DriverDone) → ((k : ℕ) → occurs k (open_at o) + occurs k (numbers (collects o)) ≡ (if nat_lt k (length (offers o)) then 1 else 0)) → opos f o ≡ cpos f o + open_size f o
 driver_span f o each =
     let g : ℕ → ℕ = λ k. needs f.features (chain o k) in
-    let whole : opos f o ≡ sum_by g (upto (length (offers o))) = sum_chains (needs f.features) (offers o) [] ∙ ap (λ (l : List (List Piece)). sum_by (λ k. needs f.features (chain_at l k)) (upto (length (offers o)))) (Rattle.std.proofs.lemmas.List.append-nil (offers o)) in
+    let whole : opos f o ≡ sum_by g (upto (length (offers o))) = sum_chains (needs f.features) (offers o) [] ∙ ap (λ (l : List (List Piece)). sum_by (λ k. needs f.features (chain_at l k)) (upto (length (offers o)))) (append-nil (offers o)) in
     omega (arith, whole, sum_parts g (open_at o) (numbers (collects o)) (length (offers o)) each, sum_numbers g (collects o))
 
 -- the device's, from its own acts
 pub device_span : (f : Frame) (s : List DeviceDone) → ((k : ℕ) → occurs k (running s) + occurs k (numbers (gives s)) ≡ (if nat_lt k (length (takes s)) then 1 else 0)) → tpos f s ≡ upos f s + running_size f s
 device_span f s each =
     let g : ℕ → ℕ = λ k. needs f.features (chain_at (takes s) k) in
-    let whole : tpos f s ≡ sum_by g (upto (length (takes s))) = sum_chains (needs f.features) (takes s) [] ∙ ap (λ (l : List (List Piece)). sum_by (λ k. needs f.features (chain_at l k)) (upto (length (takes s)))) (Rattle.std.proofs.lemmas.List.append-nil (takes s)) in
+    let whole : tpos f s ≡ sum_by g (upto (length (takes s))) = sum_chains (needs f.features) (takes s) [] ∙ ap (λ (l : List (List Piece)). sum_by (λ k. needs f.features (chain_at l k)) (upto (length (takes s)))) (append-nil (takes s)) in
     omega (arith, whole, sum_parts g (running s) (numbers (gives s)) (length (takes s)) each, sum_numbers g (gives s))
 
 -- ---- both
@@ -129,7 +129,7 @@ pub takes_below : (f : Frame) (o : List DriverDone) (k : ℕ) → k < length (of
 takes_below f o k h =
     let cut : start f o (k + 1) + sum_by (needs f.features) (drop (k + 1) (offers o)) ≡ opos f o =
     sym (sum_by-append (needs f.features) (take (k + 1) (offers o)) (drop (k + 1) (offers o))) ∙ ap (sum_by (needs f.features)) (take-append-drop (k + 1) (offers o)) in
-    let one : start f o (k + 1) ≡ start f o k + needs f.features (chain o k) = ap (sum_by (needs f.features)) (Rattle.std.proofs.lemmas.List.take_more (offers o) k [] h) ∙ sum_by_push (needs f.features) (take k (offers o)) (chain o k) in
+    let one : start f o (k + 1) ≡ start f o k + needs f.features (chain o k) = ap (sum_by (needs f.features)) (take_more (offers o) k [] h) ∙ sum_by_push (needs f.features) (take k (offers o)) (chain o k) in
     omega (arith, cut, one)
 
 -- an id is free wherever there is room

@@ -8,7 +8,7 @@ use Rattle.vd_model.specs.Chains.{IsPiece, needs}
 use Rattle.vd_ring.specs.declared.frame.Frame.{Frame}
 use Rattle.vd_ring.specs.declared.frame.Put.{Put}
 use Rattle.vd_ring.specs.Frames.{lent}
-use Rattle.vd_packed_ring.specs.PackedWords.{IsLawful, IsBuilt, addr_word, second_word, put, words_of, len_of, id_of, goes_on, is_write, names_table, Stand}
+use Rattle.vd_packed_ring.specs.PackedWords.{table_of, IsLawful, IsBuilt, addr_word, second_word, put, words_of, goes_on, is_write, names_table, Stand}
 use Rattle.vd_packed_ring.specs.PackedChains.{Descriptor, blank, avail_word, more, flags, direct, is_tabled, pointer, descriptors, tabled, table, staged, described, publishing, loaded, spelling, reading, piece_of, pieces_of, pieces_in, ends, following, has_table, table_words, loaded_head, is_whole, chain_of, cursor, staged_pieces, staged_chain}
 use Rattle.vd_packed_ring.proofs.WordFacts.{Fits, bit, write_bit, avail_len, avail_flags}
 use Rattle.vd_packed_ring.proofs.Plans.{Stands}
@@ -29,7 +29,7 @@ pub descriptors_is : (f : Frame) (id : ℕ) (c : List Piece) → IsBuilt f → d
 descriptors_is f id c b = ap (λ (i : Bool). if i then pointer f id c ∷ [] else direct id c) (untabled f c b)
 
 pub table_is : (f : Frame) (id : ℕ) (c : List Piece) → IsBuilt f → table f id c ≡ []
-table_is f id c b = ap (λ (i : Bool). if i then tabled (Rattle.vd_packed_ring.specs.PackedWords.table_of f id) c else []) (untabled f c b)
+table_is f id c b = ap (λ (i : Bool). if i then tabled (table_of f id) c else []) (untabled f c b)
 
 pub table_stands : (f : Frame) (ws : List ℕ) (id : ℕ) (c : List Piece) → IsBuilt f → Stand ws (table f id c)
 table_stands f ws id c b = subst (λ (l : List Put). Stand ws l) (sym (table_is f id c b)) (All-nil (Stands ws))
@@ -55,7 +55,7 @@ pub chain_is : (f : Frame) (ws : List ℕ) → IsBuilt f → chain_of f ws ≡ p
 chain_is f ws b = ap (λ (i : Bool). if i then pieces_of (drop 2 ws) else pieces_in ws) (no_table f ws b)
 
 pub cursor_is : (f : Frame) (q : ℕ) (ws : List ℕ) → IsBuilt f → cursor f q ws ≡ following f.size q ws
-cursor_is f q ws b = ap (λ (i : Bool). if i then Rattle.vd_packed_ring.specs.PackedWords.table_of f (loaded_head ws) + (length ws - 2) else following f.size q ws) (no_table f ws b)
+cursor_is f q ws b = ap (λ (i : Bool). if i then table_of f (loaded_head ws) + (length ws - 2) else following f.size q ws) (no_table f ws b)
 
 pub staged_is : (f : Frame) (ws : List ℕ) (w : ℕ) → IsBuilt f → staged_chain f ws w ≡ staged_pieces ws w
 staged_is f ws w b = ap (λ (i : Bool). if i && names_table w then pieces_of (take (length ws - 1) ws) else staged_pieces ws w) b.direct

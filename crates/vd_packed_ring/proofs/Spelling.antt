@@ -1,5 +1,5 @@
 -- Each chain whose position is not behind what was given is spelled there.
-use Rattle.std.proofs.Common.{◌≡◌, ℕ, ◌+◌, ◌*◌, ◌%◌, ◌<◌, ◌≤◌, List, [], ◌∷◌, length, take, slice_index, slice_index_or, Option, None, refl, sym, ap, ◌∙◌, subst, arith, inl}
+use Rattle.std.proofs.Common.{drop, ◌≡◌, ℕ, ◌+◌, ◌*◌, ◌%◌, ◌<◌, ◌≤◌, List, [], ◌∷◌, length, take, slice_index, slice_index_or, Option, None, sym, ap, ◌∙◌, subst, arith, inl}
 use Rattle.std.specs.List.{sum_by}
 use Rattle.std.proofs.lemmas.Nat.{mod_below}
 use Rattle.std.proofs.lemmas.List.{take-append-le, take_all, take-append-drop, take-take}
@@ -61,7 +61,7 @@ spells ws d e k r more past =
 -- so is each chain that is not taken
 start_grows : (f : Frame) (o : List DriverDone) (j k : ℕ) → j ≤ k → start f o j ≤ start f o k
 start_grows f o j k h =
-    let parts : sum_by (needs f.features) (take j (take k (offers o))) + sum_by (needs f.features) (Rattle.std.proofs.Common.drop j (take k (offers o))) ≡ start f o k = sym (sum_by-append (needs f.features) (take j (take k (offers o))) (Rattle.std.proofs.Common.drop j (take k (offers o)))) ∙ ap (sum_by (needs f.features)) (take-append-drop j (take k (offers o))) in
+    let parts : sum_by (needs f.features) (take j (take k (offers o))) + sum_by (needs f.features) (drop j (take k (offers o))) ≡ start f o k = sym (sum_by-append (needs f.features) (take j (take k (offers o))) (drop j (take k (offers o)))) ∙ ap (sum_by (needs f.features)) (take-append-drop j (take k (offers o))) in
     omega (arith, parts, ap (sum_by (needs f.features)) (take-take j k (offers o) h))
 
 pub spells_untaken : (ws : List ℕ) (d : DriverView) (e : DeviceView) (k : ℕ) → Ring ws d e → length (takes e.done) ≤ k → k < length (offers d.done) → Spells d.frame ws (start d.frame d.done k) (head d.frame d.done k) (chain d.done k)

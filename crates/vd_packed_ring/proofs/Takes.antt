@@ -22,7 +22,7 @@ use Rattle.vd_packed_ring.specs.PackedWords.{second_word, put, words_of, is_avai
 use Rattle.vd_packed_ring.specs.PackedChains.{Descriptor, direct, loaded, reading, following, loaded_head, chain_of, cursor}
 use Rattle.vd_packed_ring.specs.PackedPositions.{opos, tpos, second_at}
 use Rattle.vd_packed_ring.specs.PackedDevice.{BeginsChain, device_looks, device_takes, device_loads}
-use Rattle.vd_packed_ring.specs.PackedRing.{Ring, Loads}
+use Rattle.vd_packed_ring.specs.PackedRing.{puts_of, Ring, Loads}
 use Rattle.vd_packed_ring.proofs.Rows.{row_same}
 use Rattle.vd_packed_ring.proofs.Spelled.{reading_is, cursor_is, length_direct, following_at, words_more}
 use Rattle.vd_packed_ring.proofs.Positions.{order, upos_is}
@@ -164,7 +164,7 @@ takes_last ws d e us us2 r more is_chain is_head =
     (subst (λ (i : ℕ). Ring ws d (record E { done = Take c i ∷ s; shown = false; doing = Idle })) (sym is_head) (ring_with ws ws d E (record E { done = s2; shown = false; doing = Idle }) r record {
       same = refl;
       words = r.words;
-      seconds = row_same f.size 1 ws (opos f o) (Rattle.vd_packed_ring.specs.PackedRing.puts_of d.doing) (second_at f o s) (second_at f o s2) (λ q a. refl) r.seconds;
+      seconds = row_same f.size 1 ws (opos f o) (puts_of d.doing) (second_at f o s) (second_at f o s2) (λ q a. refl) r.seconds;
       lists = lists2;
       short = r.short;
       signals = r.device_signals;
