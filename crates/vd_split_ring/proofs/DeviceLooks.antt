@@ -3,7 +3,6 @@ use Rattle.std.proofs.Common.{◌≡◌, ℕ, ◌+◌, ◌*◌, ◌%◌, ◌<◌
 use Rattle.std.proofs.lemmas.List.{take_all}
 use Rattle.vd_bits.specs.Lanes.{lane16}
 use Rattle.vd_ring.specs.declared.frame.Frame.{Frame}
-use Rattle.vd_ring.specs.declared.frame.Put.{Put}
 use Rattle.vd_ring.specs.declared.driver.DriverDone.{DriverDone}
 use Rattle.vd_ring.specs.declared.driver.DriverView.{DriverView}
 use Rattle.vd_ring.specs.declared.device.DeviceDone.{DeviceDone}
@@ -11,15 +10,15 @@ use Rattle.vd_ring.specs.declared.device.DeviceNow.TheVariants.{Idle, Taking}
 use Rattle.vd_ring.specs.declared.device.DeviceView.{DeviceView}
 use Rattle.vd_ring.specs.Frames.{Fits, limit}
 use Rattle.vd_ring.specs.History.{offers, takes, running, open_at, places, head, chain, occurs}
-use Rattle.vd_split_ring.specs.SplitWords.{lane_word, entry_lane, shows, shown_from, ShowsIndex, reading}
+use Rattle.vd_split_ring.specs.SplitWords.{is_tabled, lane_word, entry_lane, shows, shown_from, ShowsIndex, reading}
 use Rattle.vd_split_ring.specs.SplitDevice.{loaded_head, IsNewHead, device_looks}
 use Rattle.vd_split_ring.specs.SplitRing.{HasSeen, Ring}
 use Rattle.vd_ring.proofs.Counts.{occurs_from}
 use Rattle.vd_ring.proofs.HeldPlaces.{head_inside, same_head, chain_fits}
 use Rattle.vd_ring.proofs.DeviceLists.{running_below, running_open, next_taken_open, counts}
 use Rattle.vd_split_ring.proofs.Areas.{shows_same, shows_more, shows_further, shown_is}
-use Rattle.vd_split_ring.proofs.Descriptors.{length-described}
-use Rattle.vd_split_ring.proofs.Direct.{lent_pieces, reading_is}
+use Rattle.vd_split_ring.proofs.Direct.{lent_needs}
+use Rattle.vd_split_ring.proofs.Reading.{length_reading}
 use Rattle.vd_split_ring.proofs.DeviceParts.{ring_with}
 
 -- ---- the look
@@ -41,7 +40,7 @@ takes_look ws d e g n true lane is r eq = ring_with ws ws d (record e { frame = 
   same = refl;
   words = r.words;
   lists = r.lists;
-  served = r.served;
+  device_words = r.device_words;
   signals = r.device_signals;
   acks = r.acks;
   driver_doing = r.driver_doing;
@@ -57,7 +56,7 @@ takes_look ws d e g n false lane is r eq =
       same = refl;
       words = r.words;
       lists = r.lists;
-      served = r.served;
+      device_words = r.device_words;
       signals = r.device_signals;
       acks = r.acks;
       driver_doing = r.driver_doing;
@@ -102,20 +101,19 @@ finds_head ws d e g w r is =
     let t : ℕ = length (takes s) in
     let more : t < length (offers o) = seen_offered ws d E g r r.device_doing in
     let low = counts f o s r.places r.lists in
-    let is_head : loaded_head f t w ≡ head f o t = ap (λ y. lane16 y (entry_lane f t % 4)) is ∙ r.driven.entries t low.0 more in
+    let is_head : loaded_head f t w ≡ head f o t = ap (λ y. lane16 y (entry_lane f t % 4)) is ∙ r.driver_words.entries t low.0 more in
     let here : 1 ≤ occurs t (open_at o) = next_taken_open f o s r.places r.lists more in
     let fits : Fits f (chain o t) = chain_fits f o t r.places more in
-    let long : length (reading f (places f o t) (chain o t)) ≡ 2 * length (chain o t) =
-    ap (λ (l : List Put). length l) (reading_is f (places f o t) (chain o t) r.built) ∙ length-described 0 (places f o t) (chain o t) (r.places.as_many t more ∙ lent_pieces f (chain o t) r.lawful r.built) in (
+    let long = length_reading f (places f o t) (chain o t) (r.places.as_many t more ∙ lent_needs f (chain o t) r.lawful) fits.chain.0 in (
       ring_with ws ws d E (record e { frame = d.frame; doing = Taking (g ∷ w ∷ []) }) r record {
         same = refl;
         words = r.words;
         lists = r.lists;
-        served = r.served;
+        device_words = r.device_words;
         signals = r.device_signals;
         acks = r.acks;
         driver_doing = r.driver_doing;
-        device_doing = (r.device_doing, record { is_head = is_head; words = refl; left = omega (arith, fits.chain.0) });
+        device_doing = (r.device_doing, record { is_head = is_head; words = refl; left = some (is_tabled f (chain o t)) (length (chain o t)) (length (reading f (places f o t) (chain o t))) fits.chain.0 long });
         driver_seen = r.driver_seen;
         device_seen = r.device_seen;
         device_shown = r.device_shown;
@@ -130,3 +128,8 @@ finds_head ws d e g w r is =
             omega arith;
       },
     )
+  where
+    -- a chain has a word
+    some : (tabled : Bool) (n m : ℕ) → 0 < n → m ≡ (if tabled then 2 + 2 * n else 2 * n) → 0 < m
+    some true n m h e = omega arith
+    some false n m h e = omega arith
