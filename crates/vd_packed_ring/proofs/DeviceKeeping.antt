@@ -1,5 +1,5 @@
 -- Each access of the device that is next keeps the ring invariant, and its answer tells what the view says.
-use Rattle.std.proofs.Common.{ℕ, ◌<◌, List, ◌∷◌, slice_index, sym, ap, subst, arith, inl, inr}
+use Rattle.std.proofs.Common.{◌≡◌, ℕ, ◌<◌, List, ◌∷◌, slice_index, sym, ap, subst, arith, inl, inr}
 use Rattle.vd_words.specs.declared.access.Access.{Access}
 use Rattle.vd_words.specs.declared.access.Access.TheVariants.{Load, Store}
 use Rattle.vd_words.specs.declared.access.Op.{Op}
@@ -9,7 +9,7 @@ use Rattle.vd_ring.specs.declared.driver.DriverView.{DriverView}
 use Rattle.vd_ring.specs.declared.device.DeviceNow.{DeviceNow}
 use Rattle.vd_ring.specs.declared.device.DeviceNow.TheVariants.{Idle, Taking}
 use Rattle.vd_ring.specs.declared.device.DeviceView.{DeviceView}
-use Rattle.vd_packed_ring.specs.PackedWords.{IsDescriptors, width}
+use Rattle.vd_packed_ring.specs.PackedWords.{IsDescriptors, second_word, width}
 use Rattle.vd_packed_ring.specs.PackedPositions.{tpos}
 use Rattle.vd_packed_ring.specs.PackedDevice.{DeviceNextAt, DeviceNext, BeginsRest}
 use Rattle.vd_packed_ring.specs.PackedDeviceLaws.{DeviceKeeps}
@@ -43,10 +43,11 @@ device_keeps_at ws d e Idle op.Give (Store p x) r h =
 device_keeps_at ws d e Idle op.Rest (Load p) r h =
     let E : DeviceView = record e { frame = d.frame; doing = Idle } in
     let n : BeginsRest d.frame e.done p = h in
+    let is : slice_index ws p ≡ slice_index ws (second_word d.frame.size (tpos d.frame e.done)) = ap (λ (q : ℕ). slice_index ws q) n.place in
     record {
       inside = omega (arith, r.words.wide, second_inside d.frame (tpos d.frame e.done) r.lawful.least, n.place);
-      keeps = rests ws d e r n.whole;
-      told = (knows ws d E (Load p) r, tt);
+      keeps = rests ws d e (slice_index ws p) r n.whole is;
+      told = (knows ws d E (Load p) r, (looks ws d e (slice_index ws p) r is).1.1);
     }
 device_keeps_at ws d e Idle op.Control (Load p) r h =
     let did = commands ws d e p r h in record { inside = omega (arith, r.words.wide, did.1); keeps = did.0; told = (knows ws d (record e { frame = d.frame; doing = Idle }) (Load p) r, tt) }

@@ -29,7 +29,7 @@ use Rattle.vd_packed_ring.specs.PackedWords.{second_word, put, words_of, is_used
 use Rattle.vd_packed_ring.specs.PackedChains.{Descriptor, described, staged_chain}
 use Rattle.vd_packed_ring.specs.PackedPositions.{opos, cpos}
 use Rattle.vd_packed_ring.specs.PackedDriver.{Publishes, DriverNextAt, DriverNext, driver_after_at, driver_act_at, driver_act, driver_offers, driver_collects, stores, collect_act}
-use Rattle.vd_packed_ring.specs.PackedDriverLaws.{DriverBags, IsOffered, IsCollected, LooksNothing}
+use Rattle.vd_packed_ring.specs.PackedDriverLaws.{DriverBags, IsOffered, IsCollected, CollectsNothing}
 use Rattle.vd_packed_ring.specs.PackedRing.{Ring, Stages}
 use Rattle.vd_packed_ring.proofs.Spelled.{descriptors_is, table_stands}
 use Rattle.vd_packed_ring.proofs.Offers.{describes, publishes}
@@ -174,13 +174,13 @@ driver_collected ws d e op a k l h r n is = collected_at ws d e d.doing op a k l
 
 -- ---- Nothing
 
-other_answer : (ws : List ℕ) (d : DriverView) (e : DeviceView) (o : Op) (a : Access) → (driver_act d o a (answered ws a) ≡ act.Nothing → ⊥) → (d.doing ≡ Idle → o ≡ op.Collect → ⊥) → LooksNothing ws d e o a
+other_answer : (ws : List ℕ) (d : DriverView) (e : DeviceView) (o : Op) (a : Access) → (driver_act d o a (answered ws a) ≡ act.Nothing → ⊥) → (d.doing ≡ Idle → o ≡ op.Collect → ⊥) → CollectsNothing ws d e o a
 other_answer ws d e o a never other = record { only = λ is. absurd (never is); says = λ is. absurd (never is); shown = λ idle collect word. absurd (other idle collect); all = λ is. absurd (never is) }
 
 all_collected : (o : List DriverDone) (s : List DeviceDone) → collects o ≡ take (length (collects o)) (gives s) → length (gives s) ≤ length (collects o) → collects o ≡ gives s
 all_collected o s is none = is ∙ take_all (length (collects o)) (gives s) none
 
-nothing_at : (ws : List ℕ) (d : DriverView) (e : DeviceView) (now : DriverNow) (o : Op) (a : Access) → Ring ws (record d { doing = now }) e → DriverNextAt now (record d { doing = now }) o a → LooksNothing ws (record d { doing = now }) e o a
+nothing_at : (ws : List ℕ) (d : DriverView) (e : DeviceView) (now : DriverNow) (o : Op) (a : Access) → Ring ws (record d { doing = now }) e → DriverNextAt now (record d { doing = now }) o a → CollectsNothing ws (record d { doing = now }) e o a
 nothing_at ws d e Idle op.Collect (Load p) r h =
     let v : DriverView = record d { doing = Idle } in let w : ℕ = slice_index ws p in let b : Bool = is_used d.frame.size (cpos d.frame d.done) w in record {
       only = λ is. (refl, refl);
@@ -198,7 +198,7 @@ nothing_at ws d e Idle op.Control (Store p x) r h = other_answer ws (record d { 
 nothing_at ws d e Idle op.Control (Load p) r h = other_answer ws (record d { doing = Idle }) e op.Control (Load p) (λ is. cc) (λ idle collect. cc)
 nothing_at ws d e _ _ _ r h = absurd h
 
-pub driver_nothing : (ws : List ℕ) (d : DriverView) (e : DeviceView) (o : Op) (a : Access) → Ring ws d e → DriverNext d o a → LooksNothing ws d e o a
+pub driver_nothing : (ws : List ℕ) (d : DriverView) (e : DeviceView) (o : Op) (a : Access) → Ring ws d e → DriverNext d o a → CollectsNothing ws d e o a
 driver_nothing ws d e o a r h = nothing_at ws d e d.doing o a r h
 
 -- ---- the bag

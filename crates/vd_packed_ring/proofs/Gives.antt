@@ -1,5 +1,6 @@
 -- The device's give and rest keep the ring invariant.
-use Rattle.std.proofs.Common.{slice_index_or, ◌≡◌, ◌≢◌, ℕ, ◌*◌, ◌<◌, ◌≤◌, List, [], ◌∷◌, length, take, slice_set, Option, None, refl, sym, ap, ◌∙◌, subst, arith}
+use Rattle.std.proofs.lemmas.Bool.{cases_lt}
+use Rattle.std.proofs.Common.{inl, inr, ◌+◌, if◌then◌else◌, Bool, true, slice_index, slice_index_or, ◌≡◌, ◌≢◌, ℕ, ◌*◌, ◌<◌, ◌≤◌, List, [], ◌∷◌, length, take, slice_set, Option, None, refl, sym, ap, ◌∙◌, subst, arith}
 use Rattle.std.proofs.lemmas.List.{length-take-le}
 use Rattle.std.proofs.lemmas.List.Elements.{All-push}
 use Rattle.vd_model.specs.Chains.{needs}
@@ -11,15 +12,15 @@ use Rattle.vd_ring.specs.declared.device.DeviceDone.{DeviceDone}
 use Rattle.vd_ring.specs.declared.device.DeviceDone.TheVariants.{Give, Rest}
 use Rattle.vd_ring.specs.declared.device.DeviceNow.TheVariants.{Idle}
 use Rattle.vd_ring.specs.declared.device.DeviceView.{DeviceView}
-use Rattle.vd_ring.specs.History.{takes, gives, running, running_size, taken_head, with_head, head, chain, chain_at, given, batch, entry, IsWhole}
+use Rattle.vd_ring.specs.History.{offers, takes, gives, running, running_size, taken_head, with_head, head, chain, chain_at, given, batch, entry, IsWhole}
 use Rattle.vd_ring.proofs.Counts.{occurs_from, with_head_is}
 use Rattle.vd_ring.proofs.HeldPlaces.{chain_fits}
 use Rattle.vd_ring.proofs.ListSteps.{batch_one}
 use Rattle.vd_ring.proofs.DeviceLists.{running_below, running_head, same_taken_head, lists_given, lists_rested}
 use Rattle.vd_ring.proofs.DeviceAcks.{acks_given, acks_rested, acks_elsewhere}
-use Rattle.vd_packed_ring.specs.PackedWords.{width, device_event, call_at, ack_word, second_word, len_of, id_of, used_word}
-use Rattle.vd_packed_ring.specs.PackedPositions.{opos, upos, made_at, marks, stands, second_at}
-use Rattle.vd_packed_ring.specs.PackedDevice.{Returns, device_gives, device_rests}
+use Rattle.vd_packed_ring.specs.PackedWords.{is_available, width, device_event, call_at, ack_word, second_word, len_of, id_of, used_word}
+use Rattle.vd_packed_ring.specs.PackedPositions.{tpos, opos, upos, made_at, marks, stands, second_at}
+use Rattle.vd_packed_ring.specs.PackedDevice.{Returns, device_gives, seen_to, device_rests}
 use Rattle.vd_packed_ring.specs.PackedRing.{Ring, puts_of}
 use Rattle.vd_packed_ring.proofs.WordFacts.{used_id, used_len}
 use Rattle.vd_packed_ring.proofs.Areas.{areas, second_low, second_inside, device_second}
@@ -27,6 +28,8 @@ use Rattle.vd_packed_ring.proofs.Rows.{row_same, row_over}
 use Rattle.vd_packed_ring.proofs.Positions.{needs_some, order, upos_is, taken_chain, gives_below, upos_given}
 use Rattle.vd_packed_ring.proofs.Made.{length_marks, mark_new, mark_old}
 use Rattle.vd_packed_ring.proofs.Clear.{doing_clear, doing_other, signals_elsewhere}
+use Rattle.vd_packed_ring.proofs.Ahead.{ahead, none_shows}
+use Rattle.vd_packed_ring.proofs.Takes.{shows_next}
 use Rattle.vd_packed_ring.proofs.DeviceParts.{ring_with}
 
 -- what a give stores
@@ -110,18 +113,35 @@ returns ws d e p x r n =
 
 -- ---- the rest
 
-pub rests : (ws : List ℕ) (d : DriverView) (e : DeviceView) → Ring ws d (record e { frame = d.frame; doing = Idle }) → IsWhole e.done → Ring ws d (device_rests (record e { frame = d.frame; doing = Idle }))
-rests ws d e r is =
+-- what its look shows was offered, and is past what is taken where the last look showed a chain
+rest_sees : (ws : List ℕ) (d : DriverView) (e : DeviceView) (w : ℕ) → Ring ws d (record e { frame = d.frame }) → w ≡ slice_index ws (second_word d.frame.size (tpos d.frame e.done))
+    → (seen_to (record e { frame = d.frame }) w ≤ opos d.frame d.done) × (e.shown ≡ true → tpos d.frame e.done < seen_to (record e { frame = d.frame }) w)
+rest_sees ws d e w r is =
+    let f : Frame = d.frame in let q : ℕ = tpos f e.done in
+    let E : DeviceView = record e { frame = d.frame } in
+    let P : Bool → Type 0 = λ b. ((if b then q + 1 else q) ≤ opos f d.done) × (e.shown ≡ true → q < (if b then q + 1 else q)) in
+    elim (cases_lt (length (takes e.done)) (length (offers d.done))) [
+      | inl more ↦ subst P (sym (ap (is_available f.size q) is ∙ shows_next ws d E r more)) ((ahead ws d E r more).fewer, λ h. omega arith)
+      | inr none ↦ (
+          let no = none_shows ws d E r none in
+          subst P (sym (ap (is_available f.size q) is ∙ no.1)) (omega (arith, no.0), λ h. omega (arith, r.device_shown h, r.device_seen, no.0))
+          )
+    ]
+
+pub rests : (ws : List ℕ) (d : DriverView) (e : DeviceView) (w : ℕ) → Ring ws d (record e { frame = d.frame; doing = Idle }) → IsWhole e.done → w ≡ slice_index ws (second_word d.frame.size (tpos d.frame e.done)) → Ring ws d (device_rests (record e { frame = d.frame; doing = Idle }) w)
+rests ws d e w r whole is =
     let f : Frame = d.frame in let s : List DeviceDone = e.done in let o : List DriverDone = d.done in let g : ℕ = length (gives s) in
     let E : DeviceView = record e { frame = d.frame; doing = Idle } in
     let s2 : List DeviceDone = Rest ∷ s in
     let len : length (take g (takes s)) ≡ g = length-take-le g (takes s) (omega (arith, r.lists.count)) in
-    let lists2 = lists_rested f o s r.lists is in
+    let lists2 = lists_rested f o s r.lists whole in
     let ord = order f o s r.places r.lists in
     let ord2 = order f o s2 r.places lists2 in
     let same_upos : upos f s2 ≡ upos f s = upos_is f o s2 lists2 ∙ sym (upos_is f o s r.lists) in
     let none : running_size f s2 ≡ 0 = refl in
-    ring_with ws ws d E (record E { done = s2; armed = None }) r record {
+    let back : tpos f s2 ≤ tpos f s = omega (arith, ord.given, same_upos, ord2.running_span, none) in
+    let sees = rest_sees ws d E w r is in
+    ring_with ws ws d E (record E { done = s2; armed = None; seen = seen_to E w }) r record {
       same = refl;
       words = r.words;
       seconds = row_same f.size 1 ws (opos f o) (puts_of d.doing) (second_at f o s) (second_at f o s2) (λ q a. refl) r.seconds;
@@ -132,7 +152,7 @@ rests ws d e r is =
       driver_doing = r.driver_doing;
       device_doing = tt;
       driver_seen = omega (arith, r.driver_seen, same_upos);
-      device_seen = r.device_seen;
-      device_shown = λ h. omega (arith, r.device_shown h, ord.given, same_upos, ord2.running_span, none);
-      rested = (len, is);
+      device_seen = sees.0;
+      device_shown = λ h. omega (arith, sees.1 h, back);
+      rested = (len, whole);
     }

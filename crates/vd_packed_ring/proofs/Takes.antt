@@ -21,7 +21,7 @@ use Rattle.vd_ring.proofs.DeviceAcks.{acks_taken}
 use Rattle.vd_packed_ring.specs.PackedWords.{second_word, put, words_of, is_available, Stand, ack_word}
 use Rattle.vd_packed_ring.specs.PackedChains.{Descriptor, direct, loaded, reading, following, loaded_head, chain_of, cursor}
 use Rattle.vd_packed_ring.specs.PackedPositions.{opos, tpos, second_at}
-use Rattle.vd_packed_ring.specs.PackedDevice.{BeginsChain, device_looks, device_takes, device_loads}
+use Rattle.vd_packed_ring.specs.PackedDevice.{ShowsSeen, BeginsChain, device_looks, device_takes, device_loads}
 use Rattle.vd_packed_ring.specs.PackedRing.{puts_of, Ring, Loads}
 use Rattle.vd_packed_ring.proofs.Rows.{row_same}
 use Rattle.vd_packed_ring.proofs.Spelled.{reading_is, cursor_is, length_direct, following_at, words_more}
@@ -56,7 +56,9 @@ shows_next ws d e r more =
     (first_word f.size (tpos f e.done) (head f d.done k) (chain d.done k) (slice_index ws (second_word f.size (tpos f e.done)) ∷ []) a.small a.fits.chain.3 a.fits.chain.0 (omega arith) (next_word ws d e r more)).1
 
 abbrev pub LookTells : DriverView → DeviceView → ℕ → Type 0
-LookTells d e w = (is_available d.frame.size (tpos d.frame e.done) w ≡ true → (length (takes e.done) < limit d.frame) × BeginsChain d.frame e.done (w ∷ [])) × (e.shown ≡ true → is_available d.frame.size (tpos d.frame e.done) w ≡ true) × (tpos d.frame e.done < e.seen → is_available d.frame.size (tpos d.frame e.done) w ≡ true)
+LookTells d e w =
+    (is_available d.frame.size (tpos d.frame e.done) w ≡ true → (length (takes e.done) < limit d.frame) × BeginsChain d.frame e.done (w ∷ []))
+    × ShowsSeen (record e { frame = d.frame }) w
 
 pub looks : (ws : List ℕ) (d : DriverView) (e : DeviceView) (w : ℕ) → Ring ws d (record e { frame = d.frame; doing = Idle }) → w ≡ slice_index ws (second_word d.frame.size (tpos d.frame e.done)) → Ring ws d (device_looks (record e { frame = d.frame; doing = Idle }) w) × LookTells d e w
 looks ws d e w r is =
@@ -91,7 +93,7 @@ looks ws d e w r is =
               device_shown = λ h. omega arith;
               rested = r.rested;
             }),
-            (λ on. (omega (arith, r.places.limited), b.0), λ h. shows, λ h. shows),
+            (λ on. (omega (arith, r.places.limited), b.0), (λ h. shows, λ h. shows)),
           )
           )
       | inr none ↦ (
@@ -114,8 +116,7 @@ looks ws d e w r is =
             }),
             (
               λ on. absurd (let x : false ≡ true = sym off ∙ on in cc),
-              λ h. absurd (omega (arith, r.device_shown h, r.device_seen, no.0)),
-              λ h. absurd (omega (arith, r.device_seen, no.0)),
+              (λ h. absurd (omega (arith, r.device_shown h, r.device_seen, no.0)), λ h. absurd (omega (arith, r.device_seen, no.0))),
             ),
           )
           )

@@ -86,8 +86,13 @@ device_gives v p x =
     let s : List DeviceDone = Give (given v.frame v.done (id_of x) (len_of x)) ∷ v.done in
     record v { done = s; stored = slice_set v.stored p x; doing = device_published (upos v.frame v.done) (upos v.frame s) }
 
-abbrev pub device_rests : DeviceView → DeviceView
-device_rests v = record v { done = Rest ∷ v.done; armed = None }
+-- up to which position a look shows chains
+abbrev pub seen_to : DeviceView → ℕ → ℕ
+seen_to v r = if is_available v.frame.size (tpos v.frame v.done) r then tpos v.frame v.done + 1 else tpos v.frame v.done
+
+-- its look is no look for a chain: what the last one showed stays
+abbrev pub device_rests : DeviceView → ℕ → DeviceView
+device_rests v r = record v { done = Rest ∷ v.done; armed = None; seen = seen_to v r }
 
 abbrev pub device_commands : DeviceView → ℕ → ℕ → DeviceView
 device_commands v p r =
@@ -100,7 +105,7 @@ abbrev pub device_after_at : DeviceNow → DeviceView → Op → Access → ℕ 
 device_after_at Idle v op.Take (Load p) r = device_looks v r
 device_after_at (Taking (w ∷ ws)) v op.Take (Load p) r = device_loads v (w ∷ ws ++ r ∷ [])
 device_after_at Idle v op.Give (Store p x) r = device_gives v p x
-device_after_at Idle v op.Rest (Load p) r = device_rests v
+device_after_at Idle v op.Rest (Load p) r = device_rests v r
 device_after_at Idle v op.Control (Load p) r = device_commands v p r
 device_after_at Idle v op.Control (Store p x) r = device_acks v p x
 device_after_at _ v _ _ _ = v
@@ -131,13 +136,18 @@ pub record BeginsChain (f : Frame) (s : List DeviceDone) (ws : List ℕ) : Type 
   -- it and the chains taken and not given are no more descriptors than places
   pub room : running_size f s + needs f.features chain ≤ f.size
 
--- a look shows a chain before a position seen
+-- a look shows a chain where the last one did and it is not taken since, and at each position before that seen
+abbrev pub ShowsSeen : DeviceView → ℕ → Type 0
+ShowsSeen v r =
+    (v.shown ≡ true → is_available v.frame.size (tpos v.frame v.done) r ≡ true)
+    × (tpos v.frame v.done < v.seen → is_available v.frame.size (tpos v.frame v.done) r ≡ true)
+
 abbrev pub DeviceTellsAt : DeviceNow → DeviceView → Op → Access → ℕ → Type 0
 DeviceTellsAt Idle v op.Take (Load p) r =
     (is_available v.frame.size (tpos v.frame v.done) r ≡ true → (length (takes v.done) < limit v.frame) × BeginsChain v.frame v.done (r ∷ []))
-    × (v.shown ≡ true → is_available v.frame.size (tpos v.frame v.done) r ≡ true)
-    × (tpos v.frame v.done < v.seen → is_available v.frame.size (tpos v.frame v.done) r ≡ true)
+    × ShowsSeen v r
 DeviceTellsAt (Taking (w ∷ ws)) v op.Take (Load p) r = BeginsChain v.frame v.done (w ∷ ws ++ r ∷ [])
+DeviceTellsAt Idle v op.Rest (Load p) r = ShowsSeen v r
 DeviceTellsAt _ _ _ _ _ = Unit {0}
 
 -- a load of a word that only the device stores answers what it stored there last

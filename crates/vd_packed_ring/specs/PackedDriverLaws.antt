@@ -61,7 +61,7 @@ pub record StoresAhead (f : Frame) (o : List DriverDone) (p : ℕ) : Type 0 wher
 
 -- Nothing is the answer of a collect alone, exactly where the loaded word isn't used for the position's wrap; then all entries given are
 -- collected
-pub record LooksNothing (ws : List ℕ) (d : DriverView) (e : DeviceView) (o : Op) (a : Access) : Type 0 where
+pub record CollectsNothing (ws : List ℕ) (d : DriverView) (e : DeviceView) (o : Op) (a : Access) : Type 0 where
   pub only : driver_act d o a (answered ws a) ≡ act.Nothing → (d.doing ≡ Idle) × (o ≡ op.Collect)
   pub says : driver_act d o a (answered ws a) ≡ act.Nothing → is_used d.frame.size (cpos d.frame d.done) (answered ws a) ≡ false
   pub shown : d.doing ≡ Idle → o ≡ op.Collect → is_used d.frame.size (cpos d.frame d.done) (answered ws a) ≡ false → driver_act d o a (answered ws a) ≡ act.Nothing

@@ -9,9 +9,10 @@ ghost use Rattle.vd_ring.specs.declared.act.DriverAct.TheVariants.{Offered, Coll
 ghost use Rattle.vd_ring.specs.declared.device.DeviceView.{DeviceView};
 ghost use Rattle.vd_ring.specs.declared.driver.DriverView.{DriverView};
 ghost use Rattle.vd_ring.specs.Bag.{State};
+ghost use Rattle.vd_ring.specs.DriverSteps.{DriverDid};
 ghost use Rattle.vd_ring.specs.Steps.{StandsFor};
-ghost use Rattle.vd_packed_ring.specs.PackedDriver.{DriverNext, driver_act};
-ghost use Rattle.vd_packed_ring.specs.PackedDriverLaws.{DriverKeeps, DriverAlone, DriverBags, IsOffered, IsCollected, StoresAhead, LooksNothing};
+ghost use Rattle.vd_packed_ring.specs.PackedDriver.{DriverNext, driver_after, driver_act};
+ghost use Rattle.vd_packed_ring.specs.PackedDriverLaws.{DriverKeeps, DriverAlone, DriverBags, IsOffered, IsCollected, StoresAhead, CollectsNothing};
 ghost use Rattle.vd_packed_ring.specs.PackedRing.{Ring};
 ghost use Rattle.vd_packed_ring.specs.PackedWords.{IsLawful, IsBuilt};
 
@@ -20,10 +21,12 @@ pub fn driver_law()
     ensures { (ws : List ℕ) (d : DriverView) (e : DeviceView) (o : Op) (a : Access) → Ring ws d e → DriverNext d o a → DriverKeeps ws d e o a }
 {}
 
-/// From the view alone: an access that is next is to one of the ring's words and leaves the frame, and a store of an offer is at a
-/// position from the driver's own on, less than the ring's size past what it collected.
+/// From the view alone: an access that is next is to one of the ring's words, none changes the frame, and each answer says what was
+/// done; a store of an offer is at a position from the driver's own on, less than the ring's size past what it collected.
 pub fn driver_alone_law()
-    ensures alone { (d : DriverView) (o : Op) (a : Access) → IsLawful d.frame → IsBuilt d.frame → DriverNext d o a → DriverAlone d o a }
+    ensures inside { (d : DriverView) (o : Op) (a : Access) → IsLawful d.frame → IsBuilt d.frame → DriverNext d o a → DriverAlone d o a }
+    ensures frame { (d : DriverView) (o : Op) (a : Access) (r : ℕ) → (driver_after d o a r).frame ≡ d.frame }
+    ensures did { (d : DriverView) (o : Op) (a : Access) (r : ℕ) → DriverDid (driver_act d o a r) d.done (driver_after d o a r).done }
     ensures ahead { (d : DriverView) (p x : ℕ) → IsLawful d.frame → IsBuilt d.frame → DriverNext d Offer (Store p x) → StoresAhead d.frame d.done p }
 {}
 
@@ -44,5 +47,5 @@ pub fn driver_collected_law()
 
 /// `Nothing` is the answer of a collect exactly where the loaded word isn't used for that wrap. Then all that was given is collected.
 pub fn driver_nothing_law()
-    ensures { (ws : List ℕ) (d : DriverView) (e : DeviceView) (o : Op) (a : Access) → Ring ws d e → DriverNext d o a → LooksNothing ws d e o a }
+    ensures { (ws : List ℕ) (d : DriverView) (e : DeviceView) (o : Op) (a : Access) → Ring ws d e → DriverNext d o a → CollectsNothing ws d e o a }
 {}
