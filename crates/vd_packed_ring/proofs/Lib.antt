@@ -3,6 +3,7 @@ pub mod Areas
 pub mod Plans
 pub mod Rows
 pub mod Spelled
+pub mod Tables
 pub mod Positions
 pub mod Made
 pub mod Clear
