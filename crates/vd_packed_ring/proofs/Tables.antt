@@ -12,7 +12,7 @@ use Rattle.vd_ring.specs.declared.frame.Put.{Put}
 use Rattle.vd_packed_ring.specs.PackedWords.{wrap_bit, other_bit, table_of, addr_word, second_word, packed_word, put, words_of, len_of, id_of, flags_of, names_table, is_write}
 use Rattle.vd_packed_ring.specs.PackedChains.{Descriptor, blank, avail_word, more, flags, direct, is_tabled, pointer, descriptors, tabled, table, staged, publishing, loaded, spelling, reading, piece_of, pieces_of, pieces_in, ends, following, has_table, table_words, loaded_head, is_whole, chain_of, cursor, staged_pieces, staged_chain}
 use Rattle.vd_packed_ring.proofs.WordFacts.{Fits, len_back, flags_back, avail_len, avail_id}
-use Rattle.vd_packed_ring.proofs.Spelled.{length_direct, direct_fits, staged_back, loaded_back, length_loaded, not_whole, whole, following_at}
+use Rattle.vd_packed_ring.proofs.Spelled.{direct_id, length_direct, direct_fits, staged_back, loaded_back, length_loaded, not_whole, whole, following_at}
 
 -- ---- which chains stand in tables
 
@@ -64,7 +64,7 @@ descriptors_id f id c some = at (kind f c)
   where
     at : Kind f c → (slice_index_or (descriptors f id c) 0 blank).id ≡ id
     at (by_table t on h) = ap (λ (l : List Descriptor). (slice_index_or l 0 blank).id) (tabled_is f id c t).0
-    at (in_ring t h) = ap (λ (l : List Descriptor). (slice_index_or l 0 blank).id) (direct_is f id c t).0 ∙ Rattle.vd_packed_ring.proofs.Spelled.direct_id id c some
+    at (in_ring t h) = ap (λ (l : List Descriptor). (slice_index_or l 0 blank).id) (direct_is f id c t).0 ∙ direct_id id c some
 
 -- ---- a table's words
 
@@ -99,9 +99,6 @@ tabled_back t (x ∷ c) ok =
     ap₂ (λ (y : Piece) (l : List Piece). y ∷ l) (table_piece x (All-head IsPiece x c ok)) (tabled_back (t + 2) c (All-tail IsPiece x c ok))
 
 -- ---- the word that names a table, and those that do not
-
-abbrev wrapped : ℕ → ℕ → ℕ
-wrapped n q = 128 * wrap_bit n q + 32768 * other_bit n q
 
 avail_flags_of : (n q : ℕ) (d : Descriptor) → Fits d → flags_of (avail_word n q d) ≡ d.flags + 128 * wrap_bit n q + 32768 * other_bit n q
 avail_flags_of n q d ok = flags_back d.len d.id (d.flags + 128 * wrap_bit n q + 32768 * other_bit n q) ok.len ok.id
