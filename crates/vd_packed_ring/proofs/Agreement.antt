@@ -1,0 +1,150 @@
+-- The lists and positions of the two sides agree; what the two looks show; where each side stores.
+use Rattle.std.proofs.Common.{◌↔◌, ◌≡◌, ℕ, zero, suc, ◌+◌, ◌%◌, ◌<◌, ◌≤◌, Bool, true, false, List, [], ◌∷◌, ◌++◌, length, take, nat_lt, slice_index, slice_index_or, refl, sym, ap, ◌∙◌, subst, arith, inl, inr}
+use Rattle.std.proofs.lemmas.Bool.{cases_lt}
+use Rattle.std.proofs.lemmas.List.{length_push, length-map, get_or_append_left, get_or_push, get_or-take}
+use Rattle.std.proofs.lemmas.Grind.{same_number_lists}
+use Rattle.vd_model.specs.Chains.{needs}
+use Rattle.vd_words.specs.declared.access.Access.TheVariants.{Store}
+use Rattle.vd_words.specs.declared.access.Op.TheVariants as op
+use Rattle.vd_ring.specs.declared.frame.Frame.{Frame}
+use Rattle.vd_ring.specs.declared.frame.Put.{Put}
+use Rattle.vd_ring.specs.declared.frame.Used.{Used}
+use Rattle.vd_ring.specs.declared.driver.DriverDone.{DriverDone}
+use Rattle.vd_ring.specs.declared.driver.DriverNow.{DriverNow}
+use Rattle.vd_ring.specs.declared.driver.DriverNow.TheVariants as driver
+use Rattle.vd_ring.specs.declared.driver.DriverView.{DriverView}
+use Rattle.vd_ring.specs.declared.device.DeviceDone.{DeviceDone}
+use Rattle.vd_ring.specs.declared.device.DeviceNow.{DeviceNow}
+use Rattle.vd_ring.specs.declared.device.DeviceNow.TheVariants as device
+use Rattle.vd_ring.specs.declared.device.DeviceView.{DeviceView}
+use Rattle.vd_ring.specs.Account.{Ordered}
+use Rattle.vd_ring.specs.History.{offers, collects, takes, gives, chain, numbers, used_at, upto, entry, running}
+use Rattle.vd_ring.proofs.Counts.{one_small, length_upto, occurs_from}
+use Rattle.vd_ring.proofs.HeldPlaces.{chain_fits}
+use Rattle.vd_ring.proofs.ListSteps.{given_below, given_within, number_at}
+use Rattle.vd_ring.proofs.DeviceLists.{running_below}
+use Rattle.vd_packed_ring.specs.PackedWords.{IsLawful, IsBuilt, second_word, is_used, put}
+use Rattle.vd_packed_ring.specs.PackedPositions.{opos, cpos}
+use Rattle.vd_packed_ring.specs.PackedDriver.{Begins, Publishes, DriverNextAt, DriverNext}
+use Rattle.vd_packed_ring.specs.PackedDevice.{Returns, DeviceNextAt, DeviceNext}
+use Rattle.vd_packed_ring.specs.PackedDriverLaws.{StoresAhead}
+use Rattle.vd_packed_ring.specs.PackedLaws.{Counts, Agree, LooksShow, GivesBehind}
+use Rattle.vd_packed_ring.specs.PackedRing.{Ring}
+use Rattle.vd_packed_ring.proofs.Areas.{places_differ}
+use Rattle.vd_packed_ring.proofs.Plans.{IsStored}
+use Rattle.vd_packed_ring.proofs.Positions.{needs_some, order, taken_chain, device_span, gives_below}
+use Rattle.vd_packed_ring.proofs.Clear.{stored_all, room_pieces}
+use Rattle.vd_packed_ring.proofs.Collects.{shows_none, found}
+use Rattle.vd_packed_ring.proofs.Ahead.{none_shows}
+use Rattle.vd_packed_ring.proofs.Takes.{shows_next}
+
+upto_at : (n j : ℕ) → j < n → slice_index (upto n) j ≡ j
+upto_at zero j h = absurd (omega arith)
+upto_at (suc n) j h = elim (cases_lt j n) [
+  | inl a ↦ get_or_append_left (upto n) (n ∷ []) 0 j (omega (arith, length_upto n)) ∙ upto_at n j a
+  | inr a ↦ (let e : n ≡ j = omega arith in get_or_push (upto n) n 0 j (length_upto n ∙ e) ∙ e)
+]
+
+-- a list of entries whose j-th number is j
+ordered : (us : List Used) → ((j : ℕ) → j < length us → (used_at us j).number ≡ j) → Ordered us
+ordered us at =
+    let len : length (numbers us) ≡ length us = length-map us (λ (u : Used). u.number) in
+    same_number_lists (numbers us) (upto (length us)) (len ∙ sym (length_upto (length us))) (λ j h. number_at us j (omega arith) ∙ at j (omega arith) ∙ sym (upto_at (length us) j (omega arith)))
+
+collected_at : (o : List DriverDone) (gs : List Used) (j : ℕ) → collects o ≡ take (length (collects o)) gs → j < length (collects o) → used_at (collects o) j ≡ used_at gs j
+collected_at o gs j is h = ap (λ (us : List Used). used_at us j) is ∙ get_or-take (length (collects o)) gs j (entry 0 0) h
+
+pub agree : (ws : List ℕ) (d : DriverView) (e : DeviceView) → Ring ws d e → Agree d.frame d.done e.done
+agree ws d e r =
+    let f : Frame = d.frame in let o : List DriverDone = d.done in let s : List DeviceDone = e.done in
+    let l = r.lists in
+    let ord = order f o s r.places l in
+    record {
+      taken = l.taken;
+      collected = l.collected;
+      differ = λ k. omega (arith, l.given k, one_small (nat_lt k (length (takes s))));
+      below = λ j h. given_below f o s j l h;
+      counts = (l.fewer, omega (arith, l.count), l.some);
+      positions = (ord.collected, ord.given, ord.taken);
+      few = (given_within f o s r.places l).1;
+      room = omega (arith, ord.open_span, r.room);
+      span = r.room;
+      given_ordered = λ on. ordered (gives s) (l.in_order on);
+      collected_ordered = λ on. ordered (collects o) (λ j h. ap (λ (u : Used). u.number) (collected_at o (gives s) j l.collected h) ∙ l.in_order on j (omega (arith, l.fewer)));
+      device_counts = record {
+        once = l.given;
+        some = λ k a.
+            let rb = running_below f o s k l (occurs_from k (running s) a) in
+            omega (arith, ap (needs f.features) (taken_chain f o s k l rb.0), needs_some f (chain o k) (chain_fits f o k r.places (omega (arith, rb.0, l.some))));
+      };
+    }
+
+not_both : (b : Bool) → b ≡ false → b ≡ true → ⊥
+not_both b off on = let e : false ≡ true = sym off ∙ on in absurd cc
+
+driver_shows : (ws : List ℕ) (d : DriverView) (e : DeviceView) (now : DriverNow) → now ≡ driver.Idle → Ring ws (record d { doing = now }) e
+    → (is_used d.frame.size (cpos d.frame d.done) (slice_index ws (second_word d.frame.size (cpos d.frame d.done))) ≡ true) ↔ (length (collects d.done) < length (gives e.done))
+driver_shows ws d e now idle r0 =
+    let r = subst (λ (x : DriverNow). Ring ws (record d { doing = x }) e) idle r0 in (
+      λ on. elim (cases_lt (length (collects d.done)) (length (gives e.done))) [ inl h ↦ h | inr h ↦ absurd (not_both _ (shows_none ws d e r h) on) ],
+      λ more. (found ws d e r more).shows,
+    )
+
+pub looks_show : (ws : List ℕ) (d : DriverView) (e : DeviceView) → Ring ws d e → LooksShow ws d e
+looks_show ws d e r = record {
+  driver = λ idle. driver_shows ws d e d.doing idle r;
+  device = (
+    λ on. elim (cases_lt (length (takes e.done)) (length (offers d.done))) [ inl h ↦ h | inr h ↦ absurd (not_both _ (none_shows ws d e r h).1 on) ],
+    λ more. shows_next ws d e r more,
+  );
+}
+
+-- ---- where each side stores, from its own view
+
+stored_last : (f : Frame) (o : List DriverDone) (puts : List Put) (p x : ℕ) → IsLawful f → IsBuilt f → Begins f o (puts ++ put p x ∷ []) → StoresAhead f o p
+stored_last f o puts p x l b n =
+    let all : List Put = puts ++ put p x ∷ [] in
+    let at : (slice_index_or all (length puts) (put 0 0)).place ≡ p = ap (λ (s : Put). s.place) (get_or_push puts (put p x) (put 0 0) (length puts) refl) in
+    let w : IsStored f.size (opos f o) (length n.chain) p = subst (λ (i : ℕ). IsStored f.size (opos f o) (length n.chain) i) at (stored_all f o n.chain all b n.first (length puts) (put 0 0) (omega (arith, length_push puts (put p x)))) in
+    record {
+      position = w.position;
+      place = elim w.place [ inl a ↦ inl a | inr a ↦ inr a.0 ];
+      least = w.least;
+      most = omega (arith, w.most, room_pieces f o n.chain b n.can);
+    }
+
+last_ahead : (f : Frame) (o : List DriverDone) (puts : List Put) (p x : ℕ) → IsBuilt f → Publishes f o puts p x → StoresAhead f o p
+last_ahead f o puts p x b n = record {
+  position = opos f o;
+  place = inr (ap (λ (s : Put). s.place) n.last);
+  least = omega arith;
+  most = omega (arith, room_pieces f o n.chain b n.can, n.can.fits.chain.0);
+}
+
+ahead_at : (d : DriverView) (now : DriverNow) (p x : ℕ) → IsLawful d.frame → IsBuilt d.frame → DriverNextAt now (record d { doing = now }) op.Offer (Store p x) → StoresAhead d.frame d.done p
+ahead_at d driver.Idle p x l b h = stored_last d.frame d.done [] p x l b h.1
+ahead_at d (driver.Offering puts) p x l b (inl h) = stored_last d.frame d.done puts p x l b h
+ahead_at d (driver.Offering puts) p x l b (inr h) = last_ahead d.frame d.done puts p x b h
+ahead_at d _ p x l b h = absurd h
+
+-- the driver stores at positions from its own on, below that of what it collected and the size
+pub stores_ahead : (d : DriverView) (p x : ℕ) → IsLawful d.frame → IsBuilt d.frame → DriverNext d op.Offer (Store p x) → StoresAhead d.frame d.done p
+stores_ahead d p x l b h = ahead_at d d.doing p x l b h
+
+behind_at : (e : DeviceView) (now : DeviceNow) (p x : ℕ) → Counts e.frame e.done → DeviceNextAt now (record e { doing = now }) op.Give (Store p x) → GivesBehind e.frame e.done p
+behind_at e device.Idle p x c h =
+    let n : Returns e.frame e.done p x = h.1 in record {
+      place = n.place;
+      below = gives_below e.frame e.done n.number (device_span e.frame e.done c.once) (occurs_from n.number (running e.done) n.runs) (c.some n.number n.runs);
+    }
+behind_at e (device.Taking []) p x c h = absurd h
+behind_at e (device.Taking (w ∷ ws)) p x c h = absurd h
+behind_at e _ p x c h = absurd h
+
+-- the device gives at its own position, which is below that of what it took
+pub gives_behind : (e : DeviceView) (p x : ℕ) → Counts e.frame e.done → DeviceNext e op.Give (Store p x) → GivesBehind e.frame e.done p
+gives_behind e p x c h = behind_at e e.doing p x c h
+
+-- of the positions that the driver stores, none is past a position from what it collected on with the same place
+pub greatest : (n low u p : ℕ) → 0 < n → low ≤ u → p < low + n → p % n ≡ u % n → p ≤ u
+greatest n low u p pos a b same = elim (cases_lt u p) [ inl h ↦ absurd (places_differ n u p pos h (omega arith) (sym same)) | inr h ↦ h ]

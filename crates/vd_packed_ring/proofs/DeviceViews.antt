@@ -1,0 +1,80 @@
+-- What holds of the device's view alone: the place of an access that is next, the frame, and what an answer says.
+use Rattle.std.proofs.Common.{◌≡◌, ℕ, ◌+◌, ◌-◌, ◌/◌, ◌%◌, ◌<◌, ◌≤◌, Bool, true, false, List, [], ◌∷◌, ◌++◌, length, if◌then◌else◌, refl, arith, inl, inr}
+use Rattle.vd_words.specs.declared.access.Access.{Access}
+use Rattle.vd_words.specs.declared.access.Access.TheVariants.{Load, Store}
+use Rattle.vd_words.specs.declared.access.Op.{Op}
+use Rattle.vd_words.specs.declared.access.Op.TheVariants as op
+use Rattle.vd_words.specs.Step.{place_of}
+use Rattle.vd_ring.specs.declared.act.DeviceAct.TheVariants as act
+use Rattle.vd_ring.specs.declared.device.DeviceNow.{DeviceNow}
+use Rattle.vd_ring.specs.declared.device.DeviceNow.TheVariants.{Idle, Taking}
+use Rattle.vd_ring.specs.declared.device.DeviceView.{DeviceView}
+use Rattle.vd_ring.specs.Control.{LoadsCommand, StoresAck}
+use Rattle.vd_ring.specs.DeviceSteps.{Did}
+use Rattle.vd_ring.specs.History.{takes, running, taken_head, with_head, given}
+use Rattle.vd_packed_ring.specs.PackedWords.{IsLawful, width, commands_from, acks_from, command_word, ack_word, len_of, id_of, is_available}
+use Rattle.vd_packed_ring.specs.PackedChains.{loaded_head, is_whole, chain_of}
+use Rattle.vd_packed_ring.specs.PackedPositions.{tpos, upos}
+use Rattle.vd_packed_ring.specs.PackedDevice.{DeviceNextAt, DeviceNext, Returns, BeginsRest, LoadsChain, device_after_at, device_after, device_takes, device_act_at, device_act}
+use Rattle.vd_packed_ring.proofs.Areas.{areas, acks_follow, second_inside}
+use Rattle.vd_packed_ring.proofs.DeviceKeeping.{descriptors_inside}
+
+-- ---- the place
+
+inside_at : (e : DeviceView) (doing : DeviceNow) (o : Op) (a : Access) → 2 ≤ e.frame.size → DeviceNextAt doing e o a → place_of a < width e.frame
+inside_at e Idle op.Take (Load p) pos h = omega (arith, h.1, second_inside e.frame (tpos e.frame e.done) pos)
+inside_at e (Taking (w ∷ us)) op.Take (Load p) pos h = let n : LoadsChain e.frame (tpos e.frame e.done) (w ∷ us) p = h in descriptors_inside e.frame p n.inside
+inside_at e Idle op.Give (Store p x) pos h = let n : Returns e.frame e.done p x = h.1 in omega (arith, n.place, second_inside e.frame (upos e.frame e.done) pos)
+inside_at e Idle op.Rest (Load p) pos h = let n : BeginsRest e.frame e.done p = h in omega (arith, n.place, second_inside e.frame (tpos e.frame e.done) pos)
+inside_at e Idle op.Control (Load p) pos h = let n : LoadsCommand e.frame (command_word e.frame) e.done p = h in omega (arith, areas e.frame, acks_follow e.frame n.control, n.place, n.inside, n.two)
+inside_at e Idle op.Control (Store p x) pos h = let n : StoresAck e.frame (ack_word e.frame) e.done p = h in omega (arith, areas e.frame, acks_follow e.frame n.control, n.place, n.inside)
+inside_at e _ _ _ pos h = absurd h
+
+pub device_inside : (e : DeviceView) (o : Op) (a : Access) → IsLawful e.frame → DeviceNext e o a → place_of a < width e.frame
+device_inside e o a l h = inside_at e e.doing o a l.least h
+
+-- ---- the frame
+
+either_frame : (v w : DeviceView) (b : Bool) → v.frame ≡ w.frame → (if b then v else w).frame ≡ w.frame
+either_frame v w true e = e
+either_frame v w false e = refl
+
+abbrev pub saw : DeviceView → ℕ → DeviceView
+saw e r = record e { seen = tpos e.frame e.done + 1; shown = true; doing = Taking (r ∷ []) }
+
+abbrev pub saw_none : DeviceView → DeviceView
+saw_none e = record e { seen = tpos e.frame e.done; shown = false }
+
+frame_at : (doing : DeviceNow) (e : DeviceView) (o : Op) (a : Access) (r : ℕ) → (device_after_at doing e o a r).frame ≡ e.frame
+frame_at Idle e op.Take (Load p) r = either_frame (saw e r) (saw_none e) (is_available e.frame.size (tpos e.frame e.done) r) refl
+frame_at (Taking (w ∷ us)) e op.Take (Load p) r = either_frame (device_takes e (w ∷ us ++ r ∷ [])) (record e { doing = Taking (w ∷ us ++ r ∷ []) }) (is_whole e.frame (w ∷ us ++ r ∷ [])) refl
+frame_at Idle e op.Give (Store p x) r = refl
+frame_at Idle e op.Rest (Load p) r = refl
+frame_at Idle e op.Control (Load p) r = refl
+frame_at Idle e op.Control (Store p x) r = refl
+frame_at _ e _ _ r = refl
+
+pub device_frame : (e : DeviceView) (o : Op) (a : Access) (r : ℕ) → (device_after e o a r).frame ≡ e.frame
+device_frame e o a r = frame_at e.doing e o a r
+
+-- ---- the acts
+
+looks_did : (e v w : DeviceView) (b : Bool) → v.done ≡ e.done → w.done ≡ e.done → Did (if b then act.Moved else act.Nothing) e.done (if b then v else w).done
+looks_did e v w true a b = inl a
+looks_did e v w false a b = b
+
+loads_did : (e : DeviceView) (us : List ℕ) (b : Bool) → Did (if b then act.Taken (length (takes e.done)) (chain_of e.frame us) else act.Moved) e.done (if b then device_takes e us else record e { doing = Taking us }).done
+loads_did e us true = (refl, (loaded_head us, refl))
+loads_did e us false = inl refl
+
+did_at : (doing : DeviceNow) (e : DeviceView) (o : Op) (a : Access) (r : ℕ) → Did (device_act_at doing e o a r) e.done (device_after_at doing e o a r).done
+did_at Idle e op.Take (Load p) r = looks_did e (saw e r) (saw_none e) (is_available e.frame.size (tpos e.frame e.done) r) refl refl
+did_at (Taking (w ∷ us)) e op.Take (Load p) r = loads_did e (w ∷ us ++ r ∷ []) (is_whole e.frame (w ∷ us ++ r ∷ []))
+did_at Idle e op.Give (Store p x) r = (given e.frame e.done (id_of x) (len_of x), refl, refl)
+did_at Idle e op.Rest (Load p) r = refl
+did_at Idle e op.Control (Load p) r = inr (inl (with_head (taken_head e.done) (running e.done) ((p - commands_from e.frame) / 2), (p - commands_from e.frame) % 2, r, refl))
+did_at Idle e op.Control (Store p x) r = inr (inr (p - acks_from e.frame, x, refl))
+did_at _ e _ _ r = inl refl
+
+pub device_did : (e : DeviceView) (o : Op) (a : Access) (r : ℕ) → Did (device_act e o a r) e.done (device_after e o a r).done
+device_did e o a r = did_at e.doing e o a r

@@ -1,0 +1,165 @@
+-- The accesses of a packed ring's driver: which may be made next, the view after one, what its answer tells, and what the end's step
+-- answers.
+use Rattle.std.specs.Prelude.{◌≡◌, ℕ, ◌+◌, ◌-◌, ◌/◌, ◌%◌, ◌<◌, ◌≤◌, ◌⊎◌, ◌==◌, true, false, List, [], ◌∷◌, ◌++◌, length, take, None, if◌then◌else◌, slice_index, slice_set, unwrap_or}
+use Rattle.std.specs.List.{Contains}
+use Rattle.vd_model.specs.declared.chain.Piece.{Piece}
+use Rattle.vd_model.specs.Chains.{needs}
+use Rattle.vd_words.specs.declared.access.Access.{Access}
+use Rattle.vd_words.specs.declared.access.Access.TheVariants.{Load, Store}
+use Rattle.vd_words.specs.declared.access.Op.{Op}
+use Rattle.vd_words.specs.declared.access.Op.TheVariants as op
+use Rattle.vd_words.specs.Own.{SideModel}
+use Rattle.vd_ring.specs.declared.act.DriverAct.{DriverAct}
+use Rattle.vd_ring.specs.declared.act.DriverAct.TheVariants as act
+use Rattle.vd_ring.specs.declared.frame.Frame.{Frame}
+use Rattle.vd_ring.specs.declared.frame.Put.{Put}
+use Rattle.vd_ring.specs.declared.frame.Used.{Used}
+use Rattle.vd_ring.specs.declared.driver.DriverDone.{DriverDone}
+use Rattle.vd_ring.specs.declared.driver.DriverDone.TheVariants.{Offer, Collect, StoreCommand, LoadAck}
+use Rattle.vd_ring.specs.declared.driver.DriverNow.{DriverNow}
+use Rattle.vd_ring.specs.declared.driver.DriverNow.TheVariants.{Idle, Offering}
+use Rattle.vd_ring.specs.declared.driver.DriverView.{DriverView}
+use Rattle.vd_ring.specs.Frames.{Fits, limit}
+use Rattle.vd_ring.specs.History.{offers, collects, head, next_head, open_at, collected, last_used}
+use Rattle.vd_ring.specs.Control.{IsControlChain, StoresCommand, LoadsAck, last_collected}
+use Rattle.vd_packed_ring.specs.PackedWords.{IsDrivers, commands_from, command_word, ack_word, second_word, len_of, id_of, is_used, put, words_of}
+use Rattle.vd_packed_ring.specs.PackedChains.{descriptors, spelling, publishing, staged_chain}
+use Rattle.vd_packed_ring.specs.PackedPositions.{opos, cpos}
+
+-- ---- the conditions
+
+-- the chain may be offered now
+pub record CanOffer (f : Frame) (o : List DriverDone) (c : List Piece) : Type 0 where
+  pub fits : Fits f c
+  -- its descriptors and those of the chains offered and not collected are no more than the ring's places
+  pub room : opos f o + needs f.features c ≤ cpos f o + f.size
+  pub limited : length (offers o) < limit f
+  -- on a control ring it is a control chain of the next head
+  pub control : f.control ≡ true → IsControlChain (command_word f (next_head f o)) (ack_word f (next_head f o)) c
+
+-- the stores that offer the chain, up to the last: its table's, then its descriptors'
+abbrev pub plan : Frame → List DriverDone → List Piece → List Put
+plan f o c = spelling f (opos f o) (next_head f o) c
+
+-- the last one, with which it is available
+abbrev pub last_put : Frame → List DriverDone → List Piece → Put
+last_put f o c = publishing f.size (opos f o) (descriptors f (next_head f o) c)
+
+-- these are the first stores of a chain that may be offered
+pub record Begins (f : Frame) (o : List DriverDone) (puts : List Put) : Type 0 where
+  pub chain : List Piece
+  pub can : CanOffer f o chain
+  pub first : puts ≡ take (length puts) (plan f o chain)
+
+-- the store of the first descriptor's second word, after all others of a chain
+pub record Publishes (f : Frame) (o : List DriverDone) (puts : List Put) (p x : ℕ) : Type 0 where
+  pub chain : List Piece
+  pub can : CanOffer f o chain
+  pub whole : puts ≡ plan f o chain
+  pub last : put p x ≡ last_put f o chain
+
+-- ---- next
+
+abbrev pub DriverNextAt : DriverNow → DriverView → Op → Access → Type 0
+DriverNextAt Idle v op.Offer (Store p x) = (v.armed ≡ None) × Begins v.frame v.done (put p x ∷ [])
+DriverNextAt (Offering puts) v op.Offer (Store p x) = Begins v.frame v.done (puts ++ put p x ∷ []) ⊎ Publishes v.frame v.done puts p x
+DriverNextAt Idle v op.Collect (Load p) = (v.armed ≡ None) × (p ≡ second_word v.frame.size (cpos v.frame v.done))
+DriverNextAt Idle v op.Control (Store p x) = StoresCommand v.frame (command_word v.frame) v.done p
+DriverNextAt Idle v op.Control (Load p) = LoadsAck v.frame (ack_word v.frame) v.done p
+DriverNextAt _ _ _ _ = ⊥
+
+-- the access may be made now
+abbrev pub DriverNext : DriverView → Op → Access → Type 0
+DriverNext v op a = DriverNextAt v.doing v op a
+
+-- ---- after
+
+-- the operation after the publishing store: no event word is loaded yet
+abbrev pub driver_published : ℕ → ℕ → DriverNow
+driver_published old new = Idle
+
+abbrev pub stores : DriverView → ℕ → ℕ → DriverNow → DriverView
+stores v p x doing = record v { stored = slice_set v.stored p x; doing = doing }
+
+-- the words staged, and the last
+abbrev pub driver_offers : DriverView → List Put → ℕ → ℕ → DriverView
+driver_offers v puts p x =
+    let o : List DriverDone = Offer (staged_chain v.frame (words_of puts) x) ∷ v.done in
+    record v { done = o; stored = slice_set v.stored p x; doing = driver_published (opos v.frame v.done) (opos v.frame o) }
+
+-- no store of an offer before the last is in the second word at the position where the chain begins
+abbrev pub driver_stores : DriverView → List Put → ℕ → ℕ → DriverView
+driver_stores v puts p x = if p == second_word v.frame.size (opos v.frame v.done) then driver_offers v puts p x else stores v p x (Offering (puts ++ put p x ∷ []))
+
+abbrev pub driver_collects : DriverView → ℕ → DriverView
+driver_collects v r =
+    let o : List DriverDone = Collect (collected v.frame v.done (id_of r) (len_of r)) ∷ v.done in record v { done = o; seen = cpos v.frame o; shown = false }
+
+-- the look is the collect's only load
+abbrev pub driver_looks : DriverView → ℕ → DriverView
+driver_looks v r = if is_used v.frame.size (cpos v.frame v.done) r then driver_collects v r else record v { seen = cpos v.frame v.done; shown = false }
+
+abbrev pub driver_commands : DriverView → ℕ → ℕ → DriverView
+driver_commands v p x =
+    record v { done = StoreCommand ((p - commands_from v.frame) / 2) ((p - commands_from v.frame) % 2) x ∷ v.done; stored = slice_set v.stored p x }
+
+abbrev pub driver_acks : DriverView → ℕ → DriverView
+driver_acks v r = record v { done = LoadAck (unwrap_or (last_collected v.done) 0) r ∷ v.done }
+
+abbrev pub driver_after_at : DriverNow → DriverView → Op → Access → ℕ → DriverView
+driver_after_at Idle v op.Offer (Store p x) r = stores v p x (Offering (put p x ∷ []))
+driver_after_at (Offering puts) v op.Offer (Store p x) r = driver_stores v puts p x
+driver_after_at Idle v op.Collect (Load p) r = driver_looks v r
+driver_after_at Idle v op.Control (Store p x) r = driver_commands v p x
+driver_after_at Idle v op.Control (Load p) r = driver_acks v r
+driver_after_at _ v _ _ _ = v
+
+-- the view after an access with this answer
+abbrev pub driver_after : DriverView → Op → Access → ℕ → DriverView
+driver_after v op a r = driver_after_at v.doing v op a r
+
+-- ---- tells
+
+-- a used id is the head of a chain offered and not collected; under IN_ORDER it is the first of them
+pub record NamesOpen (f : Frame) (o : List DriverDone) (id : ℕ) : Type 0 where
+  pub number : ℕ
+  pub is_open : Contains (open_at o) number
+  pub is_head : head f o number ≡ id
+  pub in_order : f.features.in_order ≡ true → number ≡ length (collects o)
+
+-- a look shows an entry before a position seen
+abbrev pub DriverTellsAt : DriverNow → DriverView → Op → Access → ℕ → Type 0
+DriverTellsAt Idle v op.Collect (Load p) r =
+    (is_used v.frame.size (cpos v.frame v.done) r ≡ true → NamesOpen v.frame v.done (id_of r))
+    × (v.shown ≡ true → is_used v.frame.size (cpos v.frame v.done) r ≡ true)
+    × (cpos v.frame v.done < v.seen → is_used v.frame.size (cpos v.frame v.done) r ≡ true)
+DriverTellsAt _ _ _ _ _ = Unit {0}
+
+-- a load of a word that only the driver stores answers what it stored there last
+abbrev pub DriverKnows : DriverView → Access → ℕ → Type 0
+DriverKnows v (Load p) r = IsDrivers v.frame p → r ≡ slice_index v.stored p
+DriverKnows v (Store p x) r = Unit {0}
+
+-- what an answer tells, in terms of the driver's view alone
+abbrev pub DriverTells : DriverView → Op → Access → ℕ → Type 0
+DriverTells v op a r = DriverKnows v a r × DriverTellsAt v.doing v op a r
+
+-- ---- the step's answer
+
+abbrev pub offer_act : DriverView → ℕ → DriverAct
+offer_act v p = if p == second_word v.frame.size (opos v.frame v.done) then act.Offered (length (offers v.done)) else act.Moved
+
+abbrev pub collect_act : DriverView → ℕ → DriverAct
+collect_act v r = let u : Used = last_used (collected v.frame v.done (id_of r) (len_of r)) in act.Collected u.number u.len (id_of r)
+
+abbrev pub driver_act_at : DriverNow → DriverView → Op → Access → ℕ → DriverAct
+driver_act_at (Offering puts) v op.Offer (Store p x) r = offer_act v p
+driver_act_at Idle v op.Collect (Load p) r = if is_used v.frame.size (cpos v.frame v.done) r then collect_act v r else act.Nothing
+driver_act_at _ v _ _ _ = act.Moved
+
+-- what the end's step answers, by the view before it
+abbrev pub driver_act : DriverView → Op → Access → ℕ → DriverAct
+driver_act v op a r = driver_act_at v.doing v op a r
+
+abbrev pub driver_side : SideModel DriverView
+driver_side = record { next = DriverNext; after = driver_after; tells = DriverTells }

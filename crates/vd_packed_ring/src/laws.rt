@@ -1,0 +1,44 @@
+//! What always holds of a packed ring. These functions do nothing: their contracts are the laws.
+ghost use Rattle.std.specs.Prelude.{◌≡◌, ℕ, ◌+◌, ◌%◌, ◌<◌, ◌≤◌, true, List, length};
+ghost use Rattle.vd_ring.specs.declared.device.DeviceView.{DeviceView};
+ghost use Rattle.vd_ring.specs.declared.driver.DriverView.{DriverView};
+ghost use Rattle.vd_ring.specs.declared.frame.Frame.{Frame};
+ghost use Rattle.vd_ring.specs.History.{offers, takes, head, chain};
+ghost use Rattle.vd_packed_ring.specs.PackedChains.{Spells};
+ghost use Rattle.vd_packed_ring.specs.PackedLaws.{IsFresh, Agree, LooksShow};
+ghost use Rattle.vd_packed_ring.specs.PackedPositions.{upos, start};
+ghost use Rattle.vd_packed_ring.specs.PackedRing.{Ring};
+ghost use Rattle.vd_packed_ring.specs.PackedWords.{IsLawful, IsBuilt, base_at, is_base};
+
+/// Words of 0 and the views of a fresh ring meet the ring invariant.
+pub fn fresh_law()
+    ensures { (f : Frame) → IsLawful f → IsBuilt f → IsFresh f }
+{}
+
+/// Each chain offered that is not taken, or whose position is not behind what was given, is spelled there.
+pub fn spelling_law()
+    ensures untaken { (ws : List ℕ) (d : DriverView) (e : DeviceView) (k : ℕ) → Ring ws d e → length (takes e.done) ≤ k → k < length (offers d.done) → Spells d.frame ws (start d.frame d.done k) (head d.frame d.done k) (chain d.done k) }
+    ensures ahead { (ws : List ℕ) (d : DriverView) (e : DeviceView) (k : ℕ) → Ring ws d e → k < length (offers d.done) → upos d.frame e.done ≤ start d.frame d.done k → Spells d.frame ws (start d.frame d.done k) (head d.frame d.done k) (chain d.done k) }
+{}
+
+/// What was taken is a prefix of what was offered, and collected of given; numbers differ; the four positions follow each other and
+/// span the ring at most once; under IN_ORDER the entries are in order.
+pub fn agreement_law()
+    ensures { (ws : List ℕ) (d : DriverView) (e : DeviceView) → Ring ws d e → Agree d.frame d.done e.done }
+{}
+
+/// The word that a look loads shows something further exactly where something further is.
+pub fn looks_law()
+    ensures { (ws : List ℕ) (d : DriverView) (e : DeviceView) → Ring ws d e → LooksShow ws d e }
+{}
+
+/// Of the positions less than the size past what was collected, none with the place of a position that is not collected is past it.
+pub fn position_law()
+    ensures { (n collected at other : ℕ) → 0 < n → collected ≤ at → other < collected + n → other % n ≡ at % n → other ≤ at }
+{}
+
+/// The base at any position is a lawful one, and that of a fresh ring is 0x80008000.
+pub fn base_law()
+    ensures lawful { (n q : ℕ) → 2 ≤ n → n ≤ 32768 → is_base n (base_at n q) ≡ true }
+    ensures fresh { (n : ℕ) → 2 ≤ n → base_at n 0 ≡ 2147516416 }
+{}
