@@ -11,19 +11,25 @@ work=$(mktemp -d)
 trap 'rm -rf "$work"' EXIT
 rustc -O baseline.rs -o "$work/baseline" 2>"$work/rustc" || { cat "$work/rustc" >&2; exit 1; }
 
-# A machine file of so many chains of one piece; a chain's text takes seven bytes.
-write_file() {
+# A machine file of so many chains of one piece, each with a text of its own; a text takes seven bytes.
+write_texts() {
     printf 'layout = "split"\nsize = 256\nregions = [{ addr = 0, size = 4096 }]\nqueues = [['
     awk -v n="$1" 'BEGIN { for (i = 0; i < n; i++) printf "%s\"r%d+1\"", (i ? "," : ""), i % 10 }'
     printf ']]\n'
+}
+
+# One text for so many chains of two pieces.
+write_count() {
+    printf 'layout = "split"\nsize = 256\nregions = [{ addr = 0, size = 4096 }]\nqueues = [["%d*r0+10 w64+20"]]\n' "$1"
 }
 
 now() { date +%s%N; }
 median() { sort -n | sed -n 3p; }
 
 echo "# $(uname -m), $(grep -m 1 'model name' /proc/cpuinfo | cut -d: -f2-), load $(cut -d' ' -f1-3 /proc/loadavg), $(date -u +%Y-%m-%d)"
-for chains in 50000 100000 149780; do
-    write_file "$chains" >"$work/file"
+for row in "texts 50000" "texts 149780" "count 50000" "count 200000"; do
+    kind=${row% *} chains=${row#* }
+    "write_$kind" "$chains" >"$work/file"
     : >"$work/play"
     : >"$work/base"
     for round in 1 2 3 4 5; do
@@ -35,5 +41,5 @@ for chains in 50000 100000 149780; do
             sed -n 's/.*(\([0-9.]*\) ns a chain.*/\1/p' >>"$work/base"
     done
     bytes=$(wc -c <"$work/file")
-    echo "$chains chains ($bytes bytes): play $(median <"$work/play") ns a chain, baseline $(median <"$work/base") ns a chain"
+    echo "$chains chains by $kind ($bytes bytes): play $(median <"$work/play") ns a chain, baseline $(median <"$work/base") ns a chain"
 done

@@ -1,0 +1,65 @@
+#!/bin/sh
+# Runs the program on the examples and on wrong input, and compares output, text and status with what docs/MACHINE-FILE.md
+# says. `.ci/run` calls it after `rt ci`.
+set -u
+cd "$(dirname "$0")/.." || exit 70
+work=$(mktemp -d) || exit 70
+trap 'rm -rf "$work"' EXIT
+failed=0
+
+# expect NAME STATUS TEXT OUTPUT WORD.. : the words, with the file $work/in as input, end so
+expect() {
+    name=$1 status=$2 text=$3 output=$4
+    shift 4
+    ./vdpa "$@" <"$work/in" >"$work/out" 2>"$work/err"
+    found=$?
+    printf '%s' "$output" >"$work/want"
+    grep -v '^vdpa: builds an unproved program' "$work/err" >"$work/said"
+    [ "$found" -eq "$status" ] || { echo "$name: status $found, not $status"; failed=1; }
+    cmp -s "$work/out" "$work/want" || { echo "$name: another output"; failed=1; }
+    [ "$(cat "$work/said")" = "$text" ] || { echo "$name: the text '$(cat "$work/said")', not '$text'"; failed=1; }
+}
+
+one='queue 0 chains 1 bytes 10
+chain 0 0 10
+epoch 0 0 pass 0 1
+drained 1
+'
+cp examples/one-chain.toml "$work/in"
+expect 'one chain' 0 '' "$one" play
+expect 'no word' 1 'vdpa: usage: vdpa play' '' 
+expect 'another word' 1 'vdpa: usage: vdpa play' '' run
+expect 'a word too many' 1 'vdpa: usage: vdpa play' '' play play
+cp examples/no-chains.toml "$work/in"
+expect 'no chains' 0 '' 'queue 0 chains 0 bytes 0
+epoch 0 0 pass 0 0
+drained 0
+' play
+cp examples/size-of-three.toml "$work/in"
+expect 'a size of three' 2 'vdpa: machine file breaks rule M6' '' play
+: >"$work/in"
+expect 'an empty file' 2 'vdpa: machine file breaks rule M3' '' play
+printf '\377' >"$work/in"
+expect 'no UTF-8' 2 'vdpa: machine file breaks rule M1' '' play
+head -c 1048577 /dev/zero | tr '\0' ' ' >"$work/in"
+expect 'a byte too many' 6 'vdpa: machine file is larger than 1048576 bytes' '' play
+head -c 1048576 "$work/in" >"$work/least" && mv "$work/least" "$work/in"
+expect 'as many bytes as may be' 2 'vdpa: machine file breaks rule M3' '' play
+
+# a directory as input, and a full disk as output
+said=$(./vdpa play </ 2>&1 >/dev/null | grep -v '^vdpa: builds an unproved program')
+[ "$said" = 'vdpa: read fault' ] || { echo "a directory: the text '$said'"; failed=1; }
+if [ -w /dev/full ]; then
+    said=$(./vdpa play <examples/one-chain.toml 2>&1 >/dev/full | grep -v '^vdpa: builds an unproved program')
+    [ "$said" = 'vdpa: write fault' ] || { echo "a full disk: the text '$said'"; failed=1; }
+fi
+
+# each file of examples/ but the one that breaks a rule is played to its end
+for file in examples/*.toml; do
+    [ "$file" = examples/size-of-three.toml ] && continue
+    ./vdpa play <"$file" >"$work/out" 2>/dev/null || { echo "$file: status $?"; failed=1; }
+    chains=$(sed -n 's/^drained //p' "$work/out")
+    [ "$(grep -c '^chain ' "$work/out")" = "$chains" ] || { echo "$file: another count of chains"; failed=1; }
+done
+[ "$failed" -eq 0 ] && echo "program: output, texts and statuses are as they should be"
+exit "$failed"
