@@ -124,22 +124,6 @@ fresh_unused e v st r = none (takes v.done) (omega (arith, st.counts.takes, (fre
     none [] h = refl
     none (x ∷ xs) h = absurd (omega arith)
 
--- ---- the beginning of a give
-
-pub begins_give : (e : SplitDevice) (v : DeviceView) (k len h : ℕ) → device_begun e.doing ≡ DeviceOp.idle → DeviceStands e v → number_at e.running.items h ≡ Some k → h < length e.running.items → (v.frame.features.in_order ≡ true → k ≡ length (gives v.done)) → len < 4294967296
-    → DeviceStands (record e { doing = step.Name k h len }) v
-begins_give e v k len h idle st there inside ordered small =
-    let named = st.holds.named h k there in record {
-      made = st.made;
-      counts = st.counts;
-      holds = st.holds;
-      area = st.area;
-      wide = st.wide;
-      shown = st.shown;
-      silent = st.silent;
-      doing = (rests_at e.doing e.pieces.items e.addr v.frame v.done v.doing st.doing idle, record { runs = named.0; in_order = ordered; is_head = named.1; inside = omega (arith, st.holds.places); small = small });
-    }
-
 -- ---- a control access of the end's holder
 
 running_loaded : (table : List (Option ℕ)) (guesses : ℕ) (f : Frame) (s : List DeviceDone) (l i y : ℕ) → HoldsRunning table guesses f s → HoldsRunning table guesses f (LoadCommand l i y ∷ s)
