@@ -1,5 +1,5 @@
 -- Both ends of a ring, and its plain words.
-use Rattle.std.proofs.Common.{◌≡◌, ◌<◌, ℕ, Bool, true, false, List, length, Option, None, replicate, refl, sym, ap, ◌∙◌, subst}
+use Rattle.std.proofs.Common.{◌≡◌, ℕ, Bool, List, None, replicate, refl, sym, ◌∙◌, subst}
 use Rattle.vd_model.specs.declared.features.Features.{Features}
 use Rattle.vd_words.specs.Model.{PortModel, IsLawfulPort}
 use Rattle.vd_words.specs.Own.{IsOwn}
@@ -9,9 +9,8 @@ use Rattle.vd_ring.specs.declared.driver.DriverView.{DriverView}
 use Rattle.vd_ring.specs.declared.device.DeviceView.{DeviceView}
 use Rattle.vd_ring.specs.declared.frame.Frame.{Frame}
 use Rattle.vd_ring.specs.Fresh.{fresh_driver, fresh_device}
-use Rattle.vd_layout.specs.Begun.{DriverOp, DeviceOp}
 use Rattle.vd_layout.specs.Driver.{DriverModel}
-use Rattle.vd_layout.specs.Device.{DeviceModel, is_rested}
+use Rattle.vd_layout.specs.Device.{DeviceModel}
 use Rattle.vd_layout.specs.DriverFinish.{IsDriverFinish}
 use Rattle.vd_layout.specs.DeviceFinish.{IsDeviceFinish}
 use Rattle.vd_layout.specs.Layout.{LayoutModel, IsMadeWith, CanMake, IsFresh, IsLawfulLayout}

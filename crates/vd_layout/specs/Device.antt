@@ -1,6 +1,6 @@
 -- What a device's end is, as one record, and what one step of it is.
 use Rattle.std.specs.Prelude.{◌≡◌, ◌≢◌, ◌⊎◌, ℕ, ◌+◌, ◌<◌, ◌≤◌, Bool, true, false, List, [], ◌∷◌, length}
-use Rattle.std.specs.List.{Contains, sum_by}
+use Rattle.std.specs.List.{Contains}
 use Rattle.vd_model.specs.declared.chain.Piece.{Piece}
 use Rattle.vd_model.specs.declared.features.Features.{Features}
 use Rattle.vd_words.specs.declared.access.Access.{Access}
@@ -15,7 +15,6 @@ use Rattle.vd_ring.specs.declared.device.DeviceDone.TheVariants.{Take, Give, Res
 use Rattle.vd_ring.specs.declared.device.DeviceNow.TheVariants as now
 use Rattle.vd_ring.specs.declared.device.DeviceView.{DeviceView}
 use Rattle.vd_ring.specs.declared.frame.Frame.{Frame}
-use Rattle.vd_ring.specs.declared.frame.Used.{Used}
 use Rattle.vd_model.specs.Chains.{needs}
 use Rattle.vd_ring.specs.Frames.{Fits, limit}
 use Rattle.vd_ring.specs.History.{entry, takes, gives, running, running_size, taken_head, IsWhole}

@@ -1,5 +1,5 @@
 -- An operation of a device's end made to its end, step by step.
-use Rattle.std.proofs.Common.{Bool, false, ◌≡◌, ◌≢◌, ◌⊎◌, ℕ, List, [], ◌∷◌, sym, ap, ◌∙◌, subst, refl, inl, inr}
+use Rattle.std.proofs.Common.{Bool, false, ◌≡◌, ◌≢◌, ◌⊎◌, List, [], ◌∷◌, sym, ap, ◌∙◌, subst, refl, inl, inr}
 use Rattle.vd_words.specs.Model.{PortModel}
 use Rattle.vd_ring.specs.declared.act.DeviceAct.{DeviceAct}
 use Rattle.vd_ring.specs.declared.act.DeviceAct.TheVariants as act

@@ -1,6 +1,6 @@
 -- What a driver's end is, as one record, and what one step of it is.
-use Rattle.std.specs.Prelude.{◌≡◌, ℕ, zero, suc, ◌+◌, ◌<◌, ◌≤◌, true, List, [], ◌∷◌, length, None}
-use Rattle.std.specs.List.{Contains, sum_by}
+use Rattle.std.specs.Prelude.{◌≡◌, ℕ, ◌+◌, ◌<◌, ◌≤◌, true, List, [], ◌∷◌, length}
+use Rattle.std.specs.List.{Contains}
 use Rattle.vd_model.specs.declared.chain.Piece.{Piece}
 use Rattle.vd_model.specs.declared.features.Features.{Features}
 use Rattle.vd_words.specs.declared.access.Access.{Access}
@@ -15,7 +15,6 @@ use Rattle.vd_ring.specs.declared.driver.DriverDone.TheVariants.{Offer, Collect}
 use Rattle.vd_ring.specs.declared.driver.DriverNow.TheVariants as now
 use Rattle.vd_ring.specs.declared.driver.DriverView.{DriverView}
 use Rattle.vd_ring.specs.declared.frame.Frame.{Frame}
-use Rattle.vd_ring.specs.declared.frame.Used.{Used}
 use Rattle.vd_model.specs.Chains.{needs}
 use Rattle.vd_ring.specs.Frames.{Fits, limit}
 use Rattle.vd_ring.specs.History.{entry, offers, collects, open_at, open_size, head, next_head}
@@ -77,7 +76,5 @@ pub record IsLawfulDriver {E : Type 0} (m : DriverModel E) : Type 0 where
   pub ends : (e : E) → m.left e ≡ 0 → m.begun e ≡ DriverOp.idle
   -- after a control access of its holder the end stands for the view after it
   pub control : (e : E) (v : DriverView) (a : Access) (r : ℕ) → m.stands e v → m.side.next v Control a → m.stands e (m.side.after v Control a r)
-  -- no end is armed yet
-  pub unarmed : (e : E) (v : DriverView) → m.stands e v → v.armed ≡ None
   -- no access changes what the ring was made with
   pub framed : (v : DriverView) (op : Op) (a : Access) (r : ℕ) → (m.side.after v op a r).frame ≡ v.frame

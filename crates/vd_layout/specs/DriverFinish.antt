@@ -1,7 +1,6 @@
 -- An operation of a driver's end made to its end, step by step.
-use Rattle.std.proofs.Common.{◌≡◌, ◌≢◌, ◌⊎◌, ℕ, List, [], ◌∷◌, sym, ap, ◌∙◌, subst, refl, inl, inr}
+use Rattle.std.proofs.Common.{◌≡◌, ◌≢◌, ◌⊎◌, List, [], ◌∷◌, sym, ap, ◌∙◌, subst, refl, inl, inr}
 use Rattle.vd_words.specs.Model.{PortModel}
-use Rattle.vd_words.specs.Own.{SideModel, IsOwn}
 use Rattle.vd_ring.specs.declared.act.DriverAct.{DriverAct}
 use Rattle.vd_ring.specs.declared.act.DriverAct.TheVariants as driver_act
 use Rattle.vd_ring.specs.declared.driver.DriverDone.{DriverDone}
@@ -9,7 +8,7 @@ use Rattle.vd_ring.specs.declared.driver.DriverView.{DriverView}
 use Rattle.vd_ring.specs.declared.frame.Frame.{Frame}
 use Rattle.vd_layout.specs.Begun.{DriverOp, DriverPublished, DriverGoesOn}
 use Rattle.vd_layout.specs.Driver.{DriverModel, DriverSays, IsDriverStep, IsLawfulDriver}
-use Rattle.vd_layout.specs.Run.{Made, OneMore, IsRun, IsToldAt}
+use Rattle.vd_layout.specs.Run.{Made, IsRun, IsToldAt}
 
 -- an operation that a begin call began
 abbrev pub IsDriverWork : DriverOp → Type 0

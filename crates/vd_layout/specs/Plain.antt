@@ -1,6 +1,6 @@
 -- Plain words that meet the ring invariant: a port onto them is each end's own, and a step of one end keeps the invariant with
 -- the other side's view unchanged.
-use Rattle.std.proofs.Common.{◌≡◌, ℕ, ◌<◌, List, length, sym, subst}
+use Rattle.std.proofs.Common.{◌≡◌, ℕ, List, sym, subst}
 use Rattle.vd_words.specs.declared.access.Access.{Access}
 use Rattle.vd_words.specs.declared.access.Op.{Op}
 use Rattle.vd_words.specs.Model.{PortModel, IsLawfulPort}

@@ -4,9 +4,9 @@ use Rattle.vd_words.specs.declared.access.Access.{Access}
 use Rattle.vd_words.specs.declared.access.Op.{Op}
 use Rattle.vd_words.specs.Model.{PortModel, IsLawfulPort}
 use Rattle.vd_words.specs.Own.{SideModel, IsOwn, own_after}
-use Rattle.vd_words.specs.Step.{answered, written}
+use Rattle.vd_words.specs.Step.{written}
 use Rattle.vd_ring.specs.Steps.{Keeps}
-use Rattle.vd_layout.specs.Plain.{PlainStep, plain_step, IsPlainOn}
+use Rattle.vd_layout.specs.Plain.{plain_step}
 
 pub record Made : Type 0 where
   pub op : Op

@@ -1,8 +1,8 @@
 -- The steps of a give and of a rest: each is next in a view that the end stands for, and the end stands for the view after it.
-use Rattle.std.proofs.Common.{◌≡◌, ◌≢◌, ℕ, zero, suc, ◌+◌, ◌*◌, ◌/◌, ◌%◌, ◌<◌, ◌≤◌, ◌==◌, true, false, if◌then◌else◌, nat_lt, List, [], ◌∷◌, ◌++◌, length, take, Option, Some, None, slice_index, slice_index_or, slice_set, refl, sym, ap, ◌∙◌, subst, arith, inl, inr}
+use Rattle.std.proofs.Common.{◌≡◌, ℕ, ◌+◌, ◌*◌, ◌%◌, ◌<◌, ◌≤◌, true, nat_lt, List, [], ◌∷◌, ◌++◌, length, take, Option, Some, None, slice_index, slice_set, refl, sym, ap, ◌∙◌, subst, arith, inl, inr}
 use Rattle.std.specs.Vec.{with_item}
 use Rattle.std.proofs.lemmas.Bool.{cases_lt, cases_eq}
-use Rattle.std.proofs.lemmas.List.{length-map, length_push, length-set, length-take-le, get_or-set_same, get_or-set_other, get_or-take}
+use Rattle.std.proofs.lemmas.List.{length-map, length_push, length-set, length-take-le, get_or-set_same, get_or-set_other}
 use Rattle.std.proofs.lemmas.Nat.{mod_below}
 use Rattle.vd_bits.specs.Lanes.{lane32, set_lane16, set_lane32}
 use Rattle.vd_bits.proofs.LaneLaws.{half_same}
@@ -23,7 +23,7 @@ use Rattle.vd_ring.specs.History.{takes, gives, heads, running, taken_head, give
 use Rattle.vd_ring.proofs.Counts.{one_same, one_other, one_small, one_below, one_above, occurs_rest, occurs_without, length_without, with_head_is, Contains_from}
 use Rattle.vd_ring.proofs.HeldPlaces.{numbers_push}
 use Rattle.vd_ring.proofs.ListSteps.{batch_one}
-use Rattle.vd_split_ring.specs.SplitWords.{used_from, lane_word, id_word, len_word}
+use Rattle.vd_split_ring.specs.SplitWords.{used_from, lane_word}
 use Rattle.vd_split_ring.specs.SplitDevice.{DeviceNextAt, DeviceNext, device_after_at, device_after, device_act, device_act_at}
 use Rattle.vd_split_ring.proofs.Areas.{areas}
 use Rattle.vd_layout.specs.Begun.{DeviceOp}
@@ -31,8 +31,8 @@ use Rattle.vd_layout.specs.Device.{DeviceSays, IsDeviceStep, is_rested}
 use Rattle.vd_split.specs.declared.device.SplitDevice.{SplitDevice}
 use Rattle.vd_split.specs.declared.device.DeviceStep.TheVariants as step
 use Rattle.vd_split.specs.DriverEnd.{split_words}
-use Rattle.vd_split.specs.DeviceEnd.{TakesOnce, HoldsRunning, number_at, IsNext, DeviceStands, DeviceStepStands, IsSilent, device_begun, device_left, is_resting, split_device}
-use Rattle.vd_split.specs.Parts.{next_place, used_area, Copies}
+use Rattle.vd_split.specs.DeviceEnd.{HoldsRunning, number_at, IsNext, DeviceStands, DeviceStepStands, device_begun, device_left, is_resting, split_device}
+use Rattle.vd_split.specs.Parts.{next_place, used_area}
 use Rattle.vd_split.specs.Plans.{next_mod, copies_set}
 
 -- what one step of the end owes in a view

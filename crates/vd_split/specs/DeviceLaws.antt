@@ -1,5 +1,5 @@
 -- The laws of the device's end of a split ring.
-use Rattle.std.proofs.Common.{◌≡◌, ℕ, ◌+◌, ◌-◌, ◌*◌, ◌/◌, ◌%◌, ◌<◌, ◌≤◌, ◌&&◌, ◌==◌, Bool, true, false, nat_lt, if◌then◌else◌, List, [], ◌∷◌, ◌++◌, length, Option, Some, None, slice_set, refl, sym, ap, ◌∙◌, subst, arith, inl, inr}
+use Rattle.std.proofs.Common.{◌≡◌, ℕ, ◌+◌, ◌-◌, ◌/◌, ◌%◌, ◌<◌, ◌≤◌, ◌&&◌, ◌==◌, Bool, true, false, nat_lt, if◌then◌else◌, List, [], ◌∷◌, ◌++◌, length, Option, Some, None, slice_set, refl, sym, ap, ◌∙◌, subst, arith, inl, inr}
 use Rattle.std.specs.List.{Contains}
 use Rattle.std.proofs.lemmas.Bool.{cases_lt, eqb-true}
 use Rattle.std.proofs.lemmas.List.{length-set, get_or_past}
@@ -14,18 +14,18 @@ use Rattle.vd_ring.specs.declared.device.DeviceDone.TheVariants.{StoreAck, LoadC
 use Rattle.vd_ring.specs.declared.device.DeviceNow.{DeviceNow}
 use Rattle.vd_ring.specs.declared.device.DeviceNow.TheVariants as now
 use Rattle.vd_ring.specs.declared.device.DeviceView.{DeviceView}
-use Rattle.vd_ring.specs.History.{takes, gives, running, taken_head, with_head, numbers, occurs, IsWhole}
-use Rattle.vd_ring.specs.Control.{LoadsCommand, StoresAck}
-use Rattle.vd_ring.proofs.Counts.{one, one_same, one_below, one_above, one_small, occurs_from, Contains_from}
-use Rattle.vd_split_ring.specs.SplitWords.{used_from, tables_from, commands_from, acks_from, command_word, ack_word, chain_of, is_whole, shows, shown_from}
-use Rattle.vd_split_ring.specs.SplitDevice.{DeviceNextAt, DeviceNext, device_after, device_after_at, device_takes, loaded_head}
+use Rattle.vd_ring.specs.History.{takes, gives, running, taken_head, with_head, occurs, IsWhole}
+use Rattle.vd_ring.specs.Control.{StoresAck}
+use Rattle.vd_ring.proofs.Counts.{one_below, one_small, occurs_from, Contains_from}
+use Rattle.vd_split_ring.specs.SplitWords.{used_from, tables_from, commands_from, acks_from, ack_word, is_whole, shows, shown_from}
+use Rattle.vd_split_ring.specs.SplitDevice.{DeviceNextAt, device_after_at, device_takes}
 use Rattle.vd_split_ring.proofs.Areas.{areas}
 use Rattle.vd_layout.specs.Begun.{DeviceOp}
-use Rattle.vd_layout.specs.Device.{MayGive, IsStill, IsLawfulDevice}
+use Rattle.vd_layout.specs.Device.{IsStill, IsLawfulDevice}
 use Rattle.vd_split.specs.declared.device.SplitDevice.{SplitDevice}
 use Rattle.vd_split.specs.declared.device.DeviceStep.{DeviceStep}
 use Rattle.vd_split.specs.declared.device.DeviceStep.TheVariants as step
-use Rattle.vd_split.specs.DeviceEnd.{TakesOnce, HoldsRunning, number_at, IsNext, HasLoaded, IsTaking, DeviceStands, DeviceStepStands, device_begun, device_left, is_resting, is_idle, split_device}
+use Rattle.vd_split.specs.DeviceEnd.{HoldsRunning, number_at, IsNext, IsTaking, DeviceStands, DeviceStepStands, device_begun, device_left, is_resting, is_idle, split_device}
 use Rattle.vd_split.specs.Plans.{copies_other}
 
 -- ---- whole
@@ -123,22 +123,6 @@ fresh_unused e v st r = none (takes v.done) (omega (arith, st.counts.takes, (fre
     none : (xs : List (List Piece)) → length xs ≡ 0 → xs ≡ []
     none [] h = refl
     none (x ∷ xs) h = absurd (omega arith)
-
--- ---- the beginning of a give
-
-pub begins_give : (e : SplitDevice) (v : DeviceView) (k len h : ℕ) → device_begun e.doing ≡ DeviceOp.idle → DeviceStands e v → number_at e.running.items h ≡ Some k → h < length e.running.items → (v.frame.features.in_order ≡ true → k ≡ length (gives v.done)) → len < 4294967296
-    → DeviceStands (record e { doing = step.Name k h len }) v
-begins_give e v k len h idle st there inside ordered small =
-    let named = st.holds.named h k there in record {
-      made = st.made;
-      counts = st.counts;
-      holds = st.holds;
-      area = st.area;
-      wide = st.wide;
-      shown = st.shown;
-      silent = st.silent;
-      doing = (rests_at e.doing e.pieces.items e.addr v.frame v.done v.doing st.doing idle, record { runs = named.0; in_order = ordered; is_head = named.1; inside = omega (arith, st.holds.places); small = small });
-    }
 
 -- ---- a control access of the end's holder
 

@@ -1,15 +1,14 @@
 -- The steps of a take: each is next in a view that the end stands for, and the end stands for the view after it.
-use Rattle.std.proofs.Common.{◌≡◌, ◌≢◌, ℕ, zero, suc, ◌+◌, ◌-◌, ◌*◌, ◌/◌, ◌%◌, ◌<◌, ◌≤◌, ◌==◌, Bool, true, false, not, List, [], ◌∷◌, ◌++◌, length, take, Option, Some, None, if◌then◌else◌, nat_lt, slice_index, slice_index_or, slice_set, refl, sym, ap, ◌∙◌, subst, arith, inl, inr}
+use Rattle.std.proofs.Common.{◌≡◌, ◌≢◌, ℕ, ◌+◌, ◌-◌, ◌*◌, ◌/◌, ◌%◌, ◌<◌, ◌≤◌, Bool, true, false, not, List, [], ◌∷◌, ◌++◌, length, take, Option, Some, None, if◌then◌else◌, nat_lt, slice_index, slice_index_or, slice_set, refl, sym, ap, ◌∙◌, subst, arith, inl, inr}
 use Rattle.std.specs.Vec.{with_item}
-use Rattle.std.proofs.lemmas.Bool.{cases_lt, cases_eq, both_ways}
-use Rattle.std.proofs.lemmas.List.{length_push, length-set, take_all, get_or_append_left, get_or_push, get_or-set_same, get_or-set_other, append_assoc, append-nil}
+use Rattle.std.proofs.lemmas.Bool.{cases_lt, cases_eq}
+use Rattle.std.proofs.lemmas.List.{length_push, length-set, get_or_append_left, get_or_push, get_or-set_same, get_or-set_other, append-nil}
 use Rattle.std.proofs.lemmas.List.Elements.{All-contains}
 use Rattle.std.proofs.lemmas.Nat.{mod_below}
 use Rattle.vd_bits.specs.Lanes.{lane16}
 use Rattle.vd_model.specs.declared.chain.Piece.{Piece}
 use Rattle.vd_words.specs.declared.access.Access.TheVariants.{Load}
 use Rattle.vd_words.specs.declared.access.Op.TheVariants as op
-use Rattle.vd_ring.specs.declared.act.DeviceAct.{DeviceAct}
 use Rattle.vd_ring.specs.declared.act.DeviceAct.TheVariants as act
 use Rattle.vd_ring.specs.declared.frame.Frame.{Frame}
 use Rattle.vd_ring.specs.declared.frame.Put.{Put}
@@ -17,10 +16,10 @@ use Rattle.vd_ring.specs.declared.device.DeviceDone.{DeviceDone}
 use Rattle.vd_ring.specs.declared.device.DeviceDone.TheVariants.{Take}
 use Rattle.vd_ring.specs.declared.device.DeviceNow.TheVariants as now
 use Rattle.vd_ring.specs.declared.device.DeviceView.{DeviceView}
-use Rattle.vd_ring.specs.History.{takes, gives, heads, running, taken_head, occurs, first}
+use Rattle.vd_ring.specs.History.{takes, heads, running, taken_head, occurs, first}
 use Rattle.vd_ring.proofs.Counts.{one, one_same, one_other, one_more, one_above, occurs_push, Contains_from}
-use Rattle.vd_split_ring.specs.SplitWords.{lane_word, entry_lane, put, described, words_of, pieces_of, piece_of, goes_on, next_of, ends, is_whole, chain_of, cursor, linked, reading, shows, shown_from}
-use Rattle.vd_split_ring.specs.SplitDevice.{DeviceNextAt, DeviceNext, DeviceTells, DeviceTellsAt, device_after, device_after_at, device_takes, device_loads, device_act, device_act_at, take_act, loaded_head, IsNewHead, BeginsChain}
+use Rattle.vd_split_ring.specs.SplitWords.{lane_word, entry_lane, put, described, words_of, pieces_of, piece_of, goes_on, next_of, is_whole, chain_of, cursor, linked, reading, shows}
+use Rattle.vd_split_ring.specs.SplitDevice.{DeviceNextAt, DeviceNext, DeviceTells, DeviceTellsAt, device_after, device_after_at, device_takes, device_act_at, loaded_head, IsNewHead, BeginsChain}
 use Rattle.vd_split_ring.proofs.Descriptors.{IsAt, length-described, described_at, not_whole_odd, whole_last, pieces_last, linked_odd, linked_last, linked_at}
 use Rattle.vd_split_ring.proofs.Direct.{reading_is, whole_is, chain_is, cursor_is, lent_pieces}
 use Rattle.vd_layout.specs.Begun.{DeviceOp}
@@ -28,7 +27,7 @@ use Rattle.vd_layout.specs.Device.{DeviceSays, IsTaken}
 use Rattle.vd_split.specs.declared.device.SplitDevice.{SplitDevice}
 use Rattle.vd_split.specs.declared.device.DeviceStep.TheVariants as step
 use Rattle.vd_split.specs.DriverEnd.{split_words}
-use Rattle.vd_split.specs.DeviceEnd.{TakesOnce, HoldsRunning, number_at, HasLoaded, IsTaking, DeviceStands, DeviceStepStands, device_begun, device_left, is_resting}
+use Rattle.vd_split.specs.DeviceEnd.{HoldsRunning, number_at, HasLoaded, DeviceStands, DeviceStepStands, device_begun, device_left}
 use Rattle.vd_split.specs.DeviceGiving.{Goes}
 use Rattle.vd_split.specs.Parts.{next_place}
 use Rattle.vd_split.specs.Plans.{next_mod}

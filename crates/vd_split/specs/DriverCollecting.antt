@@ -1,12 +1,10 @@
 -- The last step of a collect: it is next in a view that the end stands for, and the end stands for the view after it.
-use Rattle.std.proofs.Common.{◌≡◌, ℕ, ◌+◌, ◌*◌, ◌/◌, ◌%◌, ◌<◌, ◌≤◌, true, not, List, [], ◌∷◌, ◌++◌, length, slice_index_or, refl, sym, ap, ◌∙◌, subst, arith}
-use Rattle.std.specs.List.{Contains}
+use Rattle.std.proofs.Common.{◌≡◌, ℕ, ◌+◌, ◌%◌, ◌<◌, ◌≤◌, true, not, List, [], ◌∷◌, ◌++◌, length, slice_index_or, refl, sym, ap, ◌∙◌, subst, arith}
 use Rattle.std.proofs.lemmas.List.{length_push, append-nil}
 use Rattle.std.proofs.lemmas.Nat.{mod_below}
 use Rattle.vd_bits.specs.Lanes.{lane32}
 use Rattle.vd_words.specs.declared.access.Access.TheVariants.{Load}
 use Rattle.vd_words.specs.declared.access.Op.TheVariants as op
-use Rattle.vd_ring.specs.declared.act.DriverAct.{DriverAct}
 use Rattle.vd_ring.specs.declared.act.DriverAct.TheVariants as act
 use Rattle.vd_ring.specs.declared.frame.Frame.{Frame}
 use Rattle.vd_ring.specs.declared.frame.Used.{Used}
@@ -21,7 +19,7 @@ use Rattle.vd_ring.proofs.Counts.{occurs_from, Contains_from, occurs_without, wi
 use Rattle.vd_ring.proofs.HeldPlaces.{open_below, same_head, collect_places, head_inside}
 use Rattle.vd_ring.proofs.ListSteps.{batch_one}
 use Rattle.vd_split_ring.specs.SplitWords.{used_from, len_word, shows}
-use Rattle.vd_split_ring.specs.SplitDriver.{NamesOpen, DriverNextAt, DriverNext, driver_after, driver_after_at, driver_act_at, driver_collects}
+use Rattle.vd_split_ring.specs.SplitDriver.{NamesOpen, DriverNextAt, DriverNext, driver_after, driver_after_at, driver_act_at}
 use Rattle.vd_layout.specs.Begun.{DriverOp}
 use Rattle.vd_layout.specs.Driver.{DriverSays}
 use Rattle.vd_split.specs.declared.driver.SplitDriver.{SplitDriver}

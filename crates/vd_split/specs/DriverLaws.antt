@@ -1,5 +1,5 @@
 -- The laws of the driver's end of a split ring.
-use Rattle.std.proofs.Common.{◌≡◌, ℕ, ◌+◌, ◌-◌, ◌*◌, ◌/◌, ◌%◌, ◌<◌, ◌≤◌, Bool, true, false, if◌then◌else◌, List, [], ◌∷◌, length, slice_set, refl, sym, ap, ◌∙◌, subst, arith}
+use Rattle.std.proofs.Common.{◌≡◌, ℕ, ◌+◌, ◌-◌, ◌/◌, ◌%◌, ◌<◌, ◌≤◌, Bool, true, false, if◌then◌else◌, List, [], ◌∷◌, length, slice_set, refl, sym, ap, ◌∙◌, subst, arith}
 use Rattle.std.specs.Prelude.{unwrap_or}
 use Rattle.std.proofs.lemmas.List.{length-set}
 use Rattle.vd_model.specs.declared.chain.Piece.{Piece}
@@ -15,12 +15,12 @@ use Rattle.vd_ring.specs.declared.driver.DriverNow.{DriverNow}
 use Rattle.vd_ring.specs.declared.driver.DriverNow.TheVariants as now
 use Rattle.vd_ring.specs.declared.driver.DriverView.{DriverView}
 use Rattle.vd_ring.specs.Frames.{lent}
-use Rattle.vd_ring.specs.History.{collects, open_at, open_size, free, chain}
+use Rattle.vd_ring.specs.History.{collects, open_at, open_size, chain}
 use Rattle.vd_ring.specs.Control.{StoresCommand, last_collected}
 use Rattle.vd_ring.specs.Places.{Places}
 use Rattle.vd_ring.proofs.Counts.{sum_same}
 use Rattle.vd_split_ring.specs.SplitWords.{avail_from, tables_from, commands_from, command_word, shows, shown_from}
-use Rattle.vd_split_ring.specs.SplitDriver.{CanOffer, DriverNext, DriverNextAt, driver_after, driver_after_at}
+use Rattle.vd_split_ring.specs.SplitDriver.{CanOffer, DriverNextAt, driver_after_at}
 use Rattle.vd_split_ring.proofs.Areas.{areas}
 use Rattle.vd_split_ring.proofs.Direct.{lent_needs, needs_pieces}
 use Rattle.vd_layout.specs.Begun.{DriverOp}
@@ -179,6 +179,5 @@ driver_laws = record {
   at_rest = λ e v st idle. rests_at e.doing e.pieces.items v.frame v.done v.doing st.doing idle;
   ends = λ e none. ends_at e.doing e.pieces.items none;
   control = λ e v a r st n. control_at v.doing e v a r st n;
-  unarmed = λ e v st. st.silent.unarmed;
   framed = λ v o a r. frame_at v.doing v o a r;
 }

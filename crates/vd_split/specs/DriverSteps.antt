@@ -1,5 +1,5 @@
 -- The steps of an offer: each is next in a view that the end stands for, and the end stands for the view after it.
-use Rattle.std.proofs.Common.{◌≡◌, ◌≢◌, ℕ, zero, suc, ◌+◌, ◌-◌, ◌*◌, ◌/◌, ◌%◌, ◌<◌, ◌≤◌, ◌==◌, Bool, true, false, List, [], ◌∷◌, ◌++◌, length, take, drop, None, if◌then◌else◌, nat_lt, slice_index, slice_index_or, slice_set, refl, sym, ap, ◌∙◌, subst, arith, inl, inr}
+use Rattle.std.proofs.Common.{◌≡◌, ◌≢◌, ℕ, zero, suc, ◌+◌, ◌-◌, ◌*◌, ◌/◌, ◌%◌, ◌<◌, ◌≤◌, Bool, true, false, List, [], ◌∷◌, ◌++◌, length, take, drop, None, if◌then◌else◌, nat_lt, slice_index, slice_index_or, slice_set, refl, sym, ap, ◌∙◌, subst, arith, inl, inr}
 use Rattle.std.specs.List.{All}
 use Rattle.std.proofs.lemmas.Bool.{cases_eq, eq-eqb, ne_eqb, ltb-true, ltb-false}
 use Rattle.std.proofs.lemmas.List.{length-take-le, length-set, length_push, take_all, take_more, get_or-set_same, get_or-set_other, get_or-take}
@@ -21,22 +21,21 @@ use Rattle.vd_ring.specs.declared.driver.DriverDone.TheVariants.{Offer}
 use Rattle.vd_ring.specs.declared.driver.DriverNow.TheVariants as now
 use Rattle.vd_ring.specs.declared.driver.DriverView.{DriverView}
 use Rattle.vd_ring.specs.Frames.{lent}
-use Rattle.vd_ring.specs.History.{offers, collects, open_at, free, next_head, places, head, first, occurs}
+use Rattle.vd_ring.specs.History.{offers, open_at, free, next_head, places, head, first, occurs}
 use Rattle.vd_ring.specs.Places.{Places}
 use Rattle.vd_ring.proofs.Counts.{one_same, one_other, occurs_parts, occurs_at, occurs_push}
-use Rattle.vd_ring.proofs.HeldPlaces.{free_inside, lent_some, open_below, offer_places, places_before, places_new, head_inside, same_head}
+use Rattle.vd_ring.proofs.HeldPlaces.{free_inside, open_below, offer_places, places_before, places_new, head_inside, same_head}
 use Rattle.vd_split_ring.specs.SplitWords.{IsLawful, IsBuilt, avail_from, lane_word, with_lane, entry_lane, put, described, words_of, pieces_of, staged_chain}
-use Rattle.vd_split_ring.specs.SplitDriver.{CanOffer, Begins, DriverNextAt, DriverNext, driver_after_at, driver_after, driver_act, driver_act_at, plan, stores, staged, driver_offers}
+use Rattle.vd_split_ring.specs.SplitDriver.{CanOffer, Begins, DriverNextAt, DriverNext, driver_after_at, driver_after, driver_act, driver_act_at, plan, stores, staged}
 use Rattle.vd_split_ring.proofs.Descriptors.{described_at, pieces_back}
 use Rattle.vd_split_ring.proofs.Direct.{lent_pieces, staged_is}
-use Rattle.vd_split_ring.proofs.Areas.{areas, entry_inside}
+use Rattle.vd_split_ring.proofs.Areas.{areas}
 use Rattle.vd_layout.specs.Driver.{DriverSays, IsDriverStep}
 use Rattle.vd_split.specs.declared.driver.SplitDriver.{SplitDriver}
 use Rattle.vd_split.specs.declared.driver.Slot.{Slot}
-use Rattle.vd_split.specs.declared.driver.DriverStep.{DriverStep}
 use Rattle.vd_split.specs.declared.driver.DriverStep.TheVariants as step
-use Rattle.vd_split.specs.DriverEnd.{IsMadeFor, DriverCounts, HoldsPlaces, DriverStands, DriverStepStands, Keeps, offering, driver_begun, driver_left, split_driver}
-use Rattle.vd_split.specs.Parts.{next_place, Copies, described_step}
+use Rattle.vd_split.specs.DriverEnd.{HoldsPlaces, DriverStands, DriverStepStands, Keeps, offering, driver_begun, driver_left, split_driver}
+use Rattle.vd_split.specs.Parts.{next_place, described_step}
 use Rattle.vd_split.specs.Plans.{plan_is, enough, plan_length, begins_at, next_mod, copies_set, copies_other}
 
 -- what one step of the end owes in a view

@@ -1,10 +1,10 @@
 -- The ends of a fresh ring stand for its fresh views.
-use Rattle.std.proofs.Common.{◌≡◌, ℕ, ◌+◌, ◌/◌, ◌%◌, ◌<◌, ◌≤◌, List, [], length, slice_index, slice_index_or, replicate, refl, sym, ap, ◌∙◌, subst, arith, false}
+use Rattle.std.proofs.Common.{◌≡◌, ℕ, ◌+◌, ◌/◌, ◌%◌, ◌≤◌, List, [], length, slice_index, replicate, refl, sym, ap, ◌∙◌, subst, arith, false}
 use Rattle.std.proofs.lemmas.List.{length-replicate, get_or-replicate}
 use Rattle.std.proofs.Math.Nat.{mod-eq_of_lt}
 use Rattle.vd_ring.specs.declared.frame.Frame.{Frame}
 use Rattle.vd_ring.specs.declared.driver.DriverNow.TheVariants as driver
-use Rattle.vd_ring.specs.Fresh.{fresh_driver, fresh_device}
+use Rattle.vd_ring.specs.Fresh.{fresh_driver}
 use Rattle.vd_ring.specs.History.{upto}
 use Rattle.vd_ring.specs.Places.{Places}
 use Rattle.vd_ring.proofs.Counts.{one_above, occurs_upto, length_upto}

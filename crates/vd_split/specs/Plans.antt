@@ -1,17 +1,16 @@
 -- The stores of an offer in order, places that run round a ring, and copies of an area after a store.
-use Rattle.std.proofs.Common.{◌≡◌, ℕ, zero, suc, drop, ◌-◌, ◌+◌, ◌*◌, ◌%◌, ◌<◌, ◌≤◌, ◌&&◌, ◌==◌, Bool, true, false, List, [], ◌∷◌, ◌++◌, length, take, if◌then◌else◌, nat_lt, slice_index, slice_index_or, slice_set, refl, sym, ap, ◌∙◌, subst, arith, inl, inr}
+use Rattle.std.proofs.Common.{◌≡◌, ℕ, suc, ◌+◌, ◌*◌, ◌%◌, ◌<◌, ◌≤◌, Bool, List, [], ◌∷◌, ◌++◌, length, take, if◌then◌else◌, slice_index, slice_index_or, slice_set, sym, ap, ◌∙◌, subst, arith, inl, inr}
 use Rattle.std.proofs.lemmas.Bool.{cases_eq, eq-eqb, ne_eqb}
 use Rattle.std.proofs.lemmas.List.{length-take-le, length-set, take_more, get_or-set_same, get_or-set_other}
 use Rattle.std.proofs.lemmas.Nat.{mod_below}
 use Rattle.std.proofs.Math.Nat.{suc-mod, mod_self, mod-eq_of_lt}
 use Rattle.vd_model.specs.declared.chain.Piece.{Piece}
-use Rattle.vd_model.specs.Chains.{needs}
 use Rattle.vd_ring.specs.declared.frame.Frame.{Frame}
 use Rattle.vd_ring.specs.declared.frame.Put.{Put}
 use Rattle.vd_ring.specs.declared.driver.DriverDone.{DriverDone}
 use Rattle.vd_ring.specs.Frames.{lent}
-use Rattle.vd_ring.specs.History.{free, first}
-use Rattle.vd_split_ring.specs.SplitWords.{IsLawful, IsBuilt, put, names_table, described, is_tabled, has_table, table, pointer, spelling, reading, staged_chain, chain_of, is_whole, cursor, pieces_of, words_of, ends, linked, table_of, table_words}
+use Rattle.vd_ring.specs.History.{free}
+use Rattle.vd_split_ring.specs.SplitWords.{IsLawful, IsBuilt, put, described}
 use Rattle.vd_split_ring.specs.SplitDriver.{CanOffer, Begins, plan}
 use Rattle.vd_split_ring.proofs.Descriptors.{length-described}
 use Rattle.vd_split_ring.proofs.Direct.{lent_pieces, needs_pieces, spelling_is}

@@ -11,12 +11,11 @@ use Rattle.vd_ring.specs.declared.device.DeviceDone.{DeviceDone}
 use Rattle.vd_layout.specs.Layout.{LayoutModel}
 use Rattle.vd_model.specs.declared.chain.Piece.{Piece}
 use Rattle.std.proofs.lemmas.List.Sums.{sum_by-cons}
-use Rattle.vd_model.specs.Chains.{IsChain, total, readable, writable, readable_len, writable_len, needs}
-use Rattle.vd_ring.specs.History.{offers, open_size}
+use Rattle.vd_model.specs.Chains.{IsChain, total, readable, writable, readable_len, writable_len}
+use Rattle.vd_ring.specs.History.{offers}
 use Rattle.vd_ring.specs.Frames.{AreInBounds}
-use Rattle.vd_ring.specs.declared.driver.DriverView.{DriverView}
 use Rattle.vd_ring.specs.declared.device.DeviceView.{DeviceView}
-use Rattle.vd_layout.specs.Both.{AreOn, Finished}
+use Rattle.vd_layout.specs.Both.{AreOn}
 
 pub record IsRig {D E : Type 0} (d : DriverModel D) (e : DeviceModel E) (l : LayoutModel) (x : D) (y : E) (ws : List ℕ) (count : ℕ) (asleep : Bool) : Type 0 where
   pub frame : Frame

@@ -1,5 +1,5 @@
 -- What the layout of a split ring is, and its laws.
-use Rattle.std.proofs.Common.{◌≡◌, ◌⊎◌, inl, inr, lit≤, ℕ, ◌+◌, ◌-◌, ◌*◌, ◌<◌, ◌≤◌, ◌==◌, ◌||◌, ◌&&◌, nat_le, Bool, true, false, List, [], ◌∷◌, ◌++◌, length, refl, sym, ap, ◌∙◌, subst, arith, if◌then◌else◌}
+use Rattle.std.proofs.Common.{◌≡◌, ◌⊎◌, inl, inr, lit≤, ℕ, ◌-◌, ◌≤◌, ◌==◌, ◌||◌, ◌&&◌, nat_le, Bool, true, false, List, [], length, refl, sym, ap, ◌∙◌, subst, arith}
 use Rattle.std.proofs.lemmas.Bool.{eqb-true}
 use Rattle.std.proofs.lemmas.List.{length_push, get_or_push}
 use Rattle.vd_model.specs.declared.chain.Piece.{Piece}
@@ -7,16 +7,13 @@ use Rattle.vd_model.specs.declared.features.Features.{Features}
 use Rattle.vd_words.specs.declared.access.Access.{Access}
 use Rattle.vd_words.specs.declared.access.Op.{Op}
 use Rattle.vd_words.specs.Step.{answered, written}
-use Rattle.vd_ring.specs.declared.act.DriverAct.TheVariants as driver_act
 use Rattle.vd_ring.specs.declared.frame.Frame.{Frame}
 use Rattle.vd_ring.specs.declared.driver.DriverDone.{DriverDone}
 use Rattle.vd_ring.specs.declared.driver.DriverView.{DriverView}
-use Rattle.vd_ring.specs.declared.device.DeviceView.{DeviceView}
 use Rattle.vd_ring.specs.Fresh.{fresh_driver, fresh_device}
 use Rattle.vd_ring.specs.History.{offers, head, next_head, chain, chain_at}
 use Rattle.vd_split_ring.specs.SplitWords.{IsLawful, IsBuilt, Spells, width, commands_from, acks_from}
-use Rattle.vd_split_ring.specs.SplitDriver.{DriverNext, driver_after}
-use Rattle.vd_split_ring.specs.SplitDriver.{driver_act as answer_of}
+use Rattle.vd_split_ring.specs.SplitDriver.{driver_after}
 use Rattle.vd_split_ring.specs.SplitDriverLaws.{IsOffered}
 use Rattle.vd_split_ring.specs.SplitDeviceLaws.{HasLastUsed}
 use Rattle.vd_split_ring.specs.SplitRing.{Ring}

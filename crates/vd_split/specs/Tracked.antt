@@ -1,5 +1,5 @@
 -- A port onto words that tracks the driver's view through its first 64 accesses, and allows there what is next in that view alone.
-use Rattle.std.proofs.Common.{◌≡◌, ◌+◌, ◌<◌, ◌≤◌, ◌⊎◌, ℕ, zero, suc, false, List, [], ◌∷◌, ◌++◌, length, refl, sym, ap, ◌∙◌, subst, Option, Some, None, inl, inr, replicate, rules}
+use Rattle.std.proofs.Common.{◌≡◌, ◌+◌, ◌<◌, ◌≤◌, ℕ, false, List, [], ◌∷◌, ◌++◌, length, refl, sym, ap, ◌∙◌, subst, Option, Some, None, replicate, rules}
 use Rattle.std.proofs.Math.Decide.{dec_lt}
 use Rattle.vd_model.specs.declared.features.Features.{Features}
 use Rattle.vd_model.specs.declared.chain.Piece.{Piece}
@@ -8,7 +8,7 @@ use Rattle.vd_words.specs.declared.access.Access.{Access}
 use Rattle.vd_words.specs.declared.access.Op.{Op}
 use Rattle.vd_words.specs.Model.{PortModel}
 use Rattle.vd_words.specs.Own.{IsOwn, own_by}
-use Rattle.vd_words.specs.Step.{place_of, written, answered, length_written}
+use Rattle.vd_words.specs.Step.{place_of, written, answered}
 use Rattle.vd_ring.specs.declared.driver.DriverView.{DriverView}
 use Rattle.vd_ring.specs.declared.device.DeviceView.{DeviceView}
 use Rattle.vd_ring.specs.declared.frame.Frame.{Frame}

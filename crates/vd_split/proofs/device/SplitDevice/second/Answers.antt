@@ -1,4 +1,4 @@
-use Rattle.std.proofs.Common.{◌≡◌, ℕ, ◌+◌, ◌*◌, ◌++◌, ◌∷◌, [], List, length, not, Some, arith, sym, ap, ◌∙◌, subst}
+use Rattle.std.proofs.Common.{ℕ, ◌+◌, ◌*◌, ◌++◌, ◌∷◌, [], not, Some, arith, sym, ap, ◌∙◌, subst}
 use Rattle.std.specs.Vec.{with_item}
 use Rattle.arrayvec.specs.ArrayVec.{ArrayVec}
 use Rattle.vd_model.specs.declared.chain.Piece.{Piece}
@@ -7,12 +7,10 @@ use Rattle.vd_words.specs.declared.access.Access.TheVariants.{Load}
 use Rattle.vd_words.specs.declared.access.Op.TheVariants as op
 use Rattle.vd_ring.specs.declared.act.DeviceAct.TheVariants as act
 use Rattle.vd_ring.specs.declared.device.DeviceView.{DeviceView}
-use Rattle.vd_split_ring.specs.SplitWords.{shows}
 use Rattle.vd_split.specs.declared.device.SplitDevice.{SplitDevice}
 use Rattle.vd_split.specs.declared.device.DeviceStep.TheVariants as step
-use Rattle.vd_split.specs.DeviceEnd.{DeviceStands}
 use Rattle.vd_split.specs.DeviceGiving.{Goes, made}
-use Rattle.vd_split.specs.DeviceTaking.{second_next, Loaded, loaded, few_pieces, second_more, whole_chain, second_last, entry_below, taken_small}
+use Rattle.vd_split.specs.DeviceTaking.{second_next, loaded, few_pieces, second_more, whole_chain, second_last}
 use Rattle.vd_split.specs.Parts.{next_place}
 use Rattle.vd_split.proofs.device.SplitDevice.second.Goals as goal
 

@@ -1,6 +1,4 @@
 use Rattle.std.proofs.Common.{refl}
-use Rattle.vd_split.specs.declared.driver.SplitDriver.{SplitDriver}
-use Rattle.vd_split.specs.declared.driver.DriverStep.TheVariants as step
 use Rattle.vd_split.specs.Opening.{driver_fresh}
 use Rattle.vd_split.proofs.driver.SplitDriver.make.Goals as goal
 

@@ -1,4 +1,4 @@
-use Rattle.std.proofs.Common.{◌≡◌, ◌≤◌, ℕ, List, length, Option, Some, ap, sym, ◌∙◌, arith, subst}
+use Rattle.std.proofs.Common.{ℕ, List, length, Option, ap, sym, ◌∙◌, arith}
 use Rattle.vd_split.specs.DeviceEnd.{number_at}
 use Rattle.vd_split.specs.DeviceLaws.{whole_from, whole_to}
 use Rattle.vd_split.specs.declared.device.SplitDevice.{SplitDevice}

@@ -1,4 +1,4 @@
-use Rattle.std.proofs.Common.{◌≤◌, ℕ, List, length, arith, ap}
+use Rattle.std.proofs.Common.{List, length, arith, ap}
 use Rattle.std.proofs.lemmas.Bool.{leb-true, le-leb}
 use Rattle.vd_model.specs.declared.chain.Piece.{Piece}
 use Rattle.vd_split.specs.DriverLaws.{room_from, room_to}

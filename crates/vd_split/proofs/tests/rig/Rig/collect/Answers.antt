@@ -1,4 +1,4 @@
-use Rattle.std.proofs.Common.{◌∙◌, sym, ap, refl, rules}
+use Rattle.std.proofs.Common.{◌∙◌, sym, ap, refl}
 use Rattle.vd_split.specs.Rig.{begun_driver, finished_driver}
 use Rattle.vd_split.proofs.tests.rig.Rig.collect.Goals as goal
 

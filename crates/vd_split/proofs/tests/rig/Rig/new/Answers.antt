@@ -1,4 +1,4 @@
-use Rattle.std.proofs.Common.{◌∙◌, sym, ap, refl, replicate, false, None}
+use Rattle.std.proofs.Common.{◌∙◌, ap, refl, replicate, false}
 use Rattle.vd_ring.specs.declared.frame.Frame.{Frame}
 use Rattle.vd_layout.specs.Layout.{IsMadeWith}
 use Rattle.vd_layout.specs.Both.{fresh_on, plain_frame}

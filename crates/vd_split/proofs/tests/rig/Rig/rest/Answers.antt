@@ -1,4 +1,4 @@
-use Rattle.std.proofs.Common.{◌∙◌, sym, ap, refl, rules}
+use Rattle.std.proofs.Common.{◌∙◌, sym, ap, refl}
 use Rattle.vd_split.specs.Rig.{begun_device, finished_device, rested, not_rested}
 use Rattle.vd_split.proofs.tests.rig.Rig.rest.Goals.{in-Rested, in_default}
 use Rattle.vd_split.proofs.tests.rig.Rig.rest.Goals as goal
