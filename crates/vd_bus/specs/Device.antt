@@ -7,7 +7,6 @@ use Rattle.vd_model.specs.declared.record.Begun.{Begun}
 use Rattle.vd_model.specs.Chains.{writable}
 use Rattle.vd_words.specs.declared.access.Access.{Access}
 use Rattle.vd_words.specs.declared.access.Op.{Op}
-use Rattle.vd_words.specs.declared.access.Op.TheVariants.{Rest}
 use Rattle.vd_words.specs.Model.{PortModel}
 use Rattle.vd_ring.specs.declared.act.DeviceAct.TheVariants as act
 use Rattle.vd_ring.specs.declared.device.DeviceDone.{DeviceDone}
@@ -64,6 +63,8 @@ pub record IsBegun (b : Begun) : Type 0 where
 pub record IsServing (begun : List Begun) (by : Attached) (s : List DeviceDone) : Type 0 where
   pub as_many : length (takes s) + by.at ≡ length begun + by.from
   pub after : by.at ≤ length begun
+  -- what was taken before the attach was given before
+  pub before : by.from ≤ length (gives s)
   -- no more than the order's count
   pub few : length begun ≤ by.at + by.order.count
   -- the chains begun are those taken, in the ring's order
@@ -145,8 +146,8 @@ pub record HasServed (w w' : DeviceView) : Type 0 where
   pub gives : IsPrefix (Rattle.vd_ring.specs.History.gives w.done) (Rattle.vd_ring.specs.History.gives w'.done)
 
 -- one access of the port was made, which was next in the view; the device holds an end for the view after it. It finishes exactly
--- where it is done after it, and looked exactly where the end is asleep. A rest is made only where all chains of the order were
--- begun and given, and ends only where the device is done
+-- where it is done after it, and looked exactly where the end is asleep. A rest comes only where the device is done: then all
+-- chains of the order were begun and given
 pub record IsDeviceAccess {P E X C : Type 0} (port : PortModel P) (e : DeviceModel E) (m : DeviceParty X C) (p q : P) (w : DeviceView) (x y : X) (answer : Move) : Type 0 where
   pub op : Op
   pub access : Access
@@ -158,7 +159,6 @@ pub record IsDeviceAccess {P E X C : Type 0} (port : PortModel P) (e : DeviceMod
   pub grows : HasServed w (e.side.after w op access got)
   pub finished : (answer ≡ move.Finished) ↔ m.is_done y
   pub looked : (answer ≡ move.Looked) ↔ (e.act w op access got ≡ act.Asleep)
-  pub rests : op ≡ Rest → (by : Attached) → m.attached x ≡ Some by → (length (m.begun x) ≡ by.at + by.order.count) × (running w.done ≡ [])
   pub rested : e.act w op access got ≡ act.Rested → m.is_done y
 
 -- whole operations were made over plain words, with the same view of the driver: then no operation is in progress, all that was

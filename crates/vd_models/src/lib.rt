@@ -1,13 +1,6 @@
-// A library with one function.
+//! Model parties: a guest that offers a script, a device that takes and gives, and a device that refuses an attach.
 #![tactic(auto)]
 
-ghost use Rattle.std.specs.Prelude.{◌≡◌};
-ghost use Rattle.vd_models.specs.Echo.{echo_of};
+mod serving;
 
-// The `ensures` clause is the contract: what `echo` returns is `echo_of` of its argument, a definition
-// in `specs/Echo.antt`, which a caller's clause can cite too.
-pub fn echo(x: usize) -> usize
-    ensures { result ≡ echo_of x }
-{
-    x
-}
+pub use serving::{Held, Stage, Turn};
