@@ -323,7 +323,7 @@ module _ {P E : Type 0} (port : PortModel P) (e : DeviceModel E) (law : IsLawful
         room = omega arith;
         looked = λ z. let t : act.Nothing ≡ act.Asleep = s.is_answer ∙ z in cc;
         rested = λ z. let t : act.Nothing ≡ act.Rested = s.is_answer ∙ z in absurd (cc);
-        waits = λ z. (sym s.is_answer, none, more, refl);
+        waits = λ z. (sym s.is_answer, none, more, refl, s.says.1);
         nearer = λ z. absurd (cc);
       }
 

@@ -11,12 +11,16 @@ use Rattle.vd_words.specs.Model.{PortModel}
 use Rattle.vd_ring.specs.declared.act.DeviceAct.{DeviceAct}
 use Rattle.vd_ring.specs.declared.act.DeviceAct.TheVariants as act
 use Rattle.vd_ring.specs.declared.device.DeviceDone.{DeviceDone}
+use Rattle.vd_ring.specs.declared.device.DeviceNow.TheVariants as now
 use Rattle.vd_ring.specs.declared.device.DeviceView.{DeviceView}
+use Rattle.vd_ring.specs.declared.driver.DriverView.{DriverView}
 use Rattle.vd_ring.specs.declared.frame.Frame.{Frame}
-use Rattle.vd_ring.specs.History.{entry, takes, gives, running, numbers, occurs}
+use Rattle.vd_ring.specs.History.{entry, offers, takes, gives, running, numbers, occurs}
 use Rattle.vd_layout.specs.Begun.{DeviceOp}
 use Rattle.vd_layout.specs.Device.{DeviceModel}
+use Rattle.vd_layout.specs.Layout.{LayoutModel}
 use Rattle.vd_bus.specs.declared.device.Attached.{Attached}
+use Rattle.vd_bus.specs.declared.journal.Journal.{Journal}
 use Rattle.vd_bus.specs.Device.{IsServing, IsJournalled, HasServed}
 use Rattle.vd_bus.specs.Entries.{Reserved}
 use Rattle.circular_buffer.specs.Buffer.{Buffer, last_item}
@@ -150,5 +154,41 @@ pub record IsTurn {P E : Type 0} (port : PortModel P) (e : DeviceModel E) (by : 
   pub room : x.begun.room + length x.begun.items ≤ y.begun.room + length y.begun.items
   pub looked : e.act w op access got ≢ act.Asleep
   pub rested : e.act w op access got ≡ act.Rested → is_done y.stage ≡ true
-  pub waits : answer ≡ Waits → (e.act w op access got ≡ act.Nothing) × (y.held.items ≡ []) × (length y.begun.items < by.at + by.order.count) × (is_done y.stage ≡ false)
+  pub waits : answer ≡ Waits → (e.act w op access got ≡ act.Nothing) × (y.held.items ≡ []) × (length y.begun.items < by.at + by.order.count) × (is_done y.stage ≡ false) × (e.begun y.end ≡ DeviceOp.idle)
   pub nearer : answer ≡ Worked → work_left e by y < work_left e by x
+
+-- turns so far over plain words, from the words and views with which they began, the driver's view unchanged
+pub record SoFar {P E : Type 0} (port : PortModel P) (e : DeviceModel E) (l : LayoutModel) (by : Attached) (p q : P) (v : DriverView) (w : DeviceView) (x y : State E) : Type 0 where
+  pub words : List ℕ
+  pub view : DeviceView
+  pub same : port.same p q
+  pub plain : port.plain q words
+  pub ring : l.ring words v view
+  pub serves : Serves e by y view
+  pub grows : HasServed w view
+  pub begun : IsPrefix x.begun.items y.begun.items
+  pub room : x.begun.room + length x.begun.items ≤ y.begun.room + length y.begun.items
+
+-- until the device is done, or waits: all that was offered is taken and given
+pub record IsServedAll {P E : Type 0} (port : PortModel P) (e : DeviceModel E) (l : LayoutModel) (by : Attached) (p q : P) (v : DriverView) (w : DeviceView) (x y : State E) : Type 0 where
+  pub so_far : SoFar port e l by p q v w x y
+  pub idle : so_far.view.doing ≡ now.Idle
+  pub given : y.held.items ≡ []
+  pub ends : (is_done y.stage ≡ true) ⊎ ((takes so_far.view.done ≡ offers v.done) × (length y.begun.items < by.at + by.order.count))
+
+-- ---- the device
+
+abbrev pub journal_room : Option (Buffer Held) → ℕ → ℕ
+journal_room None room = 0
+journal_room (Some b) room = if b.capacity == 0 then 0 else room
+
+-- it is attached, and its end stands for the view
+pub record Holds {E : Type 0} (e : DeviceModel E) (end : Option E) (by : Option Attached) (held : Option (Buffer Held)) (st : Stage) (journal : Journal) (w : DeviceView) : Type 0 where
+  pub is_end : E
+  pub is_by : Attached
+  pub is_held : Buffer Held
+  pub at_end : end ≡ Some is_end
+  pub at_by : by ≡ Some is_by
+  pub at_held : held ≡ Some is_held
+  pub serves : Serves e is_by (state is_end st is_held journal.begun) w
+  pub event : 0 < journal.events.room

@@ -1,6 +1,8 @@
 //! Model parties: a guest that offers a script, a device that takes and gives, and a device that refuses an attach.
 #![tactic(auto)]
 
+mod device;
 mod serving;
 
+pub use device::ModelDevice;
 pub use serving::{Held, Stage, Turn};

@@ -3,17 +3,18 @@ ghost use Rattle.std.specs.Prelude.{◌≡◌, ◌≢◌, ℕ, ◌<◌, ◌≤�
 ghost use Rattle.vd_model.specs.Chains.{readable, writable, total};
 ghost use Rattle.vd_words.specs.Own.{IsOwn};
 ghost use Rattle.vd_ring.specs.declared.device.DeviceView.{DeviceView};
+ghost use Rattle.vd_ring.specs.declared.driver.DriverView.{DriverView};
 ghost use Rattle.vd_layout.specs.Begun.{DeviceOp};
 ghost use Rattle.vd_bus.specs.declared.device.Attached.{Attached};
 ghost use Rattle.vd_bus.specs.Entries.{Reserved};
 ghost use Rattle.vd_model.specs.declared.record.Begun.{Begun};
 ghost use Rattle.circular_buffer.specs.Buffer.{buffer};
-ghost use Rattle.vd_models.specs.Serving.{Serves, Opens, IsTurn, state, next_held, rest_held, weight, HasMore, held_of, begun_of, taken_stage, given_stage};
+ghost use Rattle.vd_models.specs.Serving.{Serves, Opens, IsTurn, state, next_held, rest_held, weight, HasMore, held_of, begun_of, taken_stage, given_stage, is_done, IsServedAll};
 
 use arrayvec::ArrayVec;
 use circular_buffer::HeapCircularBuffer;
 use vd_bus::{Attached, Entries};
-use vd_layout::{DeviceAct, DeviceEnd};
+use vd_layout::{DeviceAct, DeviceEnd, Layout};
 use vd_model::{Begun, Chain};
 use vd_words::Port;
 
@@ -31,6 +32,15 @@ pub enum Stage {
     Taking,
     Giving,
     Done,
+}
+
+impl Stage {
+    /// Whether the end rests.
+    pub fn is_done(&self) -> bool
+        ensures { result ≡ is_done self.now }
+    {
+        matches!(self, Stage::Done)
+    }
 }
 
 /// What an access came to.
@@ -153,7 +163,7 @@ pub fn serve<E: DeviceEnd, P: Port>(
     begun: &mut Entries<Begun>,
     port: &mut P,
 ) -> Turn
-    requires { (w : DeviceView) × Opens E.device by.now (state end.old stage.old held.old begun.old) w × IsOwn P.port E.device.side port.old w }
+    requires own { (w : DeviceView) × Opens E.device by.now (state end.old stage.old held.old begun.old) w × IsOwn P.port E.device.side port.old w }
     ensures { (w : DeviceView) → Opens E.device by.now (state end.old stage.old held.old begun.old) w → IsOwn P.port E.device.side port.old w → IsTurn P.port E.device by.now port.old port.new w (state end.old stage.old held.old begun.old) (state end.new stage.new held.new begun.new) result }
 {
     let all = by.at as usize + by.order.count() as usize;
@@ -178,4 +188,23 @@ pub fn serve<E: DeviceEnd, P: Port>(
         _ => {}
     }
     Turn::Worked
+}
+
+/// Makes accesses over plain words until the device is done, or has given all that was offered.
+pub fn serve_all<L: Layout, P: Port>(
+    end: &mut L::Device,
+    by: &Attached,
+    stage: &mut Stage,
+    held: &mut HeapCircularBuffer<Held>,
+    begun: &mut Entries<Begun>,
+    port: &mut P,
+)
+    requires { (ws : List ℕ) × (v : DriverView) × (w : DeviceView) × P.port.plain port.old ws × L.layout.ring ws v w × Opens L.Device.device by.now (state end.old stage.old held.old begun.old) w }
+    ensures { (ws : List ℕ) (v : DriverView) (w : DeviceView) → P.port.plain port.old ws → L.layout.ring ws v w → Opens L.Device.device by.now (state end.old stage.old held.old begun.old) w → IsServedAll P.port L.Device.device L.layout by.now port.old port.new v w (state end.old stage.old held.old begun.old) (state end.new stage.new held.new begun.new) }
+{
+    while !stage.is_done() {
+        if let Turn::Waits = serve(end, by, stage, held, begun, port) {
+            return;
+        }
+    }
 }
