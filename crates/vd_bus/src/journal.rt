@@ -1,5 +1,5 @@
 //! What a device has recorded.
-ghost use Rattle.std.specs.Prelude.{◌≡◌, ◌+◌, ◌<◌, ◌≤◌, [], ◌∷◌, ◌++◌, length, OnOk};
+ghost use Rattle.std.specs.Prelude.{◌≡◌, ◌+◌, ◌<◌, ◌≤◌, ◌^◌, [], ◌∷◌, ◌++◌, length, OnOk};
 ghost use Rattle.vd_bus.specs.Entries.{Reserved};
 
 use crate::event::Event;
@@ -7,21 +7,24 @@ use std::alloc::{AllocError, Global};
 use std::marker::Model;
 use vd_model::Begun;
 
-/// A list with room that was taken before. Contracts see the items, and for how many more there is room.
+/// A list of fewer than 2^32 items, with room that was taken before. Contracts see the items, and for how many more there
+/// is room.
 #[derive(Drop)]
 pub struct Entries<T> {
     items: Vec<T>,
 }
 
 impl<T> Model for Entries<T> {
-    ghost use Rattle.std.specs.Prelude.{◌-◌, vec_len, vec_capacity};
+    ghost use Rattle.std.specs.Prelude.{◌-◌, ◌<◌, ◌^◌, min, length, vec_len, vec_capacity};
     ghost use Rattle.vd_bus.specs.Entries.{Reserved, reserved_code};
 
     ghost Value = { Reserved T };
 
     ghost coded = { reserved_code T.code };
 
-    ghost view = { λ e. record { items = e.items.items; room = vec_capacity e.items - vec_len e.items } };
+    ghost view = { λ e. record { items = e.items.items; room = min (vec_capacity e.items) (2 ^ 32 - 1) - vec_len e.items } };
+
+    ghost invariant = { λ e. length e.items.items < 2 ^ 32 };
 }
 
 impl<T> Entries<T> {
@@ -40,6 +43,9 @@ impl<T> Entries<T> {
         ensures room { self.old.room ≤ self.new.room }
         ensures ok { OnOk result (more ≤ self.new.room) }
     {
+        if u32::MAX as usize - self.items.len() < more {
+            return Err(AllocError);
+        }
         self.items.reserve(more)
     }
 
@@ -57,7 +63,8 @@ impl<T> Entries<T> {
     }
 
     pub fn len(&self) -> usize
-        ensures { result ≡ length self.now.items }
+        ensures value { result ≡ length self.now.items }
+        ensures few { result < 2 ^ 32 }
     {
         self.items.len()
     }

@@ -2,3 +2,4 @@ pub mod Lists
 pub mod Holding
 pub mod Turns
 pub mod Phases
+pub mod Parties

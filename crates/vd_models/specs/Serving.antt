@@ -16,6 +16,8 @@ use Rattle.vd_ring.specs.declared.device.DeviceView.{DeviceView}
 use Rattle.vd_ring.specs.declared.driver.DriverView.{DriverView}
 use Rattle.vd_ring.specs.declared.frame.Frame.{Frame}
 use Rattle.vd_ring.specs.History.{entry, offers, takes, gives, running, numbers, occurs}
+use Rattle.vd_layout.specs.declared.moves.Move.{Move}
+use Rattle.vd_layout.specs.declared.moves.Move.TheVariants as move
 use Rattle.vd_layout.specs.Begun.{DeviceOp}
 use Rattle.vd_layout.specs.Device.{DeviceModel}
 use Rattle.vd_layout.specs.Layout.{LayoutModel}
@@ -192,3 +194,7 @@ pub record Holds {E : Type 0} (e : DeviceModel E) (end : Option E) (by : Option 
   pub at_held : held ≡ Some is_held
   pub serves : Serves e is_by (state is_end st is_held journal.begun) w
   pub event : 0 < journal.events.room
+
+abbrev pub move_of : Bool → Move
+move_of true = move.Finished
+move_of false = move.Worked

@@ -1,10 +1,10 @@
 //! A device that takes chains up to its window, and then gives all of them back.
 ghost use Rattle.std.specs.Prelude.{◌≡◌, ◌<◌, ◌≤◌, ◌^◌, ◌↔◌, IsTrue, true, false, None, []};
 ghost use Rattle.vd_control.specs.Settings.{default};
-ghost use Rattle.vd_models.specs.Serving.{Holds, journal_room, is_done};
+ghost use Rattle.vd_models.specs.Serving.{Holds, journal_room, is_done, move_of};
 ghost use Rattle.vd_models.specs.Laws.{held_law, serves_law, done_law};
 
-use crate::serving::{serve, serve_all, Held, Stage};
+use crate::serving::{Held, Policy, Serving, Stage};
 use circular_buffer::HeapCircularBuffer;
 use std::alloc::{AllocError, Global};
 use vd_bus::{Attached, Device, Event, Journal, Order, Refused};
@@ -46,6 +46,13 @@ impl<L: Layout> ModelDevice<L> {
             journal: Journal::new(alloc),
         }
     }
+}
+
+/// What a step was, after which the device is done or isn't.
+pub(crate) fn move_of(done: bool) -> Move
+    ensures { result ≡ move_of done }
+{
+    if done { Move::Finished } else { Move::Worked }
 }
 
 impl<L: Layout> Device<L> for ModelDevice<L> {
@@ -132,12 +139,8 @@ impl<L: Layout> Device<L> for ModelDevice<L> {
         let Some(held) = &mut self.held else {
             unreachable!()
         };
-        serve(end, by, &mut self.stage, held, &mut self.journal.begun, port);
-        if self.stage.is_done() {
-            Move::Finished
-        } else {
-            Move::Worked
-        }
+        <Policy as Serving<L>>::serve(end, by, &mut self.stage, held, &mut self.journal.begun, port);
+        move_of(self.stage.is_done())
     }
 
     fn phase<P: Port>(&mut self, port: &mut P) {
@@ -148,7 +151,7 @@ impl<L: Layout> Device<L> for ModelDevice<L> {
         let Some(held) = &mut self.held else {
             unreachable!()
         };
-        serve_all::<L, P>(end, by, &mut self.stage, held, &mut self.journal.begun, port);
+        <Policy as Serving<L>>::serve_all(end, by, &mut self.stage, held, &mut self.journal.begun, port);
     }
 
     fn done(&self) -> bool {

@@ -1,16 +1,16 @@
 use Rattle.std.proofs.Common.{arith, rules, ◌≡◌, refl, true, false}
 use Rattle.vd_models.specs.Serving.{is_done}
 use Rattle.vd_models.proofs.Phases.{begins, own_at, goes, waits, finishes, worked}
-use Rattle.vd_models.proofs.serving.serve_all.Goals as goal
+use Rattle.vd_models.proofs.serving.PolicyServing.serve_all.Goals as goal
 
 pub loop-end-init : goal.loop-end-init
 loop-end-init g c = λ ws v w plain ring opens. begins g.P.Port.port g.met.P.Port.lawful g.L.Driver.DriverEnd.driver g.L.Device.DeviceEnd.device g.L.Layout.layout g.met.L.Layout.lawful c.args.by.now c.args.port.now ws v w _ plain ring opens
 
-pub serve-requires-clause-own : goal.serve-requires-clause-own
-serve-requires-clause-own g c = λ κs h.
+pub serve-requires : goal.serve-requires
+serve-requires g c =
     let r = c.requires in
     let s = c.loop-end.invariant r.0 r.1 r.2 r.3 r.4 r.5 in
-    (s.view, record { serves = s.serves; live = search rules }, own_at g.P.Port.port g.met.P.Port.lawful g.L.Driver.DriverEnd.driver g.L.Device.DeviceEnd.device g.L.Layout.layout g.met.L.Layout.lawful c.args.by.now c.args.port.now c.loop-end.port r.1 r.2 _ _ s)
+    record { own = (s.view, record { serves = s.serves; live = search rules }, own_at g.P.Port.port g.met.P.Port.lawful g.L.Driver.DriverEnd.driver g.L.Device.DeviceEnd.device g.L.Layout.layout g.met.L.Layout.lawful c.args.by.now c.args.port.now c.loop-end.port r.1 r.2 _ _ s) }
 
 pub returns-in-Waits : goal.returns-in-Waits
 returns-in-Waits g c = λ ws v w plain ring opens.
