@@ -1,5 +1,5 @@
 -- What a driver's end is, as one record, and what one step of it is.
-use Rattle.std.specs.Prelude.{◌≡◌, ℕ, zero, suc, ◌+◌, ◌<◌, ◌≤◌, true, List, [], ◌∷◌, length, None}
+use Rattle.std.specs.Prelude.{◌≡◌, ℕ, zero, suc, ◌+◌, ◌<◌, ◌≤◌, true, List, [], ◌∷◌, length}
 use Rattle.std.specs.List.{Contains, sum_by}
 use Rattle.vd_model.specs.declared.chain.Piece.{Piece}
 use Rattle.vd_model.specs.declared.features.Features.{Features}
@@ -32,7 +32,6 @@ pub record MayOffer (words : ControlWords) (v : DriverView) (c : List Piece) : T
   pub fits : Fits v.frame c
   pub room : HasRoom v.frame v.done c
   pub limited : length (offers v.done) < limit v.frame
-  pub unarmed : v.armed ≡ None
   pub control : v.frame.control ≡ true → IsControlChain (words.command v.frame (next_head v.frame v.done)) (words.ack v.frame (next_head v.frame v.done)) c
 
 -- a driver's end: what its side may do, what its steps answer, for which views it stands, the operation that it has begun, a

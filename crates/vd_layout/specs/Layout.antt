@@ -17,12 +17,12 @@ use Rattle.vd_ring.specs.declared.device.DeviceDone.TheVariants.{Give}
 use Rattle.vd_ring.specs.declared.device.DeviceView.{DeviceView}
 use Rattle.vd_ring.specs.declared.frame.Frame.{Frame}
 use Rattle.vd_ring.specs.declared.frame.Used.{Used}
-use Rattle.vd_ring.specs.Bag.{State, IsOffer, IsBegin, IsEnd, IsTakeBack, Stands}
+use Rattle.vd_ring.specs.Bag.{State}
 use Rattle.vd_ring.specs.Fresh.{fresh_driver, fresh_device}
-use Rattle.vd_ring.specs.History.{offers, collects, takes, gives, last_used}
+use Rattle.vd_ring.specs.History.{offers, collects, takes, gives}
 use Rattle.vd_ring.specs.Lists.{Lists, Rested}
 use Rattle.vd_ring.specs.Places.{Places}
-use Rattle.vd_ring.specs.Steps.{Keeps}
+use Rattle.vd_ring.specs.Steps.{Keeps, StandsFor, DriverBagStep, DeviceBagStep}
 use Rattle.vd_layout.specs.Control.{ControlWords}
 use Rattle.vd_layout.specs.Begun.{DriverOp, DeviceOp}
 use Rattle.vd_layout.specs.Driver.{DriverModel, IsLawfulDriver}
@@ -69,21 +69,13 @@ pub record IsFresh {D E : Type 0} (d : DriverModel D) (e : DeviceModel E) (l : L
   pub awake : e.resting y ≡ false
   pub unused : e.fresh y ≡ true
 
--- the bag of a ring's chains, by what both sides have done
-abbrev pub StandsFor : List DriverDone → List DeviceDone → List State → Type 0
-StandsFor o s b = Stands (length (offers o)) (length (takes s)) (gives s) b
-
--- what an answer is to the bag; a give's, with the list of what was done that it heads
-abbrev pub DriverBag : DriverAct → List State → List State → Type 0
-DriverBag (driver_act.Offered k) b b' = IsOffer k b b'
-DriverBag _ b b' = b' ≡ b
-
-abbrev pub DeviceBag : DeviceAct → Bool → List DeviceDone → List State → List State → Type 0
-DeviceBag (device_act.Taken k c) in_order s b b' = IsBegin k b b'
-DeviceBag (device_act.Given k) in_order (Give us ∷ s) b b' = ((last_used us).number ≡ k) × IsEnd in_order us b b'
-DeviceBag (device_act.Given k) in_order _ b b' = ⊥
-DeviceBag device_act.Rested in_order s b b' = IsTakeBack b b'
-DeviceBag _ in_order s b b' = b' ≡ b
+-- what a device's answer is to the bag; the entries are those of the give that Given made
+pub record DeviceBags (in_order : Bool) (answer : DeviceAct) (o : List DriverDone) (s s' : List DeviceDone) (b : List State) : Type 0 where
+  pub entries : List Used
+  pub gave : (k : ℕ) → answer ≡ device_act.Given k → s' ≡ Give entries ∷ s
+  pub bag : List State
+  pub step : DeviceBagStep in_order entries answer b bag
+  pub stands : StandsFor o s' bag
 
 pub record IsLawfulLayout {D E : Type 0} (d : DriverModel D) (e : DeviceModel E) (l : LayoutModel) : Type 0 where
   pub driver_end : IsLawfulDriver d
@@ -108,12 +100,12 @@ pub record IsLawfulLayout {D E : Type 0} (d : DriverModel D) (e : DeviceModel E)
   pub device_nothing : (ws : List ℕ) (v : DriverView) (w : DeviceView) (op : Op) (a : Access) → l.ring ws v w → e.side.next w op a → e.act w op a (answered ws a) ≡ device_act.Nothing → takes w.done ≡ offers v.done
   -- after an offer the words spell the chain; after a give the used entry stands
   pub spells : (ws : List ℕ) (v : DriverView) (w : DeviceView) (op : Op) (a : Access) (k : ℕ) → l.ring ws v w → d.side.next v op a → d.act v op a (answered ws a) ≡ driver_act.Offered k → l.spells_last v.frame (written ws a) (d.side.after v op a (answered ws a)).done
-  pub uses : (ws : List ℕ) (v : DriverView) (w : DeviceView) (op : Op) (a : Access) (k : ℕ) → l.ring ws v w → e.side.next w op a → e.act w op a (answered ws a) ≡ device_act.Given k → l.has_last_used w.frame (written ws a) (e.side.after w op a (answered ws a)).done
+  pub uses : (ws : List ℕ) (v : DriverView) (w : DeviceView) (op : Op) (a : Access) (k : ℕ) → l.ring ws v w → e.side.next w op a → e.act w op a (answered ws a) ≡ device_act.Given k → l.has_last_used v.frame (written ws a) (e.side.after w op a (answered ws a)).done
   -- each answer is the one bag step that it names, and every other answer is none
   pub driver_bag : (ws : List ℕ) (v : DriverView) (w : DeviceView) (op : Op) (a : Access) (b : List State) → l.ring ws v w → d.side.next v op a → StandsFor v.done w.done b
-      → (b' : List State) × DriverBag (d.act v op a (answered ws a)) b b' × StandsFor (d.side.after v op a (answered ws a)).done w.done b'
+      → (b' : List State) × DriverBagStep (d.act v op a (answered ws a)) b b' × StandsFor (d.side.after v op a (answered ws a)).done w.done b'
   pub device_bag : (ws : List ℕ) (v : DriverView) (w : DeviceView) (op : Op) (a : Access) (b : List State) → l.ring ws v w → e.side.next w op a → StandsFor v.done w.done b
-      → (b' : List State) × DeviceBag (e.act w op a (answered ws a)) w.frame.features.in_order (e.side.after w op a (answered ws a)).done b b' × StandsFor v.done (e.side.after w op a (answered ws a)).done b'
+      → DeviceBags v.frame.features.in_order (e.act w op a (answered ws a)) v.done w.done (e.side.after w op a (answered ws a)).done b
   -- both ends know where commands and acks stand
   pub worded : (g : Frame) (h : ℕ) → (d.words.command g h ≡ l.words.command g h) × (d.words.ack g h ≡ l.words.ack g h) × (e.words.command g h ≡ l.words.command g h) × (e.words.ack g h ≡ l.words.ack g h)
   -- a lawful size has a place, and few enough

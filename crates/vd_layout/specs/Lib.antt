@@ -7,3 +7,4 @@ pub mod Plain
 pub mod Run
 pub mod DriverFinish
 pub mod DeviceFinish
+pub mod Both

@@ -6,10 +6,12 @@ mod driver;
 mod finish;
 mod layout;
 mod moves;
+mod plain;
 
 pub use device::{BadBase, DeviceEnd};
 pub use driver::DriverEnd;
 pub use finish::{finish_device, finish_driver};
 pub use layout::Layout;
 pub use moves::Move;
+pub use plain::{finish_device_beside, finish_driver_beside};
 pub use vd_ring::{DeviceAct, DriverAct};

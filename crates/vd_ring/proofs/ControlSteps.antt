@@ -1,5 +1,5 @@
 -- Commands and acks: what the driver's acts and stores keep.
-use Rattle.std.proofs.Common.{◌≡◌, ◌≢◌, ℕ, zero, suc, ◌+◌, ◌<◌, ◌≤◌, ◌==◌, ◌&&◌, Bool, true, false, List, [], ◌∷◌, ◌++◌, length, take, if◌then◌else◌, slice_index, slice_set, Option, Some, None, refl, sym, ap, ◌∙◌, subst, arith, inl, inr}
+use Rattle.std.proofs.Common.{◌≡◌, ◌≢◌, ℕ, ◌+◌, ◌<◌, ◌≤◌, ◌==◌, ◌&&◌, Bool, true, List, [], ◌∷◌, ◌++◌, length, if◌then◌else◌, slice_index, slice_set, Some, refl, sym, ap, ◌∙◌, subst, arith, inl, inr}
 use Rattle.std.specs.List.{Contains}
 use Rattle.std.proofs.lemmas.Bool.{cases_eq, cases_lt, eq-eqb, ne_eqb}
 use Rattle.std.proofs.lemmas.List.{length_push, get_or-set_other, get_or-set_same, get_or-take}
@@ -11,13 +11,13 @@ use Rattle.vd_ring.specs.declared.driver.DriverDone.TheVariants.{Offer, Collect,
 use Rattle.vd_ring.specs.declared.device.DeviceDone.{DeviceDone}
 use Rattle.vd_ring.specs.declared.device.DeviceDone.TheVariants.{Take, Give, Rest, StoreAck, LoadCommand}
 use Rattle.vd_ring.specs.Frames.{Fits, lent}
-use Rattle.vd_ring.specs.History.{offers, collects, gives, open_at, free, places, places_at, places_back, head, next_head, chain, first, numbers, occurs, used_at, last_used}
-use Rattle.vd_ring.specs.Control.{IsControlChain, last_command, command_of, last_collected, last_ack, ack_of, CommandsAgree, AcksAgree, Commands, Acks}
+use Rattle.vd_ring.specs.History.{offers, collects, gives, open_at, free, places, head, next_head, chain, first, numbers, occurs, used_at, last_used}
+use Rattle.vd_ring.specs.Control.{IsControlChain, last_command, command_of, last_collected, ack_of, CommandsAgree, Commands, Acks}
 use Rattle.vd_ring.specs.Places.{Places}
 use Rattle.vd_ring.specs.Lists.{Lists}
-use Rattle.vd_ring.proofs.Counts.{one_same, one_other, occurs-append, occurs_push, occurs_from, Contains_from, occurs_without, first_occurs}
-use Rattle.vd_ring.proofs.HeldPlaces.{open_below, lent_some, chain_fits, places_before, places_new, chain_before, chain_new, free_apart, free_inside, head_held, head_inside}
-use Rattle.vd_ring.proofs.ListSteps.{some_same, given_below, number_in, collected_given}
+use Rattle.vd_ring.proofs.Counts.{one_same, one_other, occurs_push, occurs_from, Contains_from, occurs_without, first_occurs}
+use Rattle.vd_ring.proofs.HeldPlaces.{open_below, lent_some, places_before, places_new, chain_before, chain_new, free_apart, free_inside, head_held, head_inside}
+use Rattle.vd_ring.proofs.ListSteps.{some_same, given_below, collected_given}
 
 -- command words of different heads, and of one head, have different places
 abbrev pub AreApart : (ℕ → ℕ) → Type 0

@@ -1,5 +1,5 @@
 -- What an offer does to the bag of the ring's chains.
-use Rattle.std.proofs.Common.{◌≡◌, ℕ, ◌<◌, ◌≤◌, List, [], ◌∷◌, ◌++◌, length, refl, ap, ◌∙◌, subst, sym, arith, inl, inr}
+use Rattle.std.proofs.Common.{ℕ, ◌<◌, List, [], ◌∷◌, ◌++◌, length, refl, ◌∙◌, sym, arith, inl, inr}
 use Rattle.std.proofs.lemmas.Bool.{cases_lt}
 use Rattle.std.proofs.lemmas.List.{length_push, get_or_append_left, get_or_push}
 use Rattle.vd_model.specs.declared.chain.Piece.{Piece}
@@ -7,7 +7,7 @@ use Rattle.vd_ring.specs.declared.frame.Frame.{Frame}
 use Rattle.vd_ring.specs.declared.driver.DriverDone.{DriverDone}
 use Rattle.vd_ring.specs.declared.driver.DriverDone.TheVariants.{Offer}
 use Rattle.vd_ring.specs.declared.device.DeviceDone.{DeviceDone}
-use Rattle.vd_ring.specs.History.{offers, takes, gives, used_at}
+use Rattle.vd_ring.specs.History.{offers, gives, used_at}
 use Rattle.vd_ring.specs.Bag.{State, offered, IsOffer}
 use Rattle.vd_ring.specs.Lists.{Lists}
 use Rattle.vd_ring.specs.Steps.{StandsFor}

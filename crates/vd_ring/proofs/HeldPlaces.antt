@@ -10,7 +10,6 @@ use Rattle.vd_ring.specs.declared.frame.Frame.{Frame}
 use Rattle.vd_ring.specs.declared.frame.Used.{Used}
 use Rattle.vd_ring.specs.declared.driver.DriverDone.{DriverDone}
 use Rattle.vd_ring.specs.declared.driver.DriverDone.TheVariants.{Offer, Collect}
-use Rattle.vd_model.specs.Chains.{needs}
 use Rattle.vd_ring.specs.Frames.{Fits, lent, limit}
 use Rattle.vd_ring.specs.History.{offers, collects, open_at, held, free, places, head, chain, numbers, occurs, places_at}
 use Rattle.vd_ring.specs.Places.{Places}

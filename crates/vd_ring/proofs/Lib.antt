@@ -4,3 +4,6 @@ pub mod HeldInside
 pub mod ListSteps
 pub mod ControlSteps
 pub mod DriverBag
+pub mod DeviceLists
+pub mod DeviceAcks
+pub mod DeviceBag

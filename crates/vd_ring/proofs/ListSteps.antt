@@ -1,18 +1,19 @@
 -- What the two sides' lists keep, and what follows of them. The driver's offers and collects.
-use Rattle.std.proofs.Common.{◌≡◌, ℕ, zero, suc, ◌+◌, ◌<◌, ◌≤◌, ◌==◌, Bool, true, false, List, [], ◌∷◌, ◌++◌, length, take, if◌then◌else◌, nat_lt, slice_index, Option, Some, None, refl, sym, ap, ◌∙◌, subst, arith, inl, inr}
+use Rattle.std.proofs.Common.{◌≡◌, ℕ, zero, suc, ◌+◌, ◌-◌, ◌<◌, ◌≤◌, ◌==◌, ◌&&◌, Bool, not, true, false, List, [], ◌∷◌, ◌++◌, length, take, map, if◌then◌else◌, nat_lt, slice_index, Option, Some, None, refl, sym, ap, ◌∙◌, subst, arith, inl, inr}
 use Rattle.std.specs.List.{Contains}
 use Rattle.std.proofs.lemmas.Bool.{cases_eq, cases_lt, eq-eqb, ne_eqb}
-use Rattle.std.proofs.lemmas.List.{length_push, length-append, length-map, take_more, take-map, take-append-le, get_or_append_left, get_or_push, get_or-take}
+use Rattle.std.proofs.lemmas.List.{length_push, length-map, take_more, take-map, take-append-le, get_or_append_left, get_or_push}
 use Rattle.vd_model.specs.declared.chain.Piece.{Piece}
+use Rattle.vd_model.specs.Chains.{writable}
 use Rattle.vd_ring.specs.declared.frame.Frame.{Frame}
 use Rattle.vd_ring.specs.declared.frame.Used.{Used}
 use Rattle.vd_ring.specs.declared.driver.DriverDone.{DriverDone}
 use Rattle.vd_ring.specs.declared.driver.DriverDone.TheVariants.{Offer, Collect}
 use Rattle.vd_ring.specs.declared.device.DeviceDone.{DeviceDone}
 use Rattle.vd_ring.specs.declared.device.DeviceDone.TheVariants.{Take, Give, Rest, StoreAck, LoadCommand}
-use Rattle.vd_ring.specs.History.{offers, collects, takes, gives, open_at, head, chain, entry, numbers, occurs, used_at, last_used, first, batch, is_batching}
+use Rattle.vd_ring.specs.History.{offers, collects, takes, gives, open_at, head, chain, entry, numbers, occurs, used_at, last_used, first, batch, between, upto}
 use Rattle.vd_ring.specs.Places.{Places}
-use Rattle.vd_ring.specs.Lists.{Lists, AreGives, IsGive, entry_at}
+use Rattle.vd_ring.specs.Lists.{Lists, AreGives, entry_at}
 use Rattle.vd_ring.proofs.Counts.{one_same, one_below, one_small, one_above, occurs_before, occurs_parts}
 use Rattle.vd_ring.proofs.HeldPlaces.{few_open, places_before}
 
@@ -28,21 +29,22 @@ some_same {A} a b e = ap take_it e
     take_it None = a
     take_it (Some x) = x
 
+-- the entries of chains that an entry skips
+abbrev skipped : (ℕ → List Piece) → ℕ → ℕ → List Used
+skipped chains from number = map (λ k. entry k (writable (chains k))) (between from number)
+
+none_skipped : (chains : ℕ → List Piece) (n : ℕ) → skipped chains n n ≡ []
+none_skipped chains n = let z : n - n ≡ 0 = omega arith in ap (λ m. map (λ k. entry k (writable (chains k))) (map (λ i. n + i) (upto m))) z
+
 -- the batch of one
 pub batch_one : (f : Frame) (chains : ℕ → List Piece) (count number len : ℕ) → (f.features.in_order ≡ true → number ≡ count) → batch f chains count number len ≡ entry number len ∷ []
-batch_one f chains count number len order = at f.features.in_order f.control order
+batch_one f chains count number len order = ap (λ us. us ++ entry number len ∷ []) (at f.features.in_order f.control order)
   where
-    same : (n : ℕ) → Rattle.vd_ring.specs.History.between n n ≡ []
-    same n = let z : Rattle.std.proofs.Common.◌-◌ n n ≡ 0 = omega arith in ap (λ m. Rattle.std.specs.Prelude.map (λ i. n + i) (Rattle.vd_ring.specs.History.upto m)) z
-
-    at : (b c : Bool) → (b ≡ true → number ≡ count)
-        → Rattle.std.specs.Prelude.map (λ k. entry k (Rattle.vd_model.specs.Chains.writable (chains k))) (Rattle.vd_ring.specs.History.between (if Rattle.std.specs.Prelude.◌&&◌ b (Rattle.std.specs.Prelude.not c) then count else number) number) ++ entry number len ∷ [] ≡ entry number len ∷ []
-    at true true order = ap (λ ks. Rattle.std.specs.Prelude.map (λ k. entry k (Rattle.vd_model.specs.Chains.writable (chains k))) ks ++ entry number len ∷ []) (same number)
-    at true false order =
-        ap (λ n. Rattle.std.specs.Prelude.map (λ k. entry k (Rattle.vd_model.specs.Chains.writable (chains k))) (Rattle.vd_ring.specs.History.between n number) ++ entry number len ∷ []) (sym (order refl))
-        ∙ ap (λ ks. Rattle.std.specs.Prelude.map (λ k. entry k (Rattle.vd_model.specs.Chains.writable (chains k))) ks ++ entry number len ∷ []) (same number)
-    at false true order = ap (λ ks. Rattle.std.specs.Prelude.map (λ k. entry k (Rattle.vd_model.specs.Chains.writable (chains k))) ks ++ entry number len ∷ []) (same number)
-    at false false order = ap (λ ks. Rattle.std.specs.Prelude.map (λ k. entry k (Rattle.vd_model.specs.Chains.writable (chains k))) ks ++ entry number len ∷ []) (same number)
+    at : (b c : Bool) → (b ≡ true → number ≡ count) → skipped chains (if b && not c then count else number) number ≡ []
+    at true false order = ap (λ n. skipped chains n number) (sym (order refl)) ∙ none_skipped chains number
+    at true true order = none_skipped chains number
+    at false true order = none_skipped chains number
+    at false false order = none_skipped chains number
 
 pub entry_is : (f : Frame) (s : List DeviceDone) (j : ℕ) (u : Used) → AreGives f s → entry_at s j ≡ Some u → (j < length (gives s)) × (used_at (gives s) j ≡ u)
 entry_is f [] j u a is = absurd cc

@@ -7,3 +7,4 @@ pub mod Places
 pub mod Lists
 pub mod Steps
 pub mod Fresh
+pub mod DeviceSteps

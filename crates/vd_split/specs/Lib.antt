@@ -5,3 +5,9 @@ pub mod DriverSteps
 pub mod DriverCollecting
 pub mod DriverLaws
 pub mod Opening
+pub mod DeviceEnd
+pub mod DeviceGiving
+pub mod DeviceTaking
+pub mod DeviceLaws
+pub mod SplitLayout
+pub mod Rig

@@ -1,5 +1,5 @@
 -- Places that run round a ring, copies of an area, and the order of an offer's stores.
-use Rattle.std.specs.Prelude.{◌≡◌, ℕ, ◌+◌, ◌*◌, ◌/◌, ◌<◌, ◌==◌, nat_lt, List, length, if◌then◌else◌, slice_index}
+use Rattle.std.specs.Prelude.{◌≡◌, ℕ, ◌+◌, ◌*◌, ◌/◌, ◌<◌, ◌==◌, nat_lt, Bool, List, length, if◌then◌else◌, slice_index}
 use Rattle.vd_split.specs.declared.driver.DriverStep.{DriverStep}
 use Rattle.vd_split.specs.declared.driver.DriverStep.TheVariants as step
 
@@ -10,6 +10,16 @@ next_place p n = if p + 1 == n then 0 else p + 1
 -- the first word of the device area of a ring of n places
 abbrev pub used_area : ℕ → ℕ
 used_area n = 2 * n + (n + 6) / 4
+
+-- the first command word, the first ack word, and the number of words of such a ring
+abbrev pub commands_area : ℕ → Bool → ℕ
+commands_area n indirect = used_area n + n + 1 + (if indirect then 32 * n else 0)
+
+abbrev pub acks_area : ℕ → Bool → Bool → ℕ
+acks_area n indirect control = commands_area n indirect + (if control then 2 * n else 0)
+
+abbrev pub all_words : ℕ → Bool → Bool → ℕ
+all_words n indirect control = acks_area n indirect control + (if control then n else 0) + 2
 
 -- these are the n words from place `at` on
 pub record Copies (area : List ℕ) (at n : ℕ) (stored : List ℕ) : Type 0 where

@@ -2,6 +2,13 @@
 #![tactic(auto)]
 
 mod descriptors;
+mod device;
 mod driver;
+mod layout;
 
+pub use device::SplitDevice;
 pub use driver::SplitDriver;
+pub use layout::Split;
+
+#[cfg(test)]
+mod tests;

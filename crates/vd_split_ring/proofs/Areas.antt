@@ -6,7 +6,7 @@ use Rattle.std.proofs.lemmas.Nat.{div-add-mod', mul-le, mod_below}
 use Rattle.vd_bits.specs.Lanes.{lane16, set_lane16, lane32, set_lane32}
 use Rattle.vd_bits.proofs.LaneLaws.{set_same, set_other, high_low, low_high, low_lane, lane_high}
 use Rattle.vd_ring.specs.declared.frame.Frame.{Frame}
-use Rattle.vd_split_ring.specs.SplitWords.{IsDrivers, IsDevices, command_word, ack_word, event_lane, shown_from, width, avail_from, used_from, tables_from, commands_from, acks_from, kick_at, lane_at, lane_word, with_lane, entry_lane}
+use Rattle.vd_split_ring.specs.SplitWords.{IsDrivers, IsDevices, IsDescriptors, command_word, ack_word, shown_from, width, avail_from, used_from, tables_from, commands_from, acks_from, kick_at, lane_at, lane_word, with_lane, entry_lane}
 use Rattle.vd_split_ring.specs.SplitWords.{shows}
 use Rattle.vd_split_ring.specs.SplitRing.{Words}
 
@@ -162,6 +162,33 @@ other_word ws p q x g ne = ap g (get_or-set_other ws p q x 0 ne)
 
 pub lane_past : (f : Frame) (ws : List ℕ) (p x j : ℕ) → used_from f ≤ p → j ≤ f.size + 2 → lane_at f (slice_set ws p x) j ≡ lane_at f ws j
 lane_past f ws p x j past h = ap (λ w. lane16 w (j % 4)) (get_or-set_other ws p (lane_word f j) x 0 (λ e. omega (arith, lane_inside f j h)))
+
+-- ---- descriptors and tables
+
+pub tables_follow : (f : Frame) → f.features.indirect ≡ true → commands_from f ≡ tables_from f + 32 * f.size
+tables_follow f on = ap (λ (b : Bool). tables_from f + (if b then 32 * f.size else 0)) on
+
+pub descriptor_drivers : (f : Frame) (p : ℕ) → IsDescriptors f p → IsDrivers f p
+descriptor_drivers f p (inl a) = inl (omega arith)
+descriptor_drivers f p (inr a) = inr (inl (omega arith, omega (arith, areas f)))
+
+pub descriptor_low : (f : Frame) (p : ℕ) → IsDescriptors f p → p < commands_from f
+descriptor_low f p (inl a) = omega (arith, areas f)
+descriptor_low f p (inr a) = omega arith
+
+-- they leave the lanes of the driver area
+pub lane_descriptor : (f : Frame) (ws : List ℕ) (p x j : ℕ) → IsDescriptors f p → j ≤ f.size + 2 → lane_at f (slice_set ws p x) j ≡ lane_at f ws j
+lane_descriptor f ws p x j (inl a) h = lane_elsewhere f ws p x j a
+lane_descriptor f ws p x j (inr a) h = lane_past f ws p x j (omega arith) h
+
+-- the driver area has none of them
+pub area_no_descriptor : (f : Frame) (p : ℕ) → avail_from f ≤ p → p < used_from f → IsDescriptors f p → ⊥
+area_no_descriptor f p low high (inl a) = omega arith
+area_no_descriptor f p low high (inr a) = omega arith
+
+pub command_no_descriptor : (f : Frame) (p : ℕ) → commands_from f ≤ p → IsDescriptors f p → ⊥
+command_no_descriptor f p low (inl a) = omega (arith, areas f)
+command_no_descriptor f p low (inr a) = omega arith
 
 -- ---- commands and acks
 

@@ -7,7 +7,7 @@ use Rattle.std.proofs.lemmas.List.Elements.{All-nil, All-cons, All-head, All-tai
 use Rattle.vd_model.specs.declared.chain.Piece.{Piece}
 use Rattle.vd_model.specs.Chains.{blank, IsPiece}
 use Rattle.vd_ring.specs.declared.frame.Put.{Put}
-use Rattle.vd_ring.specs.History.{occurs, first, upto}
+use Rattle.vd_ring.specs.History.{occurs, first}
 use Rattle.vd_split_ring.specs.SplitWords.{put, more, second, described, words_of, Stand, goes_on, next_of, piece_of, pieces_of, ends, linked}
 use Rattle.vd_ring.proofs.Counts.{one_same}
 

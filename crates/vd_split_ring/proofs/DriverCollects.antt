@@ -1,5 +1,5 @@
 -- The accesses of a collect keep the ring invariant.
-use Rattle.std.proofs.Common.{◌≡◌, ℕ, zero, suc, ◌+◌, ◌%◌, ◌<◌, ◌≤◌, Bool, true, false, not, List, [], ◌∷◌, ◌++◌, length, if◌then◌else◌, slice_index, refl, sym, ap, ◌∙◌, subst, arith}
+use Rattle.std.proofs.Common.{◌≡◌, ℕ, ◌+◌, ◌%◌, ◌<◌, ◌≤◌, Bool, true, false, not, List, [], ◌∷◌, ◌++◌, length, if◌then◌else◌, refl, sym, ap, ◌∙◌, subst, arith}
 use Rattle.std.proofs.lemmas.Bool.{not-true}
 use Rattle.std.proofs.lemmas.List.{length_push}
 use Rattle.vd_bits.specs.Lanes.{lane16, lane32}
@@ -13,14 +13,14 @@ use Rattle.vd_ring.specs.declared.device.DeviceDone.{DeviceDone}
 use Rattle.vd_ring.specs.declared.device.DeviceNow.{DeviceNow}
 use Rattle.vd_ring.specs.declared.device.DeviceNow.TheVariants as device
 use Rattle.vd_ring.specs.declared.device.DeviceView.{DeviceView}
-use Rattle.vd_ring.specs.History.{offers, collects, gives, open_at, head, chain, entry, occurs, used_at, collected, with_head}
+use Rattle.vd_ring.specs.History.{offers, collects, gives, open_at, head, chain, occurs, used_at, collected, with_head}
 use Rattle.vd_ring.specs.Places.{Places}
-use Rattle.vd_ring.specs.Lists.{Lists, entry_at}
+use Rattle.vd_ring.specs.Lists.{Lists}
 use Rattle.vd_ring.proofs.Counts.{occurs_from, Contains_from, occurs_without, with_head_is}
 use Rattle.vd_ring.proofs.HeldPlaces.{collect_places, same_head}
 use Rattle.vd_ring.proofs.ListSteps.{same_used, batch_one, entry_is, next_open, given_within, lists_collected}
 use Rattle.vd_ring.proofs.ControlSteps.{commands_collected, acks_collected}
-use Rattle.vd_split_ring.specs.SplitWords.{command_word, ack_word, shows, shown_from, ShowsIndex, used_index, used_id, used_len}
+use Rattle.vd_split_ring.specs.SplitWords.{command_word, ack_word, shows, shown_from, ShowsIndex, used_id, used_len}
 use Rattle.vd_split_ring.specs.SplitDriver.{NamesOpen, driver_looks, driver_collects}
 use Rattle.vd_split_ring.specs.SplitRing.{Driven, Served, Ring, DeviceDoing, HasSeen, Finds, Loads}
 use Rattle.vd_split_ring.proofs.Areas.{shows_more, shows_further, shown_is}
@@ -180,7 +180,7 @@ collected_is ws d e g w x r is =
     with_head_is (head f o) (open_at o) (lane32 w 1) u.number (sym id) here (λ j a e2. same_head f o j u.number r.places a here (e2 ∙ id)) in
     let len : lane32 x 0 ≡ u.len = is ∙ r.served.lens m n.used (omega arith) n.begins ∙ ap (λ (v : Used). v.len) (sym same) in (
       batch_one f (chain o) m (with_head (head f o) (open_at o) (lane32 w 1)) (lane32 x 0) (λ on. number ∙ r.lists.in_order on m more)
-      ∙ ap (λ (v : Used). v ∷ []) (same_used (with_head (head f o) (open_at o) (lane32 w 1)) (lane32 x 0) u number len),
+          ∙ ap (λ (v : Used). v ∷ []) (same_used (with_head (head f o) (open_at o) (lane32 w 1)) (lane32 x 0) u number len),
       more,
       here,
     )

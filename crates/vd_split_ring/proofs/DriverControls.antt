@@ -1,5 +1,5 @@
 -- The driver's accesses of command and ack words keep the ring invariant.
-use Rattle.std.proofs.Common.{◌≡◌, ℕ, ◌+◌, ◌-◌, ◌*◌, ◌/◌, ◌%◌, ◌<◌, ◌≤◌, true, List, [], ◌∷◌, length, Some, slice_index, slice_set, refl, sym, ap, ◌∙◌, subst, arith, inl, inr}
+use Rattle.std.proofs.Common.{◌≡◌, ℕ, ◌+◌, ◌-◌, ◌/◌, ◌%◌, ◌<◌, ◌≤◌, true, List, [], ◌∷◌, length, Some, slice_index, slice_set, sym, ap, subst, arith}
 use Rattle.std.specs.Prelude.{unwrap_or, Option}
 use Rattle.vd_ring.specs.declared.frame.Frame.{Frame}
 use Rattle.vd_ring.specs.declared.driver.DriverDone.{DriverDone}
@@ -10,13 +10,13 @@ use Rattle.vd_ring.specs.declared.device.DeviceDone.{DeviceDone}
 use Rattle.vd_ring.specs.declared.device.DeviceNow.{DeviceNow}
 use Rattle.vd_ring.specs.declared.device.DeviceNow.TheVariants as device
 use Rattle.vd_ring.specs.declared.device.DeviceView.{DeviceView}
-use Rattle.vd_ring.specs.History.{free, head, next_head}
-use Rattle.vd_ring.specs.Control.{StoresCommand, LoadsAck, last_collected}
+use Rattle.vd_ring.specs.History.{head, next_head}
+use Rattle.vd_ring.specs.Control.{StoresCommand, last_collected}
 use Rattle.vd_ring.specs.Places.{Places}
 use Rattle.vd_ring.specs.Lists.{Lists}
 use Rattle.vd_ring.proofs.HeldPlaces.{free_inside}
 use Rattle.vd_ring.proofs.ControlSteps.{next_free, commands_stored, commands_loaded, acks_stored, acks_loaded}
-use Rattle.vd_split_ring.specs.SplitWords.{width, used_from, commands_from, kick_at, command_word, ack_word}
+use Rattle.vd_split_ring.specs.SplitWords.{width, used_from, commands_from, command_word, ack_word}
 use Rattle.vd_split_ring.specs.SplitDriver.{driver_commands, driver_acks}
 use Rattle.vd_split_ring.specs.SplitRing.{Driven, Served, Ring, DeviceDoing, Loads}
 use Rattle.vd_split_ring.proofs.Areas.{areas, acks_follow, driver_stores, drivers_inside, commands_apart, command_drivers}
@@ -124,7 +124,7 @@ stores_command ws d e p x r n =
         built = r.built;
         words = driver_stores f ws d.stored e.stored q x r.words own;
         places = places_stored f o h i x r.places;
-        driven = driven_stored f o h i x (slice_set d.stored q x) (driven_past f o d.stored q x r.lawful r.built r.places r.driven past);
+        driven = driven_stored f o h i x (slice_set d.stored q x) (driven_past f o d.stored q x r.lawful r.places r.driven (omega arith));
         lists = lists_stored f o h i x e.done r.lists;
         served = served_stored f o h i x e.done e.stored r.served;
         driver_signals = signals_past f d.armed d.bells d.stored q x past (λ a. omega arith) r.driver_signals;

@@ -1,5 +1,5 @@
 -- Each access of the driver that is next keeps the ring invariant, and its answer tells what the view says.
-use Rattle.std.proofs.Common.{◌≡◌, ℕ, ◌+◌, ◌%◌, ◌<◌, ◌≤◌, ◌==◌, Bool, List, [], ◌∷◌, ◌++◌, length, if◌then◌else◌, slice_index, slice_set, refl, sym, ap, ◌∙◌, subst, arith, inl, inr}
+use Rattle.std.proofs.Common.{◌≡◌, ℕ, ◌+◌, ◌%◌, ◌≤◌, Bool, List, [], ◌∷◌, ◌++◌, length, if◌then◌else◌, slice_index, slice_set, sym, ap, ◌∙◌, subst, arith, inl, inr}
 use Rattle.std.proofs.lemmas.Bool.{eq-eqb, ne_eqb}
 use Rattle.std.proofs.lemmas.Nat.{mod_below}
 use Rattle.std.proofs.lemmas.List.Elements.{All-nil}
@@ -14,20 +14,17 @@ use Rattle.vd_ring.specs.declared.driver.DriverNow.TheVariants.{Idle, Offering, 
 use Rattle.vd_ring.specs.declared.driver.DriverView.{DriverView}
 use Rattle.vd_ring.specs.declared.device.DeviceView.{DeviceView}
 use Rattle.vd_ring.specs.History.{offers, collects, gives, head}
-use Rattle.vd_ring.specs.Control.{StoresCommand, LoadsAck}
-use Rattle.vd_ring.specs.Steps.{Keeps}
+use Rattle.vd_ring.specs.Control.{LoadsAck}
 use Rattle.vd_ring.proofs.HeldInside.{head_low}
-use Rattle.vd_split_ring.specs.SplitWords.{IsDrivers, width, avail_from, used_from, ack_word, command_word, id_word, len_word, lane_word, entry_lane, shows, Stand, put}
-use Rattle.vd_split_ring.specs.SplitDriver.{DriverNextAt, DriverNext, DriverTells, DriverKnows, driver_side, stores, Begins, Enters, Publishes}
+use Rattle.vd_split_ring.specs.SplitWords.{IsLawful, IsDescriptors, used_from, ack_word, id_word, len_word, lane_word, entry_lane, put}
+use Rattle.vd_split_ring.specs.SplitDriver.{DriverNextAt, DriverNext, DriverKnows, stores, Publishes}
 use Rattle.vd_split_ring.specs.SplitRing.{Ring, Stages}
-use Rattle.vd_split_ring.proofs.Areas.{areas, lane_inside, devices_inside, ack_devices}
+use Rattle.vd_split_ring.specs.SplitDriverLaws.{DriverKeeps}
+use Rattle.vd_split_ring.proofs.Areas.{areas, area_no_descriptor, descriptor_low, entry_inside, lane_inside, devices_inside, ack_devices}
 use Rattle.vd_split_ring.proofs.Descriptors.{Stands}
 use Rattle.vd_split_ring.proofs.DriverOffers.{describes, enters, publishes}
 use Rattle.vd_split_ring.proofs.DriverCollects.{looks, look_tells, finds, collects_last}
 use Rattle.vd_split_ring.proofs.DriverControls.{stores_command, loads_ack}
-
-abbrev pub DriverKeeps : List ℕ → DriverView → DeviceView → Op → Access → Type 0
-DriverKeeps ws d e op a = Keeps driver_side (λ us v. Ring us v e) ws d op a
 
 -- a word of the device's area, as the driver loads it
 pub used_word : (ws : List ℕ) (d : DriverView) (e : DeviceView) (p : ℕ) → Ring ws d e → used_from d.frame ≤ p → p ≤ used_from d.frame + d.frame.size → slice_index ws p ≡ slice_index e.stored p
@@ -37,6 +34,10 @@ knows : (ws : List ℕ) (d : DriverView) (e : DeviceView) (a : Access) → Ring 
 knows ws d e (Load p) r = λ own. r.words.drivers p own
 knows ws d e (Store p x) r = tt
 
+-- the next ring entry is no descriptor
+no_entry : (d : DriverView) (p : ℕ) → IsLawful d.frame → p ≡ lane_word d.frame (entry_lane d.frame (length (offers d.done))) → IsDescriptors d.frame p → ⊥
+no_entry d p l is = area_no_descriptor d.frame p (omega arith) (omega (arith, lane_inside d.frame (entry_lane d.frame (length (offers d.done))) (entry_inside d.frame (length (offers d.done)) l.some_place)))
+
 offering : (ws : List ℕ) (d : DriverView) (e : DeviceView) (puts : List Put) (p x : ℕ) → Ring ws (record d { doing = Offering puts }) e → DriverNextAt (Offering puts) (record d { doing = Offering puts }) op.Offer (Store p x)
     → DriverKeeps ws (record d { doing = Offering puts }) e op.Offer (Store p x)
 offering ws d e puts p x r (inl h) =
@@ -44,8 +45,8 @@ offering ws d e puts p x r (inl h) =
     let did = describes ws d e (Offering puts) puts p x r doing.stand h in
     let q : ℕ = lane_word d.frame (entry_lane d.frame (length (offers d.done))) in
     record {
-      inside = omega (arith, r.words.wide, areas d.frame, did.1);
-      keeps = subst (λ (b : Bool). Ring (slice_set ws p x) (stores d p x (if b then Entered puts else Offering (puts ++ put p x ∷ []))) e) (sym (ne_eqb p q (λ is. omega (arith, did.1)))) did.0;
+      inside = omega (arith, r.words.wide, areas d.frame, descriptor_low d.frame p did.1);
+      keeps = subst (λ (b : Bool). Ring (slice_set ws p x) (stores d p x (if b then Entered puts else Offering (puts ++ put p x ∷ []))) e) (sym (ne_eqb p q (λ is. no_entry d p r.lawful is did.1))) did.0;
       told = (tt, tt);
     }
 offering ws d e puts p x r (inr h) =
@@ -60,7 +61,7 @@ offering ws d e puts p x r (inr h) =
 pub driver_keeps_at : (ws : List ℕ) (d : DriverView) (e : DeviceView) (now : DriverNow) (op : Op) (a : Access) → Ring ws (record d { doing = now }) e → DriverNextAt now (record d { doing = now }) op a → DriverKeeps ws (record d { doing = now }) e op a
 driver_keeps_at ws d e Idle op.Offer (Store p x) r h =
     let did = describes ws d e Idle [] p x r (All-nil (Stands d.stored)) h.1 in
-    record { inside = omega (arith, r.words.wide, areas d.frame, did.1); keeps = did.0; told = (tt, tt) }
+    record { inside = omega (arith, r.words.wide, areas d.frame, descriptor_low d.frame p did.1); keeps = did.0; told = (tt, tt) }
 driver_keeps_at ws d e (Offering puts) op.Offer (Store p x) r h = offering ws d e puts p x r h
 driver_keeps_at ws d e (Entered puts) op.Offer (Store p x) r h =
     let n : Publishes d.frame d.done d.stored p x = h in record {

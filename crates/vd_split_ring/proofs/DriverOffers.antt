@@ -1,7 +1,7 @@
 -- The accesses of an offer keep the ring invariant.
-use Rattle.std.proofs.Common.{◌≡◌, ◌≢◌, ℕ, ◌+◌, ◌*◌, ◌/◌, ◌%◌, ◌<◌, ◌≤◌, List, [], ◌∷◌, ◌++◌, length, take, slice_index, slice_index_or, slice_set, refl, sym, ap, ◌∙◌, subst, arith, inl}
+use Rattle.std.proofs.Common.{◌≡◌, ℕ, ◌+◌, ◌%◌, ◌<◌, ◌≤◌, List, [], ◌∷◌, ◌++◌, length, take, slice_index_or, slice_set, sym, ap, ◌∙◌, subst, arith, inl}
 use Rattle.std.specs.List.{All}
-use Rattle.std.proofs.lemmas.List.{length_push, length-take-le, get_or-set_same}
+use Rattle.std.proofs.lemmas.List.{length_push, get_or-set_same}
 use Rattle.std.proofs.lemmas.List.Elements.{All-nil, All-cons, All-append}
 use Rattle.vd_model.specs.declared.chain.Piece.{Piece}
 use Rattle.vd_ring.specs.declared.frame.Frame.{Frame}
@@ -16,64 +16,59 @@ use Rattle.vd_ring.specs.declared.device.DeviceNow.{DeviceNow}
 use Rattle.vd_ring.specs.declared.device.DeviceNow.TheVariants as device
 use Rattle.vd_ring.specs.declared.device.DeviceView.{DeviceView}
 use Rattle.vd_ring.specs.Frames.{lent}
-use Rattle.vd_ring.specs.History.{offers, takes, gives, free, places, head, next_head, chain, first, occurs, used_at}
+use Rattle.vd_ring.specs.History.{offers, takes, free, places, next_head, chain, first, occurs}
 use Rattle.vd_ring.specs.Places.{Places}
-use Rattle.vd_ring.specs.Lists.{Lists, entry_at}
+use Rattle.vd_ring.specs.Lists.{Lists}
 use Rattle.vd_ring.proofs.Counts.{occurs_parts}
 use Rattle.vd_ring.proofs.HeldPlaces.{free_once, free_inside, lent_some, offer_places, places_before, chain_before}
 use Rattle.vd_ring.proofs.ListSteps.{lists_offered, entry_is, given_below}
 use Rattle.vd_ring.proofs.ControlSteps.{next_free, head_before, commands_elsewhere, commands_offered, acks_offered}
-use Rattle.vd_split_ring.specs.SplitWords.{IsLawful, IsBuilt, width, avail_from, used_from, command_word, ack_word, lane_at, lane_word, with_lane, entry_lane, described, spelling, reading, put, words_of, pieces_of, staged_chain, Stand}
+use Rattle.vd_split_ring.specs.SplitWords.{IsLawful, IsDescriptors, width, used_from, commands_from, command_word, ack_word, lane_word, with_lane, entry_lane, spelling, reading, put, words_of, staged_chain, Stand}
 use Rattle.vd_split_ring.specs.SplitDriver.{CanOffer, Begins, Publishes, plan, stores, driver_offers}
 use Rattle.vd_split_ring.specs.SplitDriver.{Enters as EntersNext}
-use Rattle.vd_split_ring.specs.SplitDevice.{loaded_head}
-use Rattle.vd_split_ring.specs.SplitRing.{Ring, Served, Stages, HasEntered, HasSeen, Loads, DeviceDoing}
-use Rattle.vd_split_ring.proofs.Descriptors.{IsAt, IsApart, Stands, described_at, described_before, described_below, stand_other, pieces_back}
-use Rattle.vd_split_ring.proofs.Direct.{IsNext, is_next, lent_pieces, spelling_is, staged_is}
-use Rattle.vd_split_ring.proofs.Areas.{driver_stores, lane_same, lane_inside, entry_inside, areas}
-use Rattle.vd_split_ring.proofs.DriverParts.{room_lent, slot_free, driven_described, driven_entered, driven_published, signals_below, signals_lane}
+use Rattle.vd_split_ring.specs.SplitRing.{Ring, Served, Stages, HasEntered, Loads, DeviceDoing}
+use Rattle.vd_split_ring.proofs.Descriptors.{IsApart, Stands, stand_other}
+use Rattle.vd_split_ring.proofs.Tables.{IsWord, spelling_within, spelling_differ, staged_spelling}
+use Rattle.vd_split_ring.proofs.Direct.{IsNext, is_next}
+use Rattle.vd_split_ring.proofs.Areas.{areas, descriptor_drivers, descriptor_low, area_no_descriptor, driver_stores, lane_same, lane_inside}
+use Rattle.vd_split_ring.proofs.DriverParts.{room_lent, next_chain, next_free_place, needs_some, word_descriptor, spelled_past, slot_free, driven_described, driven_entered, driven_published, signals_descriptor, signals_lane}
 
 -- the places that the chain gets
 abbrev next_places : Frame → List DriverDone → List Piece → List ℕ
 next_places f o c = take (lent f c) (free f o)
 
-plan_is : (f : Frame) (o : List DriverDone) (c : List Piece) → IsBuilt f → plan f o c ≡ described 0 (next_places f o c) c
-plan_is f o c b = spelling_is f (next_places f o c) c b
-
-plan_length : (f : Frame) (o : List DriverDone) (c : List Piece) → IsLawful f → IsBuilt f → CanOffer f o c → length (next_places f o c) ≡ length c
-plan_length f o c l b can = length-take-le (lent f c) (free f o) (room_lent f o c l can) ∙ lent_pieces f c l b
-
-next_places_free : (f : Frame) (o : List DriverDone) (c : List Piece) (q : ℕ) → 1 ≤ occurs q (next_places f o c) → 1 ≤ occurs q (free f o)
-next_places_free f o c q a = omega (arith, a, occurs_parts q (lent f c) (free f o))
-
--- ---- the store of a descriptor word
+-- ---- the store of a word of the chain
 
 pub describes : (ws : List ℕ) (d : DriverView) (e : DeviceView) (now : DriverNow) (puts : List Put) (p x : ℕ) → Ring ws (record d { doing = now }) e → Stand d.stored puts → Begins d.frame d.done (puts ++ put p x ∷ [])
-    → Ring (slice_set ws p x) (stores d p x (Offering (puts ++ put p x ∷ []))) e × (p < avail_from d.frame)
+    → Ring (slice_set ws p x) (stores d p x (Offering (puts ++ put p x ∷ []))) e × IsDescriptors d.frame p
 describes ws d e now puts p x r stand n =
     let f : Frame = d.frame in let o : List DriverDone = d.done in let c : List Piece = n.chain in let k : ℕ = length puts in
     let ps : List ℕ = next_places f o c in
-    let pl : List Put = described 0 ps c in
-    let m : IsNext puts (put p x) pl = is_next puts (put p x) pl (n.first ∙ ap (λ (l : List Put). take (length (puts ++ put p x ∷ [])) l) (plan_is f o c r.built)) in
-    let is_place : (slice_index_or pl k (put 0 0)).place ≡ p = sym (ap (λ (s : Put). s.place) m.is) in
-    let a : IsAt 0 ps p = subst (λ (q : ℕ). IsAt 0 ps q) is_place (described_at 0 ps c k m.left) in
-    let is_free : 1 ≤ occurs a.place (free f o) = next_places_free f o c a.place a.here in
-    let low : p < avail_from f = omega (arith, free_inside f o a.place r.places is_free, a.high) in
-    let wide : length d.stored ≡ width f = r.words.wide.1 in
+    let pl : List Put = spelling f ps c in
+    let next = next_chain f o c r.lawful n.can in
+    let some : 1 ≤ length ps = omega (arith, next.0, needs_some f c next.1) in
+    let are_free : (q : ℕ) → 1 ≤ occurs q ps → 1 ≤ occurs q (free f o) = λ q a. next_free_place f o c q a in
+    let inside : (q : ℕ) → 1 ≤ occurs q ps → q < f.size = λ q a. free_inside f o q r.places (are_free q a) in
     let once : (q : ℕ) → occurs q ps ≤ 1 = λ q. omega (arith, free_once f o q r.places, occurs_parts q (lent f c) (free f o)) in
+    let m : IsNext puts (put p x) pl = is_next puts (put p x) pl n.first in
+    let is_place : (slice_index_or pl k (put 0 0)).place ≡ p = sym (ap (λ (s : Put). s.place) m.is) in
+    let w : IsWord f ps p = subst (λ (q : ℕ). IsWord f ps q) is_place (spelling_within f ps c next.0 next.1 k (put 0 0) m.left) in
+    let own : IsDescriptors f p = word_descriptor f ps p some inside w in
+    let low : p < commands_from f = descriptor_low f p own in
+    let wide : length d.stored ≡ width f = r.words.wide.1 in
     let apart : All (IsApart p) puts =
-    subst (λ (l : List Put). All (IsApart p) l) (sym m.before) (subst (λ (q : ℕ). All (IsApart q) (take k pl)) is_place (described_before 0 ps c k once m.left)) in
+    subst (λ (l : List Put). All (IsApart p) l) (sym m.before) (subst (λ (q : ℕ). All (IsApart q) (take k pl)) is_place (spelling_differ f ps c next.0 next.1 once inside k m.left)) in
     let us : List ℕ = slice_set d.stored p x in (
       record {
         same = r.same;
         lawful = r.lawful;
         built = r.built;
-        words = driver_stores f ws d.stored e.stored p x r.words (inl (omega arith));
+        words = driver_stores f ws d.stored e.stored p x r.words (descriptor_drivers f p own);
         places = r.places;
-        driven = driven_described f o d.stored p x a.place r.built r.places r.driven low (omega (arith, a.low)) (omega (arith, a.high)) is_free;
+        driven = driven_described f o d.stored ps p x r.lawful r.places r.driven own some are_free w;
         lists = r.lists;
         served = r.served;
-        driver_signals = signals_below f d.armed d.bells d.stored p x low r.driver_signals;
+        driver_signals = signals_descriptor f d.armed d.bells d.stored p x own r.driver_signals;
         device_signals = r.device_signals;
         commands = commands_elsewhere f (command_word f) (ack_word f) o d.stored p x r.places (λ h i under two e2. omega arith) r.commands;
         acks = r.acks;
@@ -88,7 +83,7 @@ describes ws d e now puts p x r stand n =
         device_shown = r.device_shown;
         rested = r.rested;
       },
-      low,
+      own,
     )
 
 -- ---- the store of the ring entry
@@ -110,12 +105,12 @@ enters ws d e puts p x r n =
     let far : used_from f ≤ length d.stored = omega (arith, areas f) in
     let doing : Stages f o d.stored puts = r.driver_doing in
     let y : ℕ = with_lane f d.stored j h in
-    let pl : List Put = described 0 ps c in
-    let is : puts ≡ pl = n.whole ∙ plan_is f o c r.built in
+    let pl : List Put = spelling f ps c in
+    let next = next_chain f o c r.lawful n.can in
     let stood : Stand (slice_set d.stored (lane_word f j) y) puts =
-    subst (λ (l : List Put). Stand (slice_set d.stored (lane_word f j) y) l) (sym is)
-    (stand_other d.stored pl (lane_word f j) y (subst (λ (l : List Put). Stand d.stored l) is doing.stand)
-    (described_below 0 ps c f.size (lane_word f j) (λ q a. free_inside f o q r.places (next_places_free f o c q a)) (omega arith))) in
+    subst (λ (l : List Put). Stand (slice_set d.stored (lane_word f j) y) l) (sym n.whole)
+    (spelled_past f d.stored ps c (lane_word f j) y next.0 next.1 (λ q a. free_inside f o q r.places (next_free_place f o c q a)) (area_no_descriptor f (lane_word f j) (omega arith) low)
+    (subst (λ (l : List Put). Stand d.stored l) n.whole doing.stand)) in
     subst (λ (q : ℕ). Ring (slice_set ws q x) (stores d q x (Entered puts)) e × (q < used_from f)) (sym n.place)
     (subst (λ (z : ℕ). Ring (slice_set ws (lane_word f j) z) (stores d (lane_word f j) z (Entered puts)) e × (lane_word f j < used_from f)) (sym n.word) (
       record {
@@ -124,7 +119,7 @@ enters ws d e puts p x r n =
         built = r.built;
         words = driver_stores f ws d.stored e.stored (lane_word f j) y r.words (inl low);
         places = r.places;
-        driven = driven_entered f o c d.stored h r.lawful r.built r.places r.driven n.can small far;
+        driven = driven_entered f o c d.stored h r.lawful r.places r.driven n.can small far;
         lists = r.lists;
         served = r.served;
         driver_signals = signals_lane f d.armed d.bells d.stored j h small far (omega arith) under r.driver_signals;
@@ -176,9 +171,8 @@ doing_offered (device.Giving (a ∷ b ∷ x ∷ ws)) f o c s st seen pl low h = 
 doing_offered _ f o c s st seen pl low h = h
 
 -- what was staged is the chain
-pub staged_is_chain : (f : Frame) (o : List DriverDone) (c : List Piece) (puts : List Put) → IsLawful f → IsBuilt f → CanOffer f o c → puts ≡ plan f o c → staged_chain f (words_of puts) ≡ c
-staged_is_chain f o c puts l b can whole =
-    ap (λ (ps : List Put). staged_chain f (words_of ps)) (whole ∙ plan_is f o c b) ∙ staged_is f (words_of (described 0 (next_places f o c) c)) b ∙ pieces_back 0 (next_places f o c) c (plan_length f o c l b can) can.fits.chain.3
+pub staged_is_chain : (f : Frame) (o : List DriverDone) (c : List Piece) (puts : List Put) → IsLawful f → CanOffer f o c → puts ≡ plan f o c → staged_chain f (words_of puts) ≡ c
+staged_is_chain f o c puts l can whole = let next = next_chain f o c l can in ap (λ (ps : List Put). staged_chain f (words_of ps)) whole ∙ staged_spelling f (next_places f o c) c next.0 next.1
 
 pub publishes : (ws : List ℕ) (d : DriverView) (e : DeviceView) (puts : List Put) (p x : ℕ) → Ring ws (record d { doing = Entered puts }) e → Publishes d.frame d.done d.stored p x → Ring (slice_set ws p x) (driver_offers d puts p x) e
 publishes ws d e puts p x r n =
@@ -191,13 +185,13 @@ publishes ws d e puts p x r n =
     let low : q < used_from f = lane_inside f 1 (omega arith) in
     subst (λ (i : ℕ). Ring (slice_set ws i x) (driver_offers d puts i x) e) (sym n.place)
     (subst (λ (z : ℕ). Ring (slice_set ws q z) (driver_offers d puts q z) e) (sym n.word)
-    (subst (λ (cs : List Piece). Ring (slice_set ws q y) (record d { done = Offer cs ∷ o; stored = slice_set d.stored q y; doing = Idle }) e) (sym (staged_is_chain f o c puts r.lawful r.built h.can h.whole)) record {
+    (subst (λ (cs : List Piece). Ring (slice_set ws q y) (record d { done = Offer cs ∷ o; stored = slice_set d.stored q y; doing = Idle }) e) (sym (staged_is_chain f o c puts r.lawful h.can h.whole)) record {
       same = r.same;
       lawful = r.lawful;
       built = r.built;
       words = driver_stores f ws d.stored e.stored q y r.words (inl low);
       places = offer_places f o c r.places h.can.fits (room_lent f o c r.lawful h.can) h.can.limited;
-      driven = driven_published f o c d.stored r.places r.driven h.can r.lawful r.built far (subst (λ (l : List Put). Stand d.stored l) h.whole h.stand) h.entry;
+      driven = driven_published f o c d.stored r.places r.driven h.can r.lawful far (subst (λ (l : List Put). Stand d.stored l) h.whole h.stand) h.entry;
       lists = lists_offered f o c e.done r.places r.lists;
       served = served_offered f o c e.done e.stored r.places r.lists r.served;
       driver_signals = signals_lane f d.armed d.bells d.stored 1 v (omega arith) far (omega arith) (omega (arith, r.lawful.some_place)) r.driver_signals;

@@ -1,8 +1,25 @@
 pub mod Areas
 pub mod Descriptors
 pub mod Direct
+pub mod Tables
+pub mod Reading
 pub mod DriverParts
 pub mod DriverOffers
 pub mod DriverCollects
 pub mod DriverControls
 pub mod DriverKeeps
+pub mod DriverViews
+pub mod Spelling
+pub mod DriverAnswers
+pub mod Opens
+pub mod Agreement
+pub mod DeviceParts
+pub mod DeviceLooks
+pub mod DeviceTakes
+pub mod DeviceGives
+pub mod DeviceControl
+pub mod DeviceViews
+pub mod DeviceKeeping
+pub mod DeviceBagSteps
+pub mod DeviceAnswers
+mod Examples

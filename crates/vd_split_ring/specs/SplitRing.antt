@@ -26,6 +26,7 @@ use Rattle.vd_split_ring.specs.SplitDevice.{loaded_head}
 
 -- each word is what its one writer last stored in it
 pub record Words (f : Frame) (ws driven served : List ℕ) : Type 0 where
+  -- the ring and both images have as many words as its areas, control words and bells counted
   pub wide : (length ws ≡ width f) × (length driven ≡ width f) × (length served ≡ width f)
   pub drivers : (i : ℕ) → IsDrivers f i → slice_index ws i ≡ slice_index driven i
   pub devices : (i : ℕ) → IsDevices f i → slice_index ws i ≡ slice_index served i
@@ -49,9 +50,11 @@ pub record Served (f : Frame) (o : List DriverDone) (s : List DeviceDone) (store
 
 -- the driver's flags, used_event and bell: where it is armed, the event word stands at its count (VIRTIO 1.2, 2.7.7 and 2.7.10)
 pub record DriverSignals (f : Frame) (armed : Option ℕ) (bells : ℕ) (stored : List ℕ) : Type 0 where
+  -- with EVENT_IDX the flags stay 0
   pub no_flags : f.features.event_idx ≡ true → lane_at f stored 0 ≡ 0
   pub flags : (s : ℕ) → armed ≡ Some s → f.features.event_idx ≡ false → lane_at f stored 0 ≡ 0
   pub event : (s : ℕ) → armed ≡ Some s → f.features.event_idx ≡ true → lane_at f stored (event_lane f) ≡ s % 65536
+  -- the bell is the number of bells stored
   pub bell : slice_index stored (kick_at f) ≡ bells % 18446744073709551616
 
 -- the device's flags, avail_event and bell
@@ -87,6 +90,7 @@ pub record Finds (f : Frame) (o : List DriverDone) (s : List DeviceDone) (w : �
   pub begins : entry_at s (length (collects o)) ≡ Some used
   pub is_id : lane32 w 1 ≡ head f o used.number
 
+-- what holds of the driver's operation in progress
 abbrev pub DriverDoing : DriverNow → Frame → List DriverDone → List ℕ → ℕ → List DeviceDone → Type 0
 DriverDoing driver.Idle f o stored seen s = Unit {0}
 DriverDoing (driver.Offering puts) f o stored seen s = Stages f o stored puts
@@ -109,6 +113,7 @@ pub record Gives (f : Frame) (s : List DeviceDone) (stored : List ℕ) (a : ℕ)
   pub is_id : lane32 a 1 ≡ taken_head s number
   pub stands : used_id f stored (length (gives s)) ≡ lane32 a 1
 
+-- what holds of the device's operation in progress; a length stored stands too
 abbrev pub DeviceDoing : DeviceNow → Frame → List DriverDone → List DeviceDone → List ℕ → ℕ → Type 0
 DeviceDoing device.Idle f o s stored seen = Unit {0}
 DeviceDoing (device.Taking (r ∷ [])) f o s stored seen = HasSeen r seen (length (takes s))
@@ -122,7 +127,9 @@ DeviceDoing _ f o s stored seen = ⊥
 pub record Ring (ws : List ℕ) (d : DriverView) (e : DeviceView) : Type 0 where
   -- both sides name the same ring, size, features and bounds
   pub same : e.frame ≡ d.frame
+  -- it is a split ring of 1 to 32,768 places
   pub lawful : IsLawful d.frame
+  -- without tables and without the event index
   pub built : IsBuilt d.frame
   -- each word is what its one writer last stored in it
   pub words : Words d.frame ws d.stored e.stored

@@ -1,0 +1,152 @@
+-- For which views the device's end of a split ring stands, and what it has begun.
+use Rattle.std.specs.Prelude.{◌≡◌, ℕ, zero, suc, ◌+◌, ◌-◌, ◌*◌, ◌/◌, ◌%◌, ◌<◌, ◌≤◌, ◌&&◌, nat_eq, Bool, true, false, List, [], ◌∷◌, ◌++◌, length, take, Option, None, Some, if◌then◌else◌, nat_lt, slice_index_or}
+use Rattle.vd_bits.specs.Lanes.{lane32}
+use Rattle.vd_model.specs.declared.chain.Piece.{Piece}
+use Rattle.vd_ring.specs.declared.frame.Frame.{Frame}
+use Rattle.vd_ring.specs.declared.device.DeviceDone.{DeviceDone}
+use Rattle.vd_ring.specs.declared.device.DeviceNow.{DeviceNow}
+use Rattle.vd_ring.specs.declared.device.DeviceNow.TheVariants as now
+use Rattle.vd_ring.specs.declared.device.DeviceView.{DeviceView}
+use Rattle.vd_ring.specs.Frames.{limit}
+use Rattle.vd_ring.specs.History.{takes, gives, heads, running, taken_head, numbers, occurs, IsWhole}
+use Rattle.vd_split_ring.specs.SplitWords.{used_from, width, pieces_of, linked}
+use Rattle.vd_split_ring.specs.SplitDevice.{loaded_head, IsNewHead, device_side, device_act}
+use Rattle.vd_layout.specs.Begun.{DeviceOp}
+use Rattle.vd_layout.specs.Device.{DeviceModel}
+use Rattle.vd_split.specs.declared.device.SplitDevice.{SplitDevice}
+use Rattle.vd_split.specs.declared.device.DeviceStep.{DeviceStep}
+use Rattle.vd_split.specs.declared.device.DeviceStep.TheVariants as step
+use Rattle.vd_split.specs.DriverEnd.{IsMadeFor, split_words}
+use Rattle.vd_split.specs.Parts.{Copies}
+
+-- the counts, and their places round the ring
+pub record DeviceCounts (taken given entry used : ℕ) (f : Frame) (s : List DeviceDone) : Type 0 where
+  pub takes : taken ≡ length (takes s)
+  pub gives : given ≡ length (gives s)
+  pub entry_at : entry ≡ length (Rattle.vd_ring.specs.History.takes s) % f.size
+  pub used_at : used ≡ length (Rattle.vd_ring.specs.History.gives s) % f.size
+
+-- each chain taken runs or is given, and only once
+pub record TakesOnce (s : List DeviceDone) : Type 0 where
+  pub each : (k : ℕ) → occurs k (running s) + occurs k (numbers (gives s)) ≡ (if nat_lt k (length (takes s)) then 1 else 0)
+  pub count : length (takes s) ≡ length (gives s) + length (running s)
+  pub as_many : length (heads s) ≡ length (takes s)
+
+abbrev pub number_at : List (Option ℕ) → ℕ → Option ℕ
+number_at table h = slice_index_or table h None
+
+-- the running chains are in the table at their heads, and nothing else is
+pub record HoldsRunning (table : List (Option ℕ)) (guesses : ℕ) (f : Frame) (s : List DeviceDone) : Type 0 where
+  pub once : TakesOnce s
+  pub places : length table ≡ f.size
+  pub guessed : guesses ≡ f.size
+  pub kept : (k : ℕ) → 1 ≤ occurs k (running s) → number_at table (taken_head s k) ≡ Some k
+  pub named : (h k : ℕ) → number_at table h ≡ Some k → (1 ≤ occurs k (running s)) × (taken_head s k ≡ h)
+
+-- the chain runs at this head, and may be given next
+pub record IsNext (f : Frame) (s : List DeviceDone) (number head len : ℕ) : Type 0 where
+  pub runs : 1 ≤ occurs number (running s)
+  pub in_order : f.features.in_order ≡ true → number ≡ length (gives s)
+  pub is_head : taken_head s number ≡ head
+  pub inside : head < f.size
+  pub small : len < 4294967296
+
+-- the words of a take in progress: whole descriptors from the head on, and maybe an address
+pub record HasLoaded (f : Frame) (s : List DeviceDone) (pieces : List Piece) (w h p : ℕ) (ws : List ℕ) : Type 0 where
+  pub is_head : loaded_head f (length (takes s)) w ≡ h
+  pub new : IsNewHead f s h
+  pub limited : length (takes s) < limit f
+  pub spelled : pieces_of ws ≡ pieces
+  pub even : length ws ≡ 2 * length pieces
+  pub at : linked h ws ≡ 2 * p
+  pub low : p < f.size
+
+-- a take has loaded the index word r, the entry's word, and whole descriptors, and is at the descriptor at place p
+pub record IsTaking (f : Frame) (s : List DeviceDone) (pieces : List Piece) (r h p : ℕ) (more : List ℕ) (d : DeviceNow) : Type 0 where
+  pub word : ℕ
+  pub words : List ℕ
+  pub is : d ≡ now.Taking (r ∷ word ∷ (words ++ more))
+  pub loaded : HasLoaded f s pieces word h p words
+
+abbrev pub DeviceStepStands : DeviceStep → List Piece → ℕ → Frame → List DeviceDone → DeviceNow → Type 0
+DeviceStepStands step.Idle ps a f s d = d ≡ now.Idle
+DeviceStepStands step.Resting ps a f s d = (d ≡ now.Idle) × (running s ≡ []) × IsWhole s
+DeviceStepStands step.Look ps a f s d = d ≡ now.Idle
+DeviceStepStands (step.Entry r) ps a f s d = (d ≡ now.Taking (r ∷ [])) × (length (takes s) < limit f)
+DeviceStepStands (step.Address r h p) ps a f s d = IsTaking f s ps r h p [] d
+DeviceStepStands (step.Second r h p) ps a f s d = IsTaking f s ps r h p (a ∷ []) d
+DeviceStepStands (step.Name k h n) ps a f s d = (d ≡ now.Idle) × IsNext f s k h n
+DeviceStepStands (step.Measure k h n) ps a f s d = (x : ℕ) × (d ≡ now.Giving (x ∷ [])) × (lane32 x 1 ≡ h) × IsNext f s k h n
+DeviceStepStands (step.Publish k h n) ps a f s d = (x y : ℕ) × (d ≡ now.Giving (x ∷ y ∷ [])) × (lane32 x 1 ≡ h) × (lane32 y 0 ≡ n) × IsNext f s k h n
+DeviceStepStands step.Rest ps a f s d = (d ≡ now.Idle) × IsWhole s
+
+-- no event word is stored, and no bell rung or heard
+pub record IsSilent (v : DeviceView) : Type 0 where
+  pub unarmed : v.armed ≡ None
+  pub unheard : v.heard ≡ 0
+  pub unrung : v.bells ≡ 0
+
+pub record DeviceStands (e : SplitDevice) (v : DeviceView) : Type 0 where
+  pub made : IsMadeFor e.size e.features v.frame
+  pub counts : DeviceCounts e.taken e.given e.entry e.used v.frame v.done
+  pub holds : HoldsRunning e.running.items (length e.guesses.items) v.frame v.done
+  pub area : Copies e.area.items (used_from v.frame) (v.frame.size + 1) v.stored
+  pub wide : length v.stored ≡ width v.frame
+  pub shown : e.shown ≡ v.shown
+  pub silent : IsSilent v
+  pub doing : DeviceStepStands e.doing e.pieces.items e.addr v.frame v.done v.doing
+
+-- ---- the operation that is begun, and the accesses that it still takes at most
+
+abbrev pub device_begun : DeviceStep → DeviceOp
+device_begun step.Idle = DeviceOp.idle
+device_begun step.Resting = DeviceOp.idle
+device_begun step.Look = DeviceOp.take
+device_begun (step.Entry r) = DeviceOp.take
+device_begun (step.Address r h p) = DeviceOp.take
+device_begun (step.Second r h p) = DeviceOp.take
+device_begun (step.Name k h n) = DeviceOp.give k n
+device_begun (step.Measure k h n) = DeviceOp.give k n
+device_begun (step.Publish k h n) = DeviceOp.give k n
+device_begun step.Rest = DeviceOp.rest
+
+-- by the number of pieces loaded so far
+abbrev pub device_left : DeviceStep → ℕ → ℕ
+device_left step.Idle n = 0
+device_left step.Resting n = 0
+device_left step.Look n = 37
+device_left (step.Entry r) n = 36
+device_left (step.Address r h p) n = 2 * (16 - n) + 3
+device_left (step.Second r h p) n = 2 * (16 - n) + 2
+device_left (step.Name k h l) n = 3
+device_left (step.Measure k h l) n = 2
+device_left (step.Publish k h l) n = 1
+device_left step.Rest n = 1
+
+abbrev pub is_resting : DeviceStep → Bool
+is_resting step.Resting = true
+is_resting _ = false
+
+abbrev pub is_idle : DeviceStep → Bool
+is_idle step.Idle = true
+is_idle _ = false
+
+-- the base of a count of chains (the number of a split ring in `vhost_vring_state`)
+abbrev pub base_of : Frame → List (List Piece) → ℕ
+base_of f cs = length cs % 65536
+
+abbrev pub split_device : DeviceModel SplitDevice
+split_device = record {
+  side = device_side;
+  act = device_act;
+  stands = DeviceStands;
+  begun = λ e. device_begun e.doing;
+  left = λ e. device_left e.doing (length e.pieces.items);
+  size = λ e. e.size;
+  features = λ e. e.features;
+  resting = λ e. is_resting e.doing;
+  fresh = λ e. is_idle e.doing && (nat_eq e.taken 0 && nat_eq e.given 0);
+  words = split_words;
+  base = λ e. e.taken % 65536;
+  base_of = base_of;
+}

@@ -1,0 +1,49 @@
+//! The device's end.
+use arrayvec::ArrayVec;
+use vd_model::{Features, Piece};
+
+mod end;
+mod give;
+mod make;
+mod running;
+mod take;
+
+/// What the next step does. A take has the index word that it loaded, its chain's head and the next descriptor's place;
+/// a give has the chain's number and head, and the length.
+#[derive(Copy, Clone)]
+pub enum DeviceStep {
+    Idle,
+    /// Idle, since a rest.
+    Resting,
+    Look,
+    Entry(u64),
+    Address(u64, u32, u32),
+    Second(u64, u32, u32),
+    Name(u32, u32, u32),
+    Measure(u32, u32, u32),
+    Publish(u32, u32, u32),
+    Rest,
+}
+
+/// The device's end of a split ring.
+#[derive(Drop)]
+pub struct SplitDevice {
+    pub(crate) size: u32,
+    pub(crate) features: Features,
+    pub(crate) taken: u32,
+    pub(crate) given: u32,
+    // the places of the next ring entry and of the next used entry: the counts modulo the size
+    pub(crate) entry: u32,
+    pub(crate) used: u32,
+    // the numbers of the running chains, by their heads
+    pub(crate) running: Vec<Option<u32>>,
+    // at the low bits of a number, the head of the chain taken last with these bits: where to look first
+    pub(crate) guesses: Vec<u32>,
+    // a copy of the device area, whose words hold several entries' parts
+    pub(crate) area: Vec<u64>,
+    pub(crate) shown: bool,
+    // what a take has loaded so far
+    pub(crate) pieces: ArrayVec<Piece, 16>,
+    pub(crate) addr: u64,
+    pub(crate) doing: DeviceStep,
+}

@@ -1,0 +1,133 @@
+//! The steps of a take.
+ghost use Rattle.std.specs.Prelude.{◌≡◌, ◌*◌, ◌<◌, Some, length, slice_set};
+ghost use Rattle.vd_words.specs.Own.{IsOwn};
+ghost use Rattle.vd_ring.specs.declared.device.DeviceView.{DeviceView};
+ghost use Rattle.vd_split_ring.specs.SplitDevice.{device_side};
+ghost use Rattle.vd_split_ring.specs.SplitWords.{piece_of, goes_on, next_of};
+ghost use Rattle.vd_layout.specs.Device.{IsDeviceStep};
+ghost use Rattle.vd_split.specs.DeviceEnd.{DeviceStands, split_device};
+
+use super::{DeviceStep, SplitDevice};
+use crate::descriptors::{next_place, shows_count};
+use arrayvec::ArrayVec;
+use vd_bits::lane16;
+use vd_model::{Chain, Piece};
+use vd_ring::DeviceAct;
+use vd_words::{Access, Op, Port};
+
+/// The piece of a descriptor's two words.
+#[inline]
+fn piece_from(addr: u64, second: u64) -> Piece
+    ensures { result ≡ piece_of addr second }
+{
+    Piece {
+        addr,
+        len: (second % 0x1_0000_0000) as u32,
+        write: second / 0x2_0000_0000 % 2 == 1,
+    }
+}
+
+/// Whether another descriptor follows.
+#[inline]
+fn has_next(second: u64) -> bool
+    ensures { result ≡ goes_on second }
+{
+    second / 0x1_0000_0000 % 2 == 1
+}
+
+/// The place of the descriptor that follows.
+#[inline]
+fn following(second: u64) -> u32
+    ensures { result ≡ next_of second }
+{
+    (second / 0x1_0000_0000_0000) as u32
+}
+
+/// Remembers the head of a chain, at the low bits of its number.
+#[inline]
+fn remember(guesses: &mut Vec<u32>, number: u32, head: u32)
+    requires { 0 < length guesses.old.items }
+    ensures { length guesses.new.items ≡ length guesses.old.items }
+{
+    let last = guesses.len() - 1;
+    let i = number as usize & last;
+    guesses[i] = head;
+}
+
+impl SplitDevice {
+    /// The look at the available index, which the last store of an offer changes.
+    pub(super) fn look<P: Port>(&mut self, port: &mut P) -> DeviceAct
+        requires now { self.old.doing ≡ DeviceStep.Look }
+        requires own { (v : DeviceView) × DeviceStands self.old v × IsOwn P.port device_side port.old v }
+        ensures { (v : DeviceView) → DeviceStands self.old v → IsOwn P.port device_side port.old v → IsDeviceStep P.port split_device port.old port.new v self.old self.new result }
+    {
+        let word = port.access(Op::Take, Access::Load(2 * self.size));
+        if shows_count(word, self.taken) {
+            self.shown = false;
+            self.doing = DeviceStep::Idle;
+            return DeviceAct::Nothing;
+        }
+        self.shown = true;
+        self.doing = DeviceStep::Entry(word);
+        DeviceAct::Moved
+    }
+
+    /// The load of the next chain's head.
+    pub(super) fn entry<P: Port>(&mut self, port: &mut P, word: u64) -> DeviceAct
+        requires now { self.old.doing ≡ DeviceStep.Entry word }
+        requires own { (v : DeviceView) × DeviceStands self.old v × IsOwn P.port device_side port.old v }
+        ensures { (v : DeviceView) → DeviceStands self.old v → IsOwn P.port device_side port.old v → IsDeviceStep P.port split_device port.old port.new v self.old self.new result }
+    {
+        let lane = self.entry + 2;
+        let entry = port.access(Op::Take, Access::Load(2 * self.size + lane / 4));
+        let head = lane16(entry, lane % 4) as u32;
+        self.pieces.clear();
+        self.doing = DeviceStep::Address(word, head, head);
+        DeviceAct::Moved
+    }
+
+    /// The load of a descriptor's address.
+    pub(super) fn address<P: Port>(
+        &mut self,
+        port: &mut P,
+        word: u64,
+        head: u32,
+        place: u32,
+    ) -> DeviceAct
+        requires now { self.old.doing ≡ DeviceStep.Address word head place }
+        requires own { (v : DeviceView) × DeviceStands self.old v × IsOwn P.port device_side port.old v }
+        ensures { (v : DeviceView) → DeviceStands self.old v → IsOwn P.port device_side port.old v → IsDeviceStep P.port split_device port.old port.new v self.old self.new result }
+    {
+        self.addr = port.access(Op::Take, Access::Load(2 * place));
+        self.doing = DeviceStep::Second(word, head, place);
+        DeviceAct::Moved
+    }
+
+    /// The load of its second word, by which a whole chain is taken.
+    pub(super) fn second<P: Port>(
+        &mut self,
+        port: &mut P,
+        word: u64,
+        head: u32,
+        place: u32,
+    ) -> DeviceAct
+        requires now { self.old.doing ≡ DeviceStep.Second word head place }
+        requires own { (v : DeviceView) × DeviceStands self.old v × IsOwn P.port device_side port.old v }
+        ensures { (v : DeviceView) → DeviceStands self.old v → IsOwn P.port device_side port.old v → IsDeviceStep P.port split_device port.old port.new v self.old self.new result }
+    {
+        let second = port.access(Op::Take, Access::Load(2 * place + 1));
+        self.pieces.push(piece_from(self.addr, second));
+        if has_next(second) {
+            self.doing = DeviceStep::Address(word, head, following(second));
+            return DeviceAct::Moved;
+        }
+        let number = self.taken;
+        self.running[head as usize] = Some(number);
+        remember(&mut self.guesses, number, head);
+        self.taken = number + 1;
+        self.entry = next_place(self.entry, self.size);
+        self.shown = !shows_count(word, self.taken);
+        self.doing = DeviceStep::Idle;
+        DeviceAct::Taken(number, Chain::of(self.pieces.take()))
+    }
+}

@@ -1,0 +1,244 @@
+//! The format of VIRTIO 1.2, 2.7, written anew in 16-bit lanes, for rings of up to 8 places: what stands there after each
+//! whole operation.
+use vd_model::{Chain, Piece};
+
+const EMPTY: Slot = Slot {
+    number: 0,
+    places: [0; 4],
+};
+
+/// What a chain borrowed.
+#[derive(Copy, Clone)]
+struct Slot {
+    number: u32,
+    places: [u32; 4],
+}
+
+/// How many pieces chain number `k` has, 1 to 4.
+pub fn pieces_of(size: u32, k: u32) -> u32 {
+    let n = mixed(k) & 3;
+    if size == 2 {
+        (n & 1).wrapping_add(1)
+    } else {
+        n.wrapping_add(1)
+    }
+}
+
+/// Piece `i` of chain number `k`.
+pub fn piece_of(size: u32, k: u32, i: u32) -> Piece {
+    let x = mixed(k.wrapping_mul(4).wrapping_add(i));
+    Piece {
+        addr: (x as u64) << 20,
+        len: (x & 0xffff).wrapping_add(1),
+        write: i >= mixed(k) & 7 || (i.wrapping_add(1) == pieces_of(size, k) && x & 1 == 1),
+    }
+}
+
+/// Chain number `k`.
+pub fn chain_of(size: u32, k: u32) -> Chain {
+    let mut c = Chain::new(piece_of(size, k, 0));
+    for i in 1..pieces_of(size, k) {
+        let _ = c.push(piece_of(size, k, i));
+    }
+    c
+}
+
+/// A number with its bits mixed.
+pub fn mixed(k: u32) -> u32 {
+    let x = (k ^ k >> 15).wrapping_mul(0x2c1b_3c6d);
+    let y = (x ^ x >> 12).wrapping_mul(0x297a_2d39);
+    y ^ y >> 15
+}
+
+/// A ring's lanes, and who holds what.
+#[derive(Drop)]
+pub struct Format {
+    size: u32,
+    lanes: [u16; 256],
+    free: [u32; 8],
+    free_from: u32,
+    free_count: u32,
+    slots: [Slot; 8],
+    shown: [u32; 8],
+    running: [u32; 8],
+    runs: u32,
+    back: [(u32, u32); 8],
+    pub offered: u32,
+    pub taken: u32,
+    pub given: u32,
+    pub collected: u32,
+}
+
+impl Format {
+    pub fn new(size: u32) -> Format {
+        Format {
+            size,
+            lanes: [0; 256],
+            free: [0, 1, 2, 3, 4, 5, 6, 7],
+            free_from: 0,
+            free_count: size,
+            slots: [EMPTY; 8],
+            shown: [0; 8],
+            running: [0; 8],
+            runs: 0,
+            back: [(0, 0); 8],
+            offered: 0,
+            taken: 0,
+            given: 0,
+            collected: 0,
+        }
+    }
+
+    /// Word `i`.
+    pub fn word(&self, i: u32) -> u64 {
+        let at = i.wrapping_mul(4);
+        self.lane(at)
+            | self.lane(at.wrapping_add(1)) << 16
+            | self.lane(at.wrapping_add(2)) << 32
+            | self.lane(at.wrapping_add(3)) << 48
+    }
+
+    fn lane(&self, i: u32) -> u64 {
+        self.lanes[(i & 255) as usize] as u64
+    }
+
+    fn set(&mut self, lane: u32, x: u32) {
+        self.lanes[(lane & 255) as usize] = (x & 0xffff) as u16;
+    }
+
+    fn set_32(&mut self, lane: u32, x: u32) {
+        self.set(lane, x);
+        self.set(lane.wrapping_add(1), x >> 16);
+    }
+
+    /// The lane of the driver area: the descriptors are 16 bytes each.
+    fn driver_area(&self) -> u32 {
+        self.size.wrapping_mul(8)
+    }
+
+    /// The lane of the device area: behind two lanes, a lane a place and the used event, rounded up to 8 bytes.
+    fn device_area(&self) -> u32 {
+        let lanes = self.size.wrapping_add(3);
+        self.driver_area()
+            .wrapping_add(lanes.wrapping_add(3) & 0xffff_fffc)
+    }
+
+    /// Whether the next chain has room.
+    pub fn room(&self) -> bool {
+        pieces_of(self.size, self.offered) <= self.free_count
+    }
+
+    pub fn offer(&mut self) {
+        let k = self.offered;
+        let n = pieces_of(self.size, k);
+        let mut places = [0; 4];
+        for i in 0..n {
+            places[(i & 3) as usize] = self.free[(self.free_from & 7) as usize];
+            self.free_from = if self.free_from.wrapping_add(1) == self.size {
+                0
+            } else {
+                self.free_from.wrapping_add(1)
+            };
+        }
+        self.free_count = self.free_count.wrapping_sub(n);
+        for i in 0..n {
+            let piece = piece_of(self.size, k, i);
+            let at = places[(i & 3) as usize].wrapping_mul(8);
+            let more = i.wrapping_add(1) < n;
+            self.set_32(at, (piece.addr & 0xffff_ffff) as u32);
+            self.set_32(at.wrapping_add(2), (piece.addr >> 32) as u32);
+            self.set_32(at.wrapping_add(4), piece.len);
+            let write = if piece.write { 2 } else { 0 };
+            let next = if more { 1 } else { 0 };
+            self.set(at.wrapping_add(6), write | next);
+            self.set(
+                at.wrapping_add(7),
+                if more {
+                    places[(i.wrapping_add(1) & 3) as usize]
+                } else {
+                    0
+                },
+            );
+        }
+        let head = places[0];
+        self.slots[(head & 7) as usize] = Slot { number: k, places };
+        self.shown[(k & 7) as usize] = head;
+        let area = self.driver_area();
+        self.set(
+            area.wrapping_add(2)
+                .wrapping_add(k & self.size.wrapping_sub(1)),
+            head,
+        );
+        self.offered = k.wrapping_add(1);
+        self.set(area.wrapping_add(1), self.offered);
+    }
+
+    pub fn take(&mut self) {
+        self.running[(self.runs & 7) as usize] = self.shown[(self.taken & 7) as usize];
+        self.runs = self.runs.wrapping_add(1);
+        self.taken = self.taken.wrapping_add(1);
+    }
+
+    /// How many chains run.
+    pub fn runs(&self) -> u32 {
+        self.runs
+    }
+
+    /// The number of the `j`th of the running chains.
+    pub fn running(&self, j: u32) -> u32 {
+        self.slots[(self.running[(j & 7) as usize] & 7) as usize].number
+    }
+
+    pub fn give(&mut self, j: u32, len: u32) {
+        let head = self.running[(j & 7) as usize];
+        for i in 0..7u32 {
+            if i >= j {
+                self.running[(i & 7) as usize] = self.running[(i.wrapping_add(1) & 7) as usize];
+            }
+        }
+        self.runs = self.runs.wrapping_sub(1);
+        let area = self.device_area();
+        let at = area
+            .wrapping_add(2)
+            .wrapping_add((self.given & self.size.wrapping_sub(1)).wrapping_mul(4));
+        self.set_32(at, head);
+        self.set_32(at.wrapping_add(2), len);
+        self.back[(self.given & 7) as usize] = (head, len);
+        self.given = self.given.wrapping_add(1);
+        self.set(area.wrapping_add(1), self.given);
+    }
+
+    /// The number, the length and the head of the chain that comes back next.
+    pub fn collect(&mut self) -> (u32, u32, u32) {
+        let (head, len) = self.back[(self.collected & 7) as usize];
+        let slot = self.slots[(head & 7) as usize];
+        let n = pieces_of(self.size, slot.number);
+        for i in 0..n {
+            let end = self.free_from.wrapping_add(self.free_count);
+            let at = if end >= self.size {
+                end.wrapping_sub(self.size)
+            } else {
+                end
+            };
+            self.free[(at & 7) as usize] = slot.places[(i & 3) as usize];
+            self.free_count = self.free_count.wrapping_add(1);
+        }
+        self.collected = self.collected.wrapping_add(1);
+        (slot.number, len, head)
+    }
+
+    /// Whether the chains given are those with a number below their count.
+    pub fn whole(&self) -> bool {
+        for j in 0..8u32 {
+            if j < self.runs && self.running(j) < self.given {
+                return false;
+            }
+        }
+        true
+    }
+
+    pub fn rest(&mut self) {
+        self.taken = self.given;
+        self.runs = 0;
+    }
+}

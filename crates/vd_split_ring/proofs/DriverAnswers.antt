@@ -1,0 +1,199 @@
+-- What the answers of the driver's steps say: of the chain offered, of the entry collected, and of the bag.
+use Rattle.std.proofs.Common.{◌≡◌, ℕ, Bool, true, false, List, [], ◌∷◌, ◌++◌, length, take, if◌then◌else◌, slice_index, slice_set, refl, sym, ap, ◌∙◌, subst, arith}
+use Rattle.std.specs.List.{Contains}
+use Rattle.std.proofs.lemmas.Nat.{mod_below}
+use Rattle.std.proofs.lemmas.List.{take_all}
+use Rattle.vd_bits.specs.Lanes.{lane32}
+use Rattle.vd_model.specs.declared.chain.Piece.{Piece}
+use Rattle.vd_words.specs.declared.access.Access.{Access}
+use Rattle.vd_words.specs.declared.access.Access.TheVariants.{Load, Store}
+use Rattle.vd_words.specs.declared.access.Op.{Op}
+use Rattle.vd_words.specs.declared.access.Op.TheVariants as op
+use Rattle.vd_words.specs.Step.{answered}
+use Rattle.vd_ring.specs.declared.act.DriverAct.{DriverAct}
+use Rattle.vd_ring.specs.declared.act.DriverAct.TheVariants as act
+use Rattle.vd_ring.specs.declared.frame.Frame.{Frame}
+use Rattle.vd_ring.specs.declared.frame.Put.{Put}
+use Rattle.vd_ring.specs.declared.frame.Used.{Used}
+use Rattle.vd_ring.specs.declared.driver.DriverDone.{DriverDone}
+use Rattle.vd_ring.specs.declared.driver.DriverDone.TheVariants.{Offer}
+use Rattle.vd_ring.specs.declared.driver.DriverNow.{DriverNow}
+use Rattle.vd_ring.specs.declared.driver.DriverNow.TheVariants.{Idle, Offering, Entered, Collecting}
+use Rattle.vd_ring.specs.declared.driver.DriverView.{DriverView}
+use Rattle.vd_ring.specs.declared.device.DeviceDone.{DeviceDone}
+use Rattle.vd_ring.specs.declared.device.DeviceView.{DeviceView}
+use Rattle.vd_ring.specs.History.{offers, collects, gives, open_at, head, next_head, chain, entry, used_at, last_used, collected}
+use Rattle.vd_ring.specs.Bag.{State}
+use Rattle.vd_ring.specs.Steps.{StandsFor}
+use Rattle.vd_ring.proofs.Counts.{Contains_from, occurs_push, one_same}
+use Rattle.vd_ring.proofs.HeldPlaces.{chain_new}
+use Rattle.vd_ring.proofs.ControlSteps.{head_new}
+use Rattle.vd_ring.proofs.DriverBag.{offer_step}
+use Rattle.vd_split_ring.specs.SplitWords.{Spells, len_word, used_len, shows, shown_from, words_of, staged_chain}
+use Rattle.vd_split_ring.specs.SplitDriver.{Publishes, DriverNextAt, DriverNext, driver_act_at, driver_act, driver_offers, NamesOpen}
+use Rattle.vd_split_ring.specs.SplitRing.{Ring, HasEntered}
+use Rattle.vd_split_ring.specs.SplitDriverLaws.{DriverBags, IsOffered, IsCollected}
+use Rattle.vd_split_ring.proofs.DriverOffers.{publishes, staged_is_chain}
+use Rattle.vd_split_ring.proofs.DriverCollects.{collected_is, collects_last}
+use Rattle.vd_split_ring.proofs.DriverKeeps.{used_word}
+use Rattle.vd_split_ring.proofs.Agreement.{looks_show}
+use Rattle.vd_split_ring.proofs.Spelling.{spells}
+
+-- ---- the answers differ
+
+abbrev offered_number : DriverAct → ℕ
+offered_number (act.Offered k) = k
+offered_number _ = 0
+
+abbrev is_offered : DriverAct → Bool
+is_offered (act.Offered k) = true
+is_offered _ = false
+
+abbrev is_collected : DriverAct → Bool
+is_collected (act.Collected k l h) = true
+is_collected _ = false
+
+abbrev pair : DriverAct → Used
+pair (act.Collected k l h) = entry k l
+pair _ = entry 0 0
+
+abbrev head_in : DriverAct → ℕ
+head_in (act.Collected k l h) = h
+head_in _ = 0
+
+not_both : false ≡ true → ⊥
+not_both e = absurd cc
+
+not_offered : (x : DriverAct) (k : ℕ) → is_offered x ≡ false → x ≡ act.Offered k → ⊥
+not_offered x k off is = not_both (sym off ∙ ap is_offered is)
+
+not_collected : (x : DriverAct) (k l h : ℕ) → is_collected x ≡ false → x ≡ act.Collected k l h → ⊥
+not_collected x k l h off is = not_both (sym off ∙ ap is_collected is)
+
+look_not_offered : (b : Bool) → is_offered (if b then act.Nothing else act.Moved) ≡ false
+look_not_offered true = refl
+look_not_offered false = refl
+
+look_not_collected : (b : Bool) → is_collected (if b then act.Nothing else act.Moved) ≡ false
+look_not_collected true = refl
+look_not_collected false = refl
+
+-- ---- Offered
+
+offers_chain : (ws : List ℕ) (d : DriverView) (e : DeviceView) (puts : List Put) (p x : ℕ) → Ring ws (record d { doing = Entered puts }) e → Publishes d.frame d.done d.stored p x → IsOffered ws (record d { doing = Entered puts }) op.Offer (Store p x) (length (offers d.done))
+offers_chain ws d e puts p x r n =
+    let f : Frame = d.frame in let o : List DriverDone = d.done in
+    let m : ℕ = length (offers o) in
+    let h : HasEntered f o d.stored puts = r.driver_doing in
+    let c : List Piece = h.chain in
+    let is : staged_chain f (words_of puts) ≡ c = staged_is_chain f o c puts r.lawful h.can h.whole in
+    let after = publishes ws d e puts p x r n in
+    let here : Contains (open_at (Offer (staged_chain f (words_of puts)) ∷ o)) m = Contains_from m (open_at o ++ m ∷ []) (omega (arith, occurs_push m (open_at o) m, one_same m m refl)) in
+    let at : head f (Offer (staged_chain f (words_of puts)) ∷ o) m ≡ next_head f o = ap (λ (cs : List Piece). head f (Offer cs ∷ o) m) is ∙ head_new f o c r.places h.can.fits in
+    let spelled : Spells f (slice_set ws p x) (head f (Offer (staged_chain f (words_of puts)) ∷ o) m) (chain (Offer (staged_chain f (words_of puts)) ∷ o) m) =
+    spells (slice_set ws p x) (driver_offers d puts p x) e m after here in
+    record {
+      number = refl;
+      chain = c;
+      can = h.can;
+      offered = ap (λ (cs : List Piece). offers o ++ cs ∷ []) is;
+      is_head = at;
+      spelled = subst (λ (g : ℕ). Spells f (slice_set ws p x) g c) at
+          (subst (λ (cs : List Piece). Spells f (slice_set ws p x) (head f (Offer (staged_chain f (words_of puts)) ∷ o) m) cs) (chain_new o (staged_chain f (words_of puts)) ∙ is) spelled);
+    }
+
+offered_at : (ws : List ℕ) (d : DriverView) (e : DeviceView) (now : DriverNow) (op : Op) (a : Access) (k : ℕ) → Ring ws (record d { doing = now }) e → DriverNextAt now (record d { doing = now }) op a
+    → driver_act_at now (record d { doing = now }) op a (answered ws a) ≡ act.Offered k → IsOffered ws (record d { doing = now }) op a k
+offered_at ws d e (Entered puts) op.Offer (Store p x) k r h is = subst (λ (j : ℕ). IsOffered ws (record d { doing = Entered puts }) op.Offer (Store p x) j) (ap offered_number is) (offers_chain ws d e puts p x r h)
+offered_at ws d e Idle op.Collect (Load p) k r h is = absurd (not_offered _ k (look_not_offered (shows (slice_index ws p) (length (collects d.done)))) is)
+offered_at ws d e (Collecting (g ∷ w ∷ [])) op.Collect (Load p) k r h is = absurd (not_offered _ k refl is)
+offered_at ws d e _ _ _ k r h is = absurd (not_offered act.Moved k refl is)
+
+pub driver_offered : (ws : List ℕ) (d : DriverView) (e : DeviceView) (op : Op) (a : Access) (k : ℕ) → Ring ws d e → DriverNext d op a → driver_act d op a (answered ws a) ≡ act.Offered k → IsOffered ws d op a k
+driver_offered ws d e op a k r h is = offered_at ws d e d.doing op a k r h is
+
+-- ---- Collected
+
+collects_entry : (ws : List ℕ) (d : DriverView) (e : DeviceView) (g w p : ℕ) → Ring ws (record d { doing = Collecting (g ∷ w ∷ []) }) e → p ≡ len_word d.frame (length (collects d.done))
+    → let us = collected d.frame d.done (lane32 w 1) (lane32 (slice_index ws p) 0) in IsCollected ws (record d { doing = Collecting (g ∷ w ∷ []) }) e op.Collect (Load p) (last_used us).number (last_used us).len (lane32 w 1)
+collects_entry ws d e g w p r at =
+    let f : Frame = d.frame in let o : List DriverDone = d.done in let s : List DeviceDone = e.done in
+    let v : DriverView = record d { doing = Collecting (g ∷ w ∷ []) } in
+    let m : ℕ = length (collects o) in
+    let u : Used = used_at (gives s) m in
+    let slot = mod_below m f.size r.lawful.some_place in
+    let len : lane32 (slice_index ws p) 0 ≡ used_len f e.stored m = ap (λ y. lane32 y 0) (used_word ws v e p r (omega arith) (omega arith) ∙ ap (λ q. slice_index e.stored q) at) in
+    let c = collected_is ws d e g w (slice_index ws p) r len in
+    let us : List Used = collected f o (lane32 w 1) (lane32 (slice_index ws p) 0) in
+    let last : last_used us ≡ u = ap last_used c.0 in
+    let n : NamesOpen f o (lane32 w 1) = (collects_last ws d e g w (slice_index ws p) r len).1 in
+    record {
+      more = c.1;
+      is_entry = sym last;
+      collected = ap (λ (vs : List Used). collects o ++ vs) (c.0 ∙ ap (λ (z : Used). z ∷ []) (sym last));
+      is_head = r.driver_doing.1.is_id ∙ ap (λ (z : Used). head f o z.number) (sym (Rattle.vd_ring.proofs.ListSteps.entry_is f s m r.driver_doing.1.used r.lists.entries r.driver_doing.1.begins).1 ∙ sym last);
+    }
+
+collected_at : (ws : List ℕ) (d : DriverView) (e : DeviceView) (now : DriverNow) (op : Op) (a : Access) (k l h : ℕ) → Ring ws (record d { doing = now }) e → DriverNextAt now (record d { doing = now }) op a
+    → driver_act_at now (record d { doing = now }) op a (answered ws a) ≡ act.Collected k l h → IsCollected ws (record d { doing = now }) e op a k l h
+collected_at ws d e (Collecting (g ∷ w ∷ [])) op.Collect (Load p) k l h r n is =
+    subst (λ (u : Used). IsCollected ws (record d { doing = Collecting (g ∷ w ∷ []) }) e op.Collect (Load p) u.number u.len h) (ap pair is)
+    (subst (λ (y : ℕ). IsCollected ws (record d { doing = Collecting (g ∷ w ∷ []) }) e op.Collect (Load p) (last_used (collected d.frame d.done (lane32 w 1) (lane32 (slice_index ws p) 0))).number (last_used (collected d.frame d.done (lane32 w 1) (lane32 (slice_index ws p) 0))).len y) (ap head_in is)
+    (collects_entry ws d e g w p r n))
+collected_at ws d e Idle op.Collect (Load p) k l h r n is = absurd (not_collected _ k l h (look_not_collected (shows (slice_index ws p) (length (collects d.done)))) is)
+collected_at ws d e (Entered puts) op.Offer (Store p x) k l h r n is = absurd (not_collected _ k l h refl is)
+collected_at ws d e _ _ _ k l h r n is = absurd (not_collected act.Moved k l h refl is)
+
+pub driver_collected : (ws : List ℕ) (d : DriverView) (e : DeviceView) (op : Op) (a : Access) (k l h : ℕ) → Ring ws d e → DriverNext d op a → driver_act d op a (answered ws a) ≡ act.Collected k l h → IsCollected ws d e op a k l h
+driver_collected ws d e op a k l h r n is = collected_at ws d e d.doing op a k l h r n is
+
+-- ---- Nothing
+
+abbrev is_nothing : DriverAct → Bool
+is_nothing act.Nothing = true
+is_nothing _ = false
+
+look_shows : (b : Bool) → (if b then act.Nothing else act.Moved) ≡ act.Nothing → b ≡ true
+look_shows true is = refl
+look_shows false is = absurd (not_both (ap is_nothing is))
+
+all_collected : (o : List DriverDone) (s : List DeviceDone) → collects o ≡ take (length (collects o)) (gives s) → length (gives s) ≡ length (collects o) → collects o ≡ gives s
+all_collected o s is len = is ∙ take_all (length (collects o)) (gives s) (omega arith)
+
+nothing_at : (ws : List ℕ) (d : DriverView) (e : DeviceView) (now : DriverNow) (op : Op) (a : Access) → Ring ws (record d { doing = now }) e → DriverNextAt now (record d { doing = now }) op a
+    → driver_act_at now (record d { doing = now }) op a (answered ws a) ≡ act.Nothing → collects d.done ≡ gives e.done
+nothing_at ws d e Idle op.Collect (Load p) r h is =
+    let on : shows (slice_index ws p) (length (collects d.done)) ≡ true = look_shows (shows (slice_index ws p) (length (collects d.done))) is in
+    all_collected d.done e.done r.lists.collected ((looks_show ws (record d { doing = Idle }) e r).driver.0 (ap (λ (q : ℕ). shows (slice_index ws q) (length (collects d.done))) (sym h.1) ∙ on))
+nothing_at ws d e (Entered puts) op.Offer (Store p x) r h is = absurd (not_both (ap is_nothing is))
+nothing_at ws d e (Collecting (g ∷ w ∷ [])) op.Collect (Load p) r h is = absurd (not_both (ap is_nothing is))
+nothing_at ws d e _ _ _ r h is = absurd (not_both (ap is_nothing is))
+
+pub driver_nothing : (ws : List ℕ) (d : DriverView) (e : DeviceView) (op : Op) (a : Access) → Ring ws d e → DriverNext d op a → driver_act d op a (answered ws a) ≡ act.Nothing → collects d.done ≡ gives e.done
+driver_nothing ws d e op a r h is = nothing_at ws d e d.doing op a r h is
+
+-- ---- the bag
+
+bag_look : (d : DriverView) (e : DeviceView) (r : ℕ) (t : Bool) (b : List State) → StandsFor d.done e.done b → (b2 : List State) × Rattle.vd_ring.specs.Steps.DriverBagStep (if t then act.Nothing else act.Moved) b b2
+    × StandsFor (if t then record d { doing = Idle; seen = shown_from r (length (collects d.done)); shown = false } else record d { seen = shown_from r (length (collects d.done)); shown = true; doing = Collecting (r ∷ []) }).done e.done b2
+bag_look d e r true b st = (b, refl, st)
+bag_look d e r false b st = (b, refl, st)
+
+bags_at : (ws : List ℕ) (d : DriverView) (e : DeviceView) (now : DriverNow) (op : Op) (a : Access) (b : List State) → Ring ws (record d { doing = now }) e → DriverNextAt now (record d { doing = now }) op a → StandsFor d.done e.done b
+    → DriverBags ws (record d { doing = now }) e op a b
+bags_at ws d e (Entered puts) op.Offer (Store p x) b r h st =
+    let did = offer_step d.frame d.done e.done (staged_chain d.frame (words_of puts)) b r.lists st in
+    record { bag = did.0; step = did.1; stands = did.2 }
+bags_at ws d e Idle op.Collect (Load p) b r h st =
+    let did = bag_look d e (slice_index ws p) (shows (slice_index ws p) (length (collects d.done))) b st in
+    record { bag = did.0; step = did.1; stands = did.2 }
+bags_at ws d e Idle op.Offer (Store p x) b r h st = record { bag = b; step = refl; stands = st }
+bags_at ws d e (Offering puts) op.Offer (Store p x) b r h st = record { bag = b; step = refl; stands = st }
+bags_at ws d e (Collecting (g ∷ [])) op.Collect (Load p) b r h st = record { bag = b; step = refl; stands = st }
+bags_at ws d e (Collecting (g ∷ w ∷ [])) op.Collect (Load p) b r h st = record { bag = b; step = refl; stands = st }
+bags_at ws d e Idle op.Control (Store p x) b r h st = record { bag = b; step = refl; stands = st }
+bags_at ws d e Idle op.Control (Load p) b r h st = record { bag = b; step = refl; stands = st }
+bags_at ws d e _ _ _ b r h st = absurd h
+
+pub driver_bags : (ws : List ℕ) (d : DriverView) (e : DeviceView) (op : Op) (a : Access) (b : List State) → Ring ws d e → DriverNext d op a → StandsFor d.done e.done b → DriverBags ws d e op a b
+driver_bags ws d e op a b r h st = bags_at ws d e d.doing op a b r h st

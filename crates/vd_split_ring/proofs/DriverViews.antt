@@ -1,0 +1,73 @@
+-- What holds of the driver's view alone: each access that is next is to one of the ring's words, and no access changes the frame.
+use Rattle.std.proofs.Common.{◌≡◌, ℕ, ◌+◌, ◌<◌, Bool, true, false, List, [], ◌∷◌, ◌++◌, length, take, if◌then◌else◌, refl, sym, ap, subst, arith, inl, inr}
+use Rattle.std.proofs.lemmas.Nat.{mod_below}
+use Rattle.vd_model.specs.declared.chain.Piece.{Piece}
+use Rattle.vd_words.specs.declared.access.Access.{Access}
+use Rattle.vd_words.specs.declared.access.Access.TheVariants.{Load, Store}
+use Rattle.vd_words.specs.declared.access.Op.{Op}
+use Rattle.vd_words.specs.declared.access.Op.TheVariants as op
+use Rattle.vd_words.specs.Step.{place_of}
+use Rattle.vd_ring.specs.declared.frame.Frame.{Frame}
+use Rattle.vd_ring.specs.declared.frame.Put.{Put}
+use Rattle.vd_ring.specs.declared.driver.DriverDone.{DriverDone}
+use Rattle.vd_ring.specs.declared.driver.DriverNow.{DriverNow}
+use Rattle.vd_ring.specs.declared.driver.DriverNow.TheVariants.{Idle, Offering, Entered, Collecting}
+use Rattle.vd_ring.specs.declared.driver.DriverView.{DriverView}
+use Rattle.vd_ring.specs.Frames.{lent}
+use Rattle.vd_ring.specs.History.{offers, collects, free, head, next_head}
+use Rattle.vd_ring.specs.Control.{StoresCommand, LoadsAck}
+use Rattle.vd_ring.proofs.HeldInside.{inside, head_low, next_low}
+use Rattle.vd_split_ring.specs.SplitWords.{IsLawful, width, put, spelling, command_word, ack_word, id_word, len_word, entry_lane, shows, shown_from}
+use Rattle.vd_split_ring.specs.SplitDriver.{Begins, Publishes, DriverNextAt, DriverNext, driver_after_at}
+use Rattle.vd_split_ring.specs.SplitDriverLaws.{DriverAlone}
+use Rattle.vd_split_ring.proofs.Tables.{IsWord, spelling_within}
+use Rattle.vd_split_ring.proofs.DriverParts.{next_chain, next_free_place, needs_some, word_descriptor}
+use Rattle.vd_split_ring.proofs.Direct.{IsNext, is_next}
+use Rattle.vd_split_ring.proofs.Areas.{descriptor_low, areas, lane_inside, entry_inside, drivers_inside, devices_inside, command_drivers, ack_devices}
+
+begins_inside : (f : Frame) (o : List DriverDone) (puts : List Put) (p x : ℕ) → IsLawful f → Begins f o (puts ++ put p x ∷ []) → p < width f
+begins_inside f o puts p x l n =
+    let c : List Piece = n.chain in
+    let ps : List ℕ = take (lent f c) (free f o) in
+    let pl : List Put = spelling f ps c in
+    let next = next_chain f o c l n.can in
+    let m : IsNext puts (put p x) pl = is_next puts (put p x) pl n.first in
+    let w : IsWord f ps p = subst (λ (q : ℕ). IsWord f ps q) (sym (ap (λ (s : Put). s.place) m.is)) (spelling_within f ps c next.0 next.1 (length puts) (put 0 0) m.left) in
+    let own = word_descriptor f ps p (omega (arith, next.0, needs_some f c next.1)) (λ q a. (inside f o).free q (next_free_place f o c q a)) w in
+    omega (arith, areas f, descriptor_low f p own)
+
+inside_at : (d : DriverView) (now : DriverNow) (op : Op) (a : Access) → IsLawful d.frame → DriverNextAt now (record d { doing = now }) op a → place_of a < width d.frame
+inside_at d Idle op.Offer (Store p x) l h = begins_inside d.frame d.done [] p x l h.1
+inside_at d (Offering puts) op.Offer (Store p x) l (inl h) = begins_inside d.frame d.done puts p x l h
+inside_at d (Offering puts) op.Offer (Store p x) l (inr h) = omega (arith, areas d.frame, h.place, lane_inside d.frame (entry_lane d.frame (length (offers d.done))) (entry_inside d.frame (length (offers d.done)) l.some_place))
+inside_at d (Entered puts) op.Offer (Store p x) l h =
+    let n : Publishes d.frame d.done d.stored p x = h in omega (arith, areas d.frame, n.place, lane_inside d.frame 1 (omega arith))
+inside_at d Idle op.Collect (Load p) l h = omega (arith, areas d.frame, h.1)
+inside_at d (Collecting (r ∷ [])) op.Collect (Load p) l h = let at : p ≡ id_word d.frame (length (collects d.done)) = h in omega (arith, areas d.frame, mod_below (length (collects d.done)) d.frame.size l.some_place)
+inside_at d (Collecting (r ∷ w ∷ [])) op.Collect (Load p) l h = let at : p ≡ len_word d.frame (length (collects d.done)) = h in omega (arith, areas d.frame, mod_below (length (collects d.done)) d.frame.size l.some_place)
+inside_at d Idle op.Control (Store p x) l h =
+    let n : StoresCommand d.frame (command_word d.frame) d.done p = h in
+    omega (arith, n.place, drivers_inside d.frame (command_word d.frame (next_head d.frame d.done) + n.half) (command_drivers d.frame (next_head d.frame d.done) n.half n.control (next_low d.frame d.done l.some_place) n.two))
+inside_at d Idle op.Control (Load p) l h =
+    let n : LoadsAck d.frame (ack_word d.frame) d.done p = h in
+    omega (arith, n.place, devices_inside d.frame (ack_word d.frame (head d.frame d.done n.number)) (ack_devices d.frame (head d.frame d.done n.number) n.control (head_low d.frame d.done n.number l.some_place)))
+inside_at d _ _ _ l h = absurd h
+
+frame_at : (d : DriverView) (now : DriverNow) (op : Op) (a : Access) (r : ℕ) → (driver_after_at now (record d { doing = now }) op a r).frame ≡ d.frame
+frame_at d Idle op.Collect (Load p) r = either (shows r (length (collects d.done)))
+  where
+    either : (b : Bool)
+        → (if b then record d { doing = Idle; seen = shown_from r (length (collects d.done)); shown = false } else record d { seen = shown_from r (length (collects d.done)); shown = true; doing = Collecting (r ∷ []) }).frame ≡ d.frame
+    either true = refl
+    either false = refl
+frame_at d Idle op.Offer (Store p x) r = refl
+frame_at d (Offering puts) op.Offer (Store p x) r = refl
+frame_at d (Entered puts) op.Offer (Store p x) r = refl
+frame_at d (Collecting (g ∷ [])) op.Collect (Load p) r = refl
+frame_at d (Collecting (g ∷ w ∷ [])) op.Collect (Load p) r = refl
+frame_at d Idle op.Control (Store p x) r = refl
+frame_at d Idle op.Control (Load p) r = refl
+frame_at d _ _ _ r = refl
+
+pub driver_alone : (d : DriverView) (op : Op) (a : Access) → IsLawful d.frame → DriverNext d op a → DriverAlone d op a
+driver_alone d op a l h = record { inside = inside_at d d.doing op a l h; frame = λ r. frame_at d d.doing op a r }

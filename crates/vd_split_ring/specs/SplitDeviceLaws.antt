@@ -1,0 +1,85 @@
+-- What the laws of a split ring's device say. Each is the contract of a function in src/device_laws.rt.
+use Rattle.std.specs.Prelude.{◌≡◌, ℕ, ◌%◌, ◌<◌, List, [], ◌∷◌, ◌++◌, length}
+use Rattle.std.specs.List.{Contains}
+use Rattle.vd_bits.specs.Lanes.{lane16}
+use Rattle.vd_model.specs.declared.chain.Piece.{Piece}
+use Rattle.vd_words.specs.declared.access.Access.{Access}
+use Rattle.vd_words.specs.declared.access.Op.{Op}
+use Rattle.vd_words.specs.declared.access.Op.TheVariants as op
+use Rattle.vd_words.specs.Step.{answered, written}
+use Rattle.vd_ring.specs.declared.act.DeviceAct.{DeviceAct}
+use Rattle.vd_ring.specs.declared.act.DeviceAct.TheVariants as act
+use Rattle.vd_ring.specs.declared.frame.Frame.{Frame}
+use Rattle.vd_ring.specs.declared.frame.Used.{Used}
+use Rattle.vd_ring.specs.declared.driver.DriverView.{DriverView}
+use Rattle.vd_ring.specs.declared.device.DeviceDone.{DeviceDone}
+use Rattle.vd_ring.specs.declared.device.DeviceDone.TheVariants.{Take, Give}
+use Rattle.vd_ring.specs.declared.device.DeviceNow.TheVariants.{Idle}
+use Rattle.vd_ring.specs.declared.device.DeviceView.{DeviceView}
+use Rattle.vd_ring.specs.Bag.{State}
+use Rattle.vd_ring.specs.History.{offers, takes, gives, running, taken_head, head, chain, last_used, IsWhole}
+use Rattle.vd_ring.specs.Steps.{Keeps, StandsFor, DeviceBagStep}
+use Rattle.vd_split_ring.specs.SplitWords.{used_index, used_id, used_len}
+use Rattle.vd_split_ring.specs.SplitDevice.{device_side, device_after, device_act}
+use Rattle.vd_split_ring.specs.SplitRing.{Ring}
+
+-- the access keeps the invariant with the driver's view as it was, and its answer tells what the device's view says
+abbrev pub DeviceKeeps : List ℕ → DriverView → DeviceView → Op → Access → Type 0
+DeviceKeeps ws d e o a = Keeps device_side (λ us v. Ring us d v) ws e o a
+
+-- what the step answers over these words, and the acts after it
+abbrev pub device_answer : List ℕ → DeviceView → Op → Access → DeviceAct
+device_answer ws e o a = device_act e o a (answered ws a)
+
+abbrev pub device_done : List ℕ → DeviceView → Op → Access → List DeviceDone
+device_done ws e o a = (device_after e o a (answered ws a)).done
+
+-- from any bag that stands for the two sides, the step's answer makes the bag that stands for them after it; the entries are those
+-- of the give that Given made
+pub record DeviceBags (ws : List ℕ) (d : DriverView) (e : DeviceView) (o : Op) (a : Access) (b : List State) : Type 0 where
+  pub entries : List Used
+  pub gave : (k : ℕ) → device_answer ws e o a ≡ act.Given k → device_done ws e o a ≡ Give entries ∷ e.done
+  pub bag : List State
+  pub step : DeviceBagStep d.frame.features.in_order entries (device_answer ws e o a) b bag
+  pub stands : StandsFor d.done (device_done ws e o a) bag
+
+-- `Taken(k, c)` is the next chain offered, and is taken with its head; k is the count of chains taken before
+pub record IsTaken (ws : List ℕ) (d : DriverView) (e : DeviceView) (o : Op) (a : Access) (k : ℕ) (c : List Piece) : Type 0 where
+  pub number : k ≡ length (takes e.done)
+  pub offered : k < length (offers d.done)
+  pub is_chain : c ≡ chain d.done k
+  pub took : device_done ws e o a ≡ Take c (head d.frame d.done k) ∷ e.done
+
+-- the used entry of these pairs, given after the acts, stands (VIRTIO 1.2, 2.7.8): its id is the head of the last pair's chain, its
+-- length the last pair's, and the index counts all pairs given
+pub record EntryStands (f : Frame) (ws : List ℕ) (before : List DeviceDone) (us : List Used) : Type 0 where
+  pub id : used_id f ws (length (gives before)) ≡ taken_head before (last_used us).number
+  pub len : used_len f ws (length (gives before)) ≡ (last_used us).len
+  pub index : used_index f ws ≡ length (gives before ++ us) % 65536
+
+-- the last act is a give, and its used entry stands
+abbrev pub HasLastUsed : Frame → List ℕ → List DeviceDone → Type 0
+HasLastUsed f ws (Give us ∷ s) = EntryStands f ws s us
+HasLastUsed f ws _ = ⊥
+
+-- after `Given(k)`, where chain k ran, the used entry stands
+pub record IsGiven (ws : List ℕ) (d : DriverView) (e : DeviceView) (o : Op) (a : Access) (k : ℕ) : Type 0 where
+  pub runs : Contains (running e.done) k
+  pub entries : List Used
+  pub gave : device_done ws e o a ≡ Give entries ∷ e.done
+  pub last : (last_used entries).number ≡ k
+  pub stands : EntryStands d.frame (written ws a) e.done entries
+
+-- Nothing is the answer of a take's look alone, exactly where the loaded index is the count taken modulo 65,536; then all chains
+-- offered are taken
+pub record LooksNothing (ws : List ℕ) (d : DriverView) (e : DeviceView) (o : Op) (a : Access) : Type 0 where
+  pub only : device_answer ws e o a ≡ act.Nothing → (e.doing ≡ Idle) × (o ≡ op.Take)
+  pub says : device_answer ws e o a ≡ act.Nothing → lane16 (answered ws a) 1 ≡ length (takes e.done) % 65536
+  pub shown : e.doing ≡ Idle → o ≡ op.Take → lane16 (answered ws a) 1 ≡ length (takes e.done) % 65536 → device_answer ws e o a ≡ act.Nothing
+  pub all : device_answer ws e o a ≡ act.Nothing → takes e.done ≡ offers d.done
+
+-- nothing runs: as many chains are taken as given, and those given are the ones below that number
+pub record HasRested (s : List DeviceDone) : Type 0 where
+  pub none : running s ≡ []
+  pub even : length (takes s) ≡ length (gives s)
+  pub whole : IsWhole s

@@ -1,0 +1,45 @@
+-- What the laws of a split ring's driver say. Each is the contract of a function in src/driver_laws.rt.
+use Rattle.std.specs.Prelude.{◌≡◌, ℕ, ◌<◌, List, [], ◌∷◌, ◌++◌, length}
+use Rattle.vd_model.specs.declared.chain.Piece.{Piece}
+use Rattle.vd_words.specs.declared.access.Access.{Access}
+use Rattle.vd_words.specs.declared.access.Op.{Op}
+use Rattle.vd_words.specs.Step.{place_of, answered, written}
+use Rattle.vd_ring.specs.declared.driver.DriverView.{DriverView}
+use Rattle.vd_ring.specs.declared.device.DeviceView.{DeviceView}
+use Rattle.vd_ring.specs.History.{offers, collects, gives, head, next_head, entry, used_at}
+use Rattle.vd_ring.specs.Bag.{State}
+use Rattle.vd_ring.specs.Steps.{Keeps, StandsFor, DriverBagStep}
+use Rattle.vd_split_ring.specs.SplitWords.{Spells, width}
+use Rattle.vd_split_ring.specs.SplitDriver.{CanOffer, driver_side, driver_after, driver_act}
+use Rattle.vd_split_ring.specs.SplitRing.{Ring}
+
+-- the access keeps the invariant with the device's view as it was, and its answer tells what the driver's view says
+abbrev pub DriverKeeps : List ℕ → DriverView → DeviceView → Op → Access → Type 0
+DriverKeeps ws d e op a = Keeps driver_side (λ us v. Ring us v e) ws d op a
+
+-- from the driver's view alone: the access is to one of the ring's words, and leaves the frame
+pub record DriverAlone (d : DriverView) (op : Op) (a : Access) : Type 0 where
+  pub inside : place_of a < width d.frame
+  pub frame : (r : ℕ) → (driver_after d op a r).frame ≡ d.frame
+
+-- from any bag that stands for the two sides, the step's answer makes the bag that stands for them after it
+pub record DriverBags (ws : List ℕ) (d : DriverView) (e : DeviceView) (op : Op) (a : Access) (b : List State) : Type 0 where
+  pub bag : List State
+  pub step : DriverBagStep (driver_act d op a (answered ws a)) b bag
+  pub stands : StandsFor (driver_after d op a (answered ws a)).done e.done bag
+
+-- after `Offered(k)` the words spell the chain offered at its head; k is the count of chains offered before
+pub record IsOffered (ws : List ℕ) (d : DriverView) (op : Op) (a : Access) (k : ℕ) : Type 0 where
+  pub number : k ≡ length (offers d.done)
+  pub chain : List Piece
+  pub can : CanOffer d.frame d.done chain
+  pub offered : offers (driver_after d op a (answered ws a)).done ≡ offers d.done ++ chain ∷ []
+  pub is_head : head d.frame (driver_after d op a (answered ws a)).done k ≡ next_head d.frame d.done
+  pub spelled : Spells d.frame (written ws a) (next_head d.frame d.done) chain
+
+-- `Collected` has the number and length of the next entry given, and the head of its chain
+pub record IsCollected (ws : List ℕ) (d : DriverView) (e : DeviceView) (op : Op) (a : Access) (number len at_head : ℕ) : Type 0 where
+  pub more : length (collects d.done) < length (gives e.done)
+  pub is_entry : used_at (gives e.done) (length (collects d.done)) ≡ entry number len
+  pub collected : collects (driver_after d op a (answered ws a)).done ≡ collects d.done ++ entry number len ∷ []
+  pub is_head : at_head ≡ head d.frame d.done number

@@ -1,0 +1,30 @@
+//! What always holds of a split ring. These functions do nothing: their contracts are the laws.
+ghost use Rattle.std.specs.Prelude.{ℕ, List};
+ghost use Rattle.std.specs.List.{Contains};
+ghost use Rattle.vd_ring.specs.declared.device.DeviceView.{DeviceView};
+ghost use Rattle.vd_ring.specs.declared.driver.DriverView.{DriverView};
+ghost use Rattle.vd_ring.specs.declared.frame.Frame.{Frame};
+ghost use Rattle.vd_ring.specs.History.{open_at, head, chain};
+ghost use Rattle.vd_split_ring.specs.SplitLaws.{IsFresh, Agree, LooksShow};
+ghost use Rattle.vd_split_ring.specs.SplitRing.{Ring};
+ghost use Rattle.vd_split_ring.specs.SplitWords.{IsLawful, IsBuilt, Spells};
+
+/// Words of 0 and the views of a fresh ring meet the ring invariant.
+pub fn fresh_law()
+    ensures { (f : Frame) → IsLawful f → IsBuilt f → IsFresh f }
+{}
+
+/// Each chain offered and not collected is spelled at its head.
+pub fn spelling_law()
+    ensures { (ws : List ℕ) (d : DriverView) (e : DeviceView) (k : ℕ) → Ring ws d e → Contains (open_at d.done) k → Spells d.frame ws (head d.frame d.done k) (chain d.done k) }
+{}
+
+/// What was taken is a prefix of what was offered, and collected of given; numbers differ; under IN_ORDER they are in order.
+pub fn agreement_law()
+    ensures { (ws : List ℕ) (d : DriverView) (e : DeviceView) → Ring ws d e → Agree d.frame d.done e.done }
+{}
+
+/// The index that a look loads shows nothing further exactly where nothing further is.
+pub fn looks_law()
+    ensures { (ws : List ℕ) (d : DriverView) (e : DeviceView) → Ring ws d e → LooksShow ws d e }
+{}
