@@ -1,5 +1,5 @@
 -- What a guest is, as one record, and what each of its calls does.
-use Rattle.std.specs.Prelude.{◌≡◌, ◌⊎◌, ◌↔◌, ℕ, true, false, Option, Some, None, IsSome, List, [], length, map, slice_get}
+use Rattle.std.specs.Prelude.{◌≡◌, ◌⊎◌, ◌↔◌, ℕ, ◌<◌, true, false, Option, Some, None, IsSome, List, [], length, map, slice_get}
 use Rattle.std.specs.List.{All}
 use mathlib.Core.List.{IsPrefix}
 use Rattle.vd_model.specs.declared.chain.Piece.{Piece}
@@ -81,7 +81,7 @@ pub record IsGuestAccess {P D X : Type 0} (port : PortModel P) (d : DriverModel 
   pub looked : (answer ≡ move.Looked) ↔ (d.act v op access got ≡ act.Asleep)
 
 -- whole operations were made over plain words, with the same view of the device: then no operation is in progress, and the guest
--- is done, or has collected all that was given, and its next chain, if one is left, has no room
+-- is done, or has collected all that was given, but not yet all of its chains, and its next chain, if one is left, has no room
 pub record IsGuestPhase {P D X : Type 0} (port : PortModel P) (d : DriverModel D) (l : LayoutModel) (m : GuestParty X) (p q : P) (v : DriverView) (w : DeviceView) (x y : X) : Type 0 where
   pub words : List ℕ
   pub view : DriverView
@@ -93,6 +93,7 @@ pub record IsGuestPhase {P D X : Type 0} (port : PortModel P) (d : DriverModel D
   pub grows : HasDriven v view
   pub idle : view.doing ≡ now.Idle
   pub so_far : m.is_done y ⊎ ((collects view.done ≡ gives w.done)
+      × ((s : Script) → m.script y ≡ Some s → s.commands ≡ [] → length (collects view.done) < length (chains s))
       × ((s : Script) (c : List Piece) → m.script y ≡ Some s → s.commands ≡ [] → slice_get (chains s) (length (offers view.done)) ≡ Some c → HasRoom view.frame view.done c → ⊥))
 
 -- for all words and views that meet the ring invariant, at which the guest holds its end

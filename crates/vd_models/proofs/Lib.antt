@@ -3,3 +3,4 @@ pub mod Holding
 pub mod Turns
 pub mod Phases
 pub mod Parties
+pub mod Scripts

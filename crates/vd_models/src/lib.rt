@@ -1,8 +1,10 @@
 //! Model parties: a guest that offers a script, a device that takes and gives, and a device that refuses an attach.
 #![tactic(auto)]
 
+mod cursor;
 mod device;
 mod serving;
 
+pub use cursor::Cursor;
 pub use device::ModelDevice;
 pub use serving::{Held, Stage, Turn};
