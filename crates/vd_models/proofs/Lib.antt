@@ -3,4 +3,3 @@ pub mod Holding
 pub mod Turns
 pub mod Phases
 pub mod Parties
-pub mod Scripts
