@@ -1,0 +1,111 @@
+-- What a guest is, as one record, and what each of its calls does.
+use Rattle.std.specs.Prelude.{◌≡◌, ◌⊎◌, ◌↔◌, ℕ, ◌<◌, true, false, Option, Some, None, IsSome, List, [], length, map, slice_get}
+use Rattle.std.specs.List.{All}
+use mathlib.Core.List.{IsPrefix}
+use Rattle.vd_model.specs.declared.chain.Piece.{Piece}
+use Rattle.vd_model.specs.declared.record.Return.{Return}
+use Rattle.vd_model.specs.declared.record.Script.{Script}
+use Rattle.vd_words.specs.declared.access.Access.{Access}
+use Rattle.vd_words.specs.declared.access.Op.{Op}
+use Rattle.vd_words.specs.Model.{PortModel}
+use Rattle.vd_ring.specs.declared.act.DriverAct.TheVariants as act
+use Rattle.vd_ring.specs.declared.driver.DriverNow.TheVariants as now
+use Rattle.vd_ring.specs.declared.driver.DriverView.{DriverView}
+use Rattle.vd_ring.specs.declared.device.DeviceView.{DeviceView}
+use Rattle.vd_ring.specs.declared.frame.Used.{Used}
+use Rattle.vd_ring.specs.Frames.{Fits}
+use Rattle.vd_ring.specs.History.{offers, collects, gives}
+use Rattle.vd_layout.specs.Begun.{DriverOp}
+use Rattle.vd_layout.specs.declared.moves.Move.{Move}
+use Rattle.vd_layout.specs.declared.moves.Move.TheVariants as move
+use Rattle.vd_layout.specs.Driver.{DriverModel, HasRoom}
+use Rattle.vd_layout.specs.Layout.{LayoutModel}
+use Rattle.vd_bus.specs.Scripts.{chains}
+
+-- the script; whether it was loaded, with room for all that will come back; how many chains were offered; what came back, in order; for which views of a ring the end stands
+-- that it holds; and whether all chains of the script were offered and returned, and the end is idle
+pub record GuestParty (X : Type 0) : Type 1 where
+  pub script : X → Option Script
+  pub is_loaded : X → Type 0
+  pub offered : X → ℕ
+  pub returned : X → List Return
+  pub holds : X → DriverView → Type 0
+  pub is_done : X → Type 0
+
+-- a chain as it comes back on a data queue
+abbrev pub as_return : Used → Return
+as_return u = record { number = u.number; len = u.len; ack = 0 }
+
+pub record IsLawfulGuestParty {D X : Type 0} (d : DriverModel D) (m : GuestParty X) : Type 0 where
+  -- a guest that isn't loaded has offered nothing, nothing came back, and it holds no end
+  pub unloaded : (x : X) → m.script x ≡ None → (m.offered x ≡ 0) × (m.returned x ≡ [])
+  pub held : (x : X) (v : DriverView) → m.holds x v → IsSome (m.script x)
+  pub offered : (x : X) (v : DriverView) → m.holds x v → m.offered x ≡ length (offers v.done)
+  -- the chains of a script without commands are offered in order, each once, and what was collected is in the list
+  pub offers : (x : X) (v : DriverView) (s : Script) → m.holds x v → m.script x ≡ Some s → s.commands ≡ [] → IsPrefix (Rattle.vd_ring.specs.History.offers v.done) (chains s)
+  pub returned : (x : X) (v : DriverView) (s : Script) → m.holds x v → m.script x ≡ Some s → s.commands ≡ [] → m.returned x ≡ map as_return (collects v.done)
+  pub done : (x : X) (v : DriverView) (s : Script) → m.holds x v → m.script x ≡ Some s → s.commands ≡ [] → m.is_done x → (Rattle.vd_ring.specs.History.offers v.done ≡ chains s) × (length (collects v.done) ≡ length (chains s))
+
+-- a fresh end's view with which a guest of this script can be booted
+pub record CanBoot (s : Script) (v : DriverView) : Type 0 where
+  pub fresh : v.done ≡ []
+  pub unarmed : v.armed ≡ None
+  pub fits : All (Fits v.frame) (chains s)
+  -- commands go to a control ring, chains to another ring
+  pub other : (s.runs ≡ [] → ⊥) → v.frame.control ≡ false
+  pub control : (s.commands ≡ [] → ⊥) → v.frame.control ≡ true
+
+-- the guest holds the end
+pub record IsBoot {D X : Type 0} (d : DriverModel D) (m : GuestParty X) (end : D) (x y : X) : Type 0 where
+  pub holds : (v : DriverView) (s : Script) → m.script x ≡ Some s → d.stands end v → CanBoot s v → m.holds y v
+  pub script : m.script y ≡ m.script x
+  pub offered : m.offered y ≡ m.offered x
+  pub returned : m.returned y ≡ m.returned x
+
+-- what was offered and collected on the ring is there still
+pub record HasDriven (v v' : DriverView) : Type 0 where
+  pub offers : IsPrefix (Rattle.vd_ring.specs.History.offers v.done) (Rattle.vd_ring.specs.History.offers v'.done)
+  pub collects : IsPrefix (Rattle.vd_ring.specs.History.collects v.done) (Rattle.vd_ring.specs.History.collects v'.done)
+
+-- one access of the port was made, which was next in the view; the guest holds an end for the view after it. It finishes exactly
+-- where it is done after it, and looked exactly where the end is asleep
+pub record IsGuestAccess {P D X : Type 0} (port : PortModel P) (d : DriverModel D) (m : GuestParty X) (p q : P) (v : DriverView) (x y : X) (answer : Move) : Type 0 where
+  pub op : Op
+  pub access : Access
+  pub got : ℕ
+  pub was_next : d.side.next v op access
+  pub moved : port.moves p op access got q
+  pub holds : m.holds y (d.side.after v op access got)
+  pub script : m.script y ≡ m.script x
+  pub grows : HasDriven v (d.side.after v op access got)
+  pub finished : (answer ≡ move.Finished) ↔ m.is_done y
+  pub looked : (answer ≡ move.Looked) ↔ (d.act v op access got ≡ act.Asleep)
+
+-- whole operations were made over plain words, with the same view of the device: then no operation is in progress, and the guest
+-- is done, or has collected all that was given, but not yet all of its chains, and its next chain, if one is left, has no room
+pub record IsGuestPhase {P D X : Type 0} (port : PortModel P) (d : DriverModel D) (l : LayoutModel) (m : GuestParty X) (p q : P) (v : DriverView) (w : DeviceView) (x y : X) : Type 0 where
+  pub words : List ℕ
+  pub view : DriverView
+  pub same : port.same p q
+  pub plain : port.plain q words
+  pub ring : l.ring words view w
+  pub holds : m.holds y view
+  pub script : m.script y ≡ m.script x
+  pub grows : HasDriven v view
+  pub idle : view.doing ≡ now.Idle
+  pub so_far : m.is_done y ⊎ ((collects view.done ≡ gives w.done)
+      × ((s : Script) → m.script y ≡ Some s → s.commands ≡ [] → length (collects view.done) < length (chains s))
+      × ((s : Script) (c : List Piece) → m.script y ≡ Some s → s.commands ≡ [] → slice_get (chains s) (length (offers view.done)) ≡ Some c → HasRoom view.frame view.done c → ⊥))
+
+-- for all words and views that meet the ring invariant, at which the guest holds its end
+abbrev pub IsGuestPhaseFrom : {P D X : Type 0} → PortModel P → DriverModel D → LayoutModel → GuestParty X → P → P → X → X → Type 0
+IsGuestPhaseFrom port d l m p q x y = (ws : List ℕ) (v : DriverView) (w : DeviceView) → port.plain p ws → l.ring ws v w → m.holds x v → IsGuestPhase port d l m p q v w x y
+
+-- the guest has handed out the end that it held, which is idle
+pub record IsHalt {D X : Type 0} (d : DriverModel D) (m : GuestParty X) (x y : X) (end : D) : Type 0 where
+  pub stands : (v : DriverView) → m.holds x v → d.stands end v
+  pub idle : d.begun end ≡ DriverOp.idle
+  pub free : (v : DriverView) → m.holds y v → ⊥
+  pub script : m.script y ≡ m.script x
+  pub offered : m.offered y ≡ m.offered x
+  pub returned : m.returned y ≡ m.returned x

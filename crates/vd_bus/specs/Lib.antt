@@ -1,0 +1,5 @@
+pub mod Orders
+pub mod Entries
+pub mod Device
+pub mod Scripts
+pub mod Guest

@@ -1,0 +1,68 @@
+//! What a guest of a queue is.
+ghost use Rattle.std.specs.Prelude.{◌≡◌, ℕ, ◌↔◌, None, Some, [], IsTrue, List, OnOk, OnErr};
+ghost use Rattle.vd_ring.specs.declared.device.DeviceView.{DeviceView};
+ghost use Rattle.vd_ring.specs.declared.driver.DriverView.{DriverView};
+ghost use Rattle.vd_words.specs.Own.{IsOwn};
+ghost use Rattle.vd_layout.specs.Begun.{DriverOp};
+ghost use Rattle.vd_bus.specs.Scripts.{IsScript};
+ghost use Rattle.vd_bus.specs.Guest.{GuestParty, IsLawfulGuestParty, IsBoot, IsGuestAccess, IsGuestPhaseFrom, IsHalt};
+
+use std::alloc::{AllocError, Global};
+use vd_layout::{Layout, Move};
+use vd_model::{Return, Script};
+use vd_words::Port;
+
+/// A guest of a queue: from `boot` to `halt` it holds a ring's driver end, offers the chains of its script in order, and
+/// keeps what comes back.
+pub trait Guest<L: Layout>: Send + Drop {
+    ghost party: { GuestParty Self };
+
+    /// Copies the script, and takes room for all that will come back.
+    fn load(&mut self, alloc: Global, script: &Script) -> Result<(), AllocError>
+        requires free { party.script self.old ≡ None }
+        requires few { IsScript script.now }
+        ensures ok { OnOk result (party.is_loaded self.new × (party.script self.new ≡ Some script.now)) }
+        ensures err { OnErr result (party.script self.new ≡ None) }
+        ensures offered { party.offered self.new ≡ party.offered self.old }
+        ensures returned { party.returned self.new ≡ party.returned self.old }
+        ensures free { (v : DriverView) → ¬ (party.holds self.new v) };
+
+    /// Takes over the driver's end of a fresh ring.
+    fn boot(&mut self, end: L::Driver)
+        requires loaded { party.is_loaded self.old }
+        requires unused { (party.offered self.old ≡ 0) × (party.returned self.old ≡ []) }
+        requires idle { L.Driver.driver.begun end ≡ DriverOp.idle }
+        ensures { IsBoot L.Driver.driver party end self.old self.new };
+
+    /// Makes one access of the ring's words.
+    fn step<P: Port>(&mut self, port: &mut P) -> Move
+        requires live { ¬ (party.is_done self.old) }
+        requires own { (v : DriverView) × party.holds self.old v × IsOwn P.port L.Driver.driver.side port.old v }
+        ensures { (v : DriverView) → party.holds self.old v → IsOwn P.port L.Driver.driver.side port.old v → IsGuestAccess P.port L.Driver.driver party port.old port.new v self.old self.new result };
+
+    /// Makes whole operations over plain words, until it is done or can neither offer nor collect.
+    fn phase<P: Port>(&mut self, port: &mut P)
+        requires live { ¬ (party.is_done self.old) }
+        requires own { (ws : List ℕ) × (v : DriverView) × (w : DeviceView) × P.port.plain port.old ws × L.layout.ring ws v w × party.holds self.old v }
+        ensures { IsGuestPhaseFrom P.port L.Driver.driver L.layout party port.old port.new self.old self.new };
+
+    /// Whether all chains of the script were offered and returned, and the end is idle.
+    fn done(&self) -> bool
+        ensures { IsTrue result ↔ party.is_done self.now };
+
+    /// Hands out the ring's end.
+    fn halt(&mut self) -> L::Driver
+        requires done { party.is_done self.old }
+        requires held { (v : DriverView) × party.holds self.old v }
+        ensures { IsHalt L.Driver.driver party self.old self.new result };
+
+    /// How many chains were offered.
+    fn offered(&self) -> u32
+        ensures { result ≡ party.offered self.now };
+
+    /// What came back, in order.
+    fn returned(&self) -> &[Return]
+        ensures { result.now ≡ party.returned self.now };
+
+    ghost lawful: { IsLawfulGuestParty L.Driver.driver party };
+}

@@ -1,0 +1,127 @@
+//! By what a device is attached to a ring.
+ghost use Rattle.std.specs.Prelude.{◌≡◌};
+ghost use Rattle.vd_bus.specs.Orders.{Terms, mode_of};
+
+use std::marker::Model;
+use vd_model::{Base, Features, Map, Mode};
+
+/// By what a device is attached to a ring. Contracts see what it says.
+#[derive(Drop)]
+pub struct Order {
+    queue: u32,
+    ring: u32,
+    base: Base,
+    count: u32,
+    size: u32,
+    features: Features,
+    map: Map,
+}
+
+impl Model for Order {
+    ghost use Rattle.vd_bus.specs.Orders.{Terms};
+
+    ghost Value = { Terms };
+
+    ghost view = { λ o. record { queue = o.queue; ring = o.ring; base = o.base; count = o.count; size = o.size; features = o.features; map = o.map } };
+}
+
+impl Order {
+    /// The order to serve ring `ring` of queue `queue` from `base` on, and to begin `count` chains. The ring has `size`
+    /// places and was made with these features; the map is the one in force.
+    pub fn first(
+        queue: u32,
+        ring: u32,
+        base: Base,
+        count: u32,
+        size: u32,
+        features: Features,
+        map: Map,
+    ) -> Order
+        ensures { result ≡ record { queue = queue; ring = ring; base = base; count = count; size = size; features = features; map = map } }
+    {
+        Order {
+            queue,
+            ring,
+            base,
+            count,
+            size,
+            features,
+            map,
+        }
+    }
+
+    /// The same order again. It takes no memory.
+    pub fn copy(&self) -> Order
+        ensures { result ≡ self.now }
+    {
+        Order {
+            queue: self.queue,
+            ring: self.ring,
+            base: self.base,
+            count: self.count,
+            size: self.size,
+            features: self.features,
+            map: self.map.copy(),
+        }
+    }
+
+    /// The queue's number: a data queue's is below 8, the control queue's is 15.
+    pub fn queue(&self) -> u32
+        ensures { result ≡ self.now.queue }
+    {
+        self.queue
+    }
+
+    /// The ring's number: a guest's ring has one below 16.
+    pub fn ring(&self) -> u32
+        ensures { result ≡ self.now.ring }
+    {
+        self.ring
+    }
+
+    /// The base from which the ring is served (`vhost_vring_state.num`).
+    pub fn base(&self) -> Base
+        ensures { result ≡ self.now.base }
+    {
+        self.base
+    }
+
+    /// Shadow exactly where the ring is 16 or more.
+    pub fn mode(&self) -> Mode
+        ensures { result ≡ mode_of self.now.ring }
+    {
+        if self.ring < 16 {
+            Mode::Pass
+        } else {
+            Mode::Shadow
+        }
+    }
+
+    /// How many chains are begun under the order.
+    pub fn count(&self) -> u32
+        ensures { result ≡ self.now.count }
+    {
+        self.count
+    }
+
+    /// How many places the ring has.
+    pub fn size(&self) -> u32
+        ensures { result ≡ self.now.size }
+    {
+        self.size
+    }
+
+    /// The features with which the ring was made.
+    pub fn features(&self) -> Features
+        ensures { result ≡ self.now.features }
+    {
+        self.features
+    }
+
+    /// The map in force.
+    pub fn map(&self) -> &Map
+        ensures { result.now ≡ self.now.map }
+    {
+        &self.map
+    }
+}

@@ -1,0 +1,5 @@
+pub mod Lists
+pub mod Holding
+pub mod Turns
+pub mod Phases
+pub mod Parties

@@ -1,0 +1,10 @@
+//! Model parties: a guest that offers a script, a device that takes and gives, and a device that refuses an attach.
+#![tactic(auto)]
+
+mod device;
+mod faulty;
+mod serving;
+
+pub use device::ModelDevice;
+pub use faulty::FaultyDevice;
+pub use serving::{Held, Stage, Turn};
