@@ -1,6 +1,5 @@
 -- What the two sides' lists keep, and what follows of them. The driver's offers and collects.
-use Rattle.std.proofs.Common.{◌≡◌, ℕ, zero, suc, ◌+◌, ◌-◌, ◌<◌, ◌≤◌, ◌==◌, ◌&&◌, Bool, not, true, false, List, [], ◌∷◌, ◌++◌, length, take, map, if◌then◌else◌, nat_lt, slice_index, Option, Some, None, refl, sym, ap, ◌∙◌, subst, arith, inl, inr}
-use Rattle.std.specs.List.{Contains}
+use Rattle.std.proofs.Common.{◌≡◌, ℕ, zero, suc, ◌+◌, ◌-◌, ◌<◌, ◌≤◌, ◌&&◌, Bool, not, true, false, List, [], ◌∷◌, ◌++◌, length, take, map, if◌then◌else◌, nat_lt, slice_index, Option, Some, None, refl, sym, ap, ◌∙◌, arith, inl, inr}
 use Rattle.std.proofs.lemmas.Bool.{cases_eq, cases_lt, eq-eqb, ne_eqb}
 use Rattle.std.proofs.lemmas.List.{length_push, length-map, take_more, take-map, take-append-le, get_or_append_left, get_or_push}
 use Rattle.vd_model.specs.declared.chain.Piece.{Piece}
@@ -11,7 +10,7 @@ use Rattle.vd_ring.specs.declared.driver.DriverDone.{DriverDone}
 use Rattle.vd_ring.specs.declared.driver.DriverDone.TheVariants.{Offer, Collect}
 use Rattle.vd_ring.specs.declared.device.DeviceDone.{DeviceDone}
 use Rattle.vd_ring.specs.declared.device.DeviceDone.TheVariants.{Take, Give, Rest, StoreAck, LoadCommand}
-use Rattle.vd_ring.specs.History.{offers, collects, takes, gives, open_at, head, chain, entry, numbers, occurs, used_at, last_used, first, batch, between, upto}
+use Rattle.vd_ring.specs.History.{offers, collects, takes, gives, open_at, entry, numbers, occurs, used_at, first, batch, between, upto}
 use Rattle.vd_ring.specs.Places.{Places}
 use Rattle.vd_ring.specs.Lists.{Lists, AreGives, entry_at}
 use Rattle.vd_ring.proofs.Counts.{one_same, one_below, one_small, one_above, occurs_before, occurs_parts}

@@ -7,4 +7,5 @@ pub mod Places
 pub mod Lists
 pub mod Steps
 pub mod Fresh
+pub mod DriverSteps
 pub mod DeviceSteps

@@ -48,7 +48,8 @@ pub struct DeviceView {
     pub heard: u64,
     /// How many bells it stored.
     pub bells: u64,
-    /// How many chains (split), or up to which position (packed), its last look showed.
+    /// How many chains (split), or up to which position (packed), the last index or descriptor loaded in a look showed, a rest's
+    /// too.
     pub seen: u64,
     /// Its last look showed a chain that it has not taken since.
     pub shown: bool,

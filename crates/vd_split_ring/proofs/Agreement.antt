@@ -59,8 +59,8 @@ looks_show ws d e r =
     let f : Frame = d.frame in let o : List DriverDone = d.done in let s : List DeviceDone = e.done in
     let near = given_within f o s r.places r.lists in
     let small = r.lawful.small in
-    let used : lane16 (slice_index ws (used_from f)) 1 ≡ length (gives s) % 65536 = ap (λ y. lane16 y 1) (r.words.devices (used_from f) (inl (omega arith, omega arith))) ∙ r.served.index in
-    let avail : lane16 (slice_index ws (lane_word f 1)) 1 ≡ length (offers o) % 65536 = ap (λ y. lane16 y 1) (r.words.drivers (lane_word f 1) (inl (lane_inside f 1 (omega arith)))) ∙ r.driven.index in
+    let used : lane16 (slice_index ws (used_from f)) 1 ≡ length (gives s) % 65536 = ap (λ y. lane16 y 1) (r.words.devices (used_from f) (inl (omega arith, omega arith))) ∙ r.device_words.index in
+    let avail : lane16 (slice_index ws (lane_word f 1)) 1 ≡ length (offers o) % 65536 = ap (λ y. lane16 y 1) (r.words.drivers (lane_word f 1) (inl (lane_inside f 1 (omega arith)))) ∙ r.driver_words.index in
     record {
       driver = (
         λ on. shows_same (slice_index ws (used_from f)) (length (collects o)) (length (gives s)) used r.lists.fewer (omega (arith, near)) on,

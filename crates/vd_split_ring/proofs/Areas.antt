@@ -43,26 +43,26 @@ same_store ws us p i x a b e = elim (cases_eq i p) [
   | inr ne ↦ get_or-set_other ws p i x 0 ne ∙ e ∙ sym (get_or-set_other us p i x 0 ne)
 ]
 
-pub driver_stores : (f : Frame) (ws driven served : List ℕ) (p x : ℕ) → Words f ws driven served → IsDrivers f p → Words f (slice_set ws p x) (slice_set driven p x) served
-driver_stores f ws driven served p x w own =
+pub driver_stores : (f : Frame) (ws by_driver by_device : List ℕ) (p x : ℕ) → Words f ws by_driver by_device → IsDrivers f p → Words f (slice_set ws p x) (slice_set by_driver p x) by_device
+driver_stores f ws by_driver by_device p x w own =
     let inside : p < width f = drivers_inside f p own in
     let wide : length ws ≡ width f = w.wide.0 in
-    let wide2 : length driven ≡ width f = w.wide.1 in
+    let wide2 : length by_driver ≡ width f = w.wide.1 in
     record {
-      wide = (length-set ws p x ∙ w.wide.0, length-set driven p x ∙ w.wide.1, w.wide.2);
-      drivers = λ i h. same_store ws driven p i x (omega arith) (omega arith) (w.drivers i h);
+      wide = (length-set ws p x ∙ w.wide.0, length-set by_driver p x ∙ w.wide.1, w.wide.2);
+      drivers = λ i h. same_store ws by_driver p i x (omega arith) (omega arith) (w.drivers i h);
       devices = λ i h. get_or-set_other ws p i x 0 (λ e. owners_apart f p i own h (sym e)) ∙ w.devices i h;
     }
 
-pub device_stores : (f : Frame) (ws driven served : List ℕ) (p x : ℕ) → Words f ws driven served → IsDevices f p → Words f (slice_set ws p x) driven (slice_set served p x)
-device_stores f ws driven served p x w own =
+pub device_stores : (f : Frame) (ws by_driver by_device : List ℕ) (p x : ℕ) → Words f ws by_driver by_device → IsDevices f p → Words f (slice_set ws p x) by_driver (slice_set by_device p x)
+device_stores f ws by_driver by_device p x w own =
     let inside : p < width f = devices_inside f p own in
     let wide : length ws ≡ width f = w.wide.0 in
-    let wide2 : length served ≡ width f = w.wide.2 in
+    let wide2 : length by_device ≡ width f = w.wide.2 in
     record {
-      wide = (length-set ws p x ∙ w.wide.0, w.wide.1, length-set served p x ∙ w.wide.2);
+      wide = (length-set ws p x ∙ w.wide.0, w.wide.1, length-set by_device p x ∙ w.wide.2);
       drivers = λ i h. get_or-set_other ws p i x 0 (owners_apart f i p h own) ∙ w.drivers i h;
-      devices = λ i h. same_store ws served p i x (omega arith) (omega arith) (w.devices i h);
+      devices = λ i h. same_store ws by_device p i x (omega arith) (omega arith) (w.devices i h);
     }
 
 -- ---- lanes of the driver area

@@ -86,9 +86,9 @@ gives_at ws d e a b p x k r h is =
       gave = refl;
       last = is;
       stands = record {
-        id = ap (λ (w : ℕ). lane32 w 1) (after.words.devices (id_word f g) (inl (omega arith, omega arith))) ∙ after.served.ids g (last_used us) low at ∙ ap (head f d.done) is ∙ sym hd.0 ∙ ap (taken_head s) (sym is);
-        len = ap (λ (w : ℕ). lane32 w 0) (after.words.devices (len_word f g) (inl (omega arith, omega arith))) ∙ after.served.lens g (last_used us) low at;
-        index = ap (λ (w : ℕ). lane16 w 1) (after.words.devices (used_from f) (inl (omega arith, omega arith))) ∙ after.served.index;
+        id = ap (λ (w : ℕ). lane32 w 1) (after.words.devices (id_word f g) (inl (omega arith, omega arith))) ∙ after.device_words.ids g (last_used us) low at ∙ ap (head f d.done) is ∙ sym hd.0 ∙ ap (taken_head s) (sym is);
+        len = ap (λ (w : ℕ). lane32 w 0) (after.words.devices (len_word f g) (inl (omega arith, omega arith))) ∙ after.device_words.lens g (last_used us) low at;
+        index = ap (λ (w : ℕ). lane16 w 1) (after.words.devices (used_from f) (inl (omega arith, omega arith))) ∙ after.device_words.index;
       };
     }
 

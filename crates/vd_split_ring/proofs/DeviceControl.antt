@@ -48,7 +48,7 @@ commands ws d e p r n =
             same = refl;
             words = r.words;
             lists = lists_commanded f o s k i x r.lists;
-            served = record { index = r.served.index; ids = r.served.ids; lens = r.served.lens };
+            device_words = record { index = r.device_words.index; ids = r.device_words.ids; lens = r.device_words.lens };
             signals = r.device_signals;
             acks = acks_commanded f (ack_word f) o s k i x e.stored below word r.acks;
             driver_doing = doing_along d.doing f o d.stored d.seen s (LoadCommand k i x ∷ s) (λ u is. is) r.driver_doing;
@@ -84,10 +84,10 @@ acks ws d e p x r n =
             same = refl;
             words = device_stores f ws d.stored e.stored q x r.words own;
             lists = lists_acked f o s h x r.lists;
-            served = record {
-              index = other_word e.stored q (used_from f) x (λ w. lane16 w 1) (λ e'. omega arith) ∙ r.served.index;
-              ids = λ j u low at. other_word e.stored q (id_word f j) x (λ w. lane32 w 1) (λ e'. omega (arith, mod_below j f.size r.lawful.some_place)) ∙ r.served.ids j u low at;
-              lens = λ j u low at. other_word e.stored q (len_word f j) x (λ w. lane32 w 0) (λ e'. omega (arith, mod_below j f.size r.lawful.some_place)) ∙ r.served.lens j u low at;
+            device_words = record {
+              index = other_word e.stored q (used_from f) x (λ w. lane16 w 1) (λ e'. omega arith) ∙ r.device_words.index;
+              ids = λ j u low at. other_word e.stored q (id_word f j) x (λ w. lane32 w 1) (λ e'. omega (arith, mod_below j f.size r.lawful.some_place)) ∙ r.device_words.ids j u low at;
+              lens = λ j u low at. other_word e.stored q (len_word f j) x (λ w. lane32 w 0) (λ e'. omega (arith, mod_below j f.size r.lawful.some_place)) ∙ r.device_words.lens j u low at;
             };
             signals = signals_kept f e.armed e.bells e.stored q x (other_word e.stored q (used_from f) x (λ w. lane16 w 0) (λ e'. omega arith)) (other_word e.stored q (used_from f + f.size) x (λ w. lane16 w 2) (λ e'. omega arith))
                 (λ e'. omega (arith, areas f, acks_follow f n.control, hd.1)) r.device_signals;

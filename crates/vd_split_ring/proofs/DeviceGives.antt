@@ -13,9 +13,9 @@ use Rattle.vd_ring.specs.declared.device.DeviceDone.{DeviceDone}
 use Rattle.vd_ring.specs.declared.device.DeviceDone.TheVariants.{Give, Rest}
 use Rattle.vd_ring.specs.declared.device.DeviceNow.TheVariants.{Idle, Giving}
 use Rattle.vd_ring.specs.declared.device.DeviceView.{DeviceView}
-use Rattle.vd_ring.specs.History.{collects, takes, gives, running, taken_head, head, chain_at, occurs, given, entry, batch, with_head, IsWhole}
+use Rattle.vd_ring.specs.History.{offers, collects, takes, gives, running, taken_head, head, chain_at, occurs, given, entry, batch, with_head, IsWhole}
 use Rattle.vd_ring.specs.Lists.{entry_at}
-use Rattle.vd_split_ring.specs.SplitWords.{IsDevices, width, used_from, id_word, len_word, used_id, used_len, ack_word}
+use Rattle.vd_split_ring.specs.SplitWords.{shown_from, IsDevices, width, used_from, id_word, len_word, used_id, used_len, ack_word}
 use Rattle.vd_split_ring.specs.SplitDevice.{Names, Measures, PublishesUsed, device_gives, device_rests}
 use Rattle.vd_split_ring.specs.SplitRing.{Ring, Gives}
 use Rattle.vd_ring.proofs.Counts.{occurs_from, with_head_is}
@@ -68,10 +68,10 @@ names ws d e p x r n =
         same = refl;
         words = device_stores f ws d.stored e.stored q y r.words own;
         lists = r.lists;
-        served = record {
-          index = lane_after_id e.stored q (used_from f) h inside ∙ r.served.index;
-          ids = λ j u b is. let at = entry_is f s j u r.lists.entries is in high_after_id e.stored q (id_word f j) h (λ e'. part_kept f.size j g r.lawful.some_place at.0 (omega arith) (omega arith)) ∙ r.served.ids j u b is;
-          lens = λ j u b is. low_after_id e.stored q (len_word f j) h inside ∙ r.served.lens j u b is;
+        device_words = record {
+          index = lane_after_id e.stored q (used_from f) h inside ∙ r.device_words.index;
+          ids = λ j u b is. let at = entry_is f s j u r.lists.entries is in high_after_id e.stored q (id_word f j) h (λ e'. part_kept f.size j g r.lawful.some_place at.0 (omega arith) (omega arith)) ∙ r.device_words.ids j u b is;
+          lens = λ j u b is. low_after_id e.stored q (len_word f j) h inside ∙ r.device_words.lens j u b is;
         };
         signals = signals_kept f e.armed e.bells e.stored q y (same_part e.stored q (used_from f) y (λ w. lane16 w 0) inside (low_lane (slice_index e.stored q) h 0 (omega arith)))
             (other_word e.stored q (used_from f + f.size) y (λ w. lane16 w 2) (λ e'. omega arith)) (used_no_bell f q low) r.device_signals;
@@ -117,10 +117,10 @@ measures ws d e a p x r n =
         same = refl;
         words = device_stores f ws d.stored e.stored q y r.words own;
         lists = r.lists;
-        served = record {
-          index = other_word e.stored q (used_from f) y (λ w. lane16 w 1) (λ e'. omega arith) ∙ r.served.index;
-          ids = λ j u b is. high_after_len e.stored q (id_word f j) n.len inside small ∙ r.served.ids j u b is;
-          lens = λ j u b is. let at = entry_is f s j u r.lists.entries is in other_word e.stored q (len_word f j) y (λ w. lane32 w 0) (λ e'. part_kept f.size j g r.lawful.some_place at.0 (omega arith) (omega arith)) ∙ r.served.lens j u b is;
+        device_words = record {
+          index = other_word e.stored q (used_from f) y (λ w. lane16 w 1) (λ e'. omega arith) ∙ r.device_words.index;
+          ids = λ j u b is. high_after_len e.stored q (id_word f j) n.len inside small ∙ r.device_words.ids j u b is;
+          lens = λ j u b is. let at = entry_is f s j u r.lists.entries is in other_word e.stored q (len_word f j) y (λ w. lane32 w 0) (λ e'. part_kept f.size j g r.lawful.some_place at.0 (omega arith) (omega arith)) ∙ r.device_words.lens j u b is;
         };
         signals = signals_kept f e.armed e.bells e.stored q y (other_word e.stored q (used_from f) y (λ w. lane16 w 0) (λ e'. omega arith))
             (same_part e.stored q (used_from f + f.size) y (λ w. lane16 w 2) inside (low_two (slice_index e.stored q) n.len small)) (used_no_bell f q low) r.device_signals;
@@ -181,15 +181,15 @@ gives_entry ws d e a b us u one r now is len =
       same = refl;
       words = device_stores f ws d.stored e.stored q x r.words (inl (omega arith, omega arith));
       lists = lists_given f o s u r.lists runs order (sym (batch_one f (chain_at (takes s)) g u.number u.len order));
-      served = record {
+      device_words = record {
         index = ap (λ w. lane16 w 1) (get_or-set_same e.stored q x 0 inside) ∙ set_same (slice_index e.stored q) 1 v (omega arith) (omega arith);
         ids = λ j w low at. high_after_index e.stored q (id_word f j) v inside (omega arith) ∙ elim (cases_eq g j) [
           | inl e' ↦ ap (λ (i : ℕ). used_id f e.stored i) (sym e') ∙ now.stands ∙ now.is_id ∙ ap (taken_head s) (sym number) ∙ hd.0 ∙ ap (λ (y : Used). head f o y.number) (new j w e' at)
-          | inr ne ↦ r.served.ids j w low (old j w ne at)
+          | inr ne ↦ r.device_words.ids j w low (old j w ne at)
         ];
         lens = λ j w low at. other_word e.stored q (len_word f j) x (λ y. lane32 y 0) (λ e'. omega arith) ∙ elim (cases_eq g j) [
           | inl e' ↦ ap (λ (i : ℕ). used_len f e.stored i) (sym e') ∙ len ∙ sym measured ∙ ap (λ (y : Used). y.len) (new j w e' at)
-          | inr ne ↦ r.served.lens j w low (old j w ne at)
+          | inr ne ↦ r.device_words.lens j w low (old j w ne at)
         ];
       };
       signals = signals_kept f e.armed e.bells e.stored q x (same_part e.stored q q x (λ w. lane16 w 0) inside (set_other (slice_index e.stored q) 1 0 v (omega arith) (omega arith) (omega arith) (λ e'. omega arith)))
@@ -218,22 +218,23 @@ publishes ws d e a b p x r n =
 
 -- ---- the rest
 
-pub rests : (ws : List ℕ) (d : DriverView) (e : DeviceView) → Ring ws d (record e { frame = d.frame; doing = Idle }) → IsWhole e.done → Ring ws d (device_rests (record e { frame = d.frame; doing = Idle }))
-rests ws d e r is =
+pub rests : (ws : List ℕ) (d : DriverView) (e : DeviceView) (r : ℕ) → Ring ws d (record e { frame = d.frame; doing = Idle }) → IsWhole e.done → shown_from r (length (takes e.done)) ≡ length (offers d.done)
+    → Ring ws d (device_rests (record e { frame = d.frame; doing = Idle }) r)
+rests ws d e x r is index =
     let f : Frame = d.frame in let s : List DeviceDone = e.done in let g : ℕ = length (gives s) in
     let E : DeviceView = record e { frame = d.frame; doing = Idle } in
     let len : length (take g (takes s)) ≡ g = length-take-le g (takes s) (omega (arith, r.lists.count)) in
-    ring_with ws ws d E (record e { frame = d.frame; done = Rest ∷ s; doing = Idle; armed = None }) r record {
+    ring_with ws ws d E (record e { frame = d.frame; done = Rest ∷ s; doing = Idle; armed = None; seen = shown_from x (length (takes s)) }) r record {
       same = refl;
       words = r.words;
       lists = lists_rested f d.done s r.lists is;
-      served = record { index = r.served.index; ids = r.served.ids; lens = r.served.lens };
+      device_words = record { index = r.device_words.index; ids = r.device_words.ids; lens = r.device_words.lens };
       signals = record { no_flags = r.device_signals.no_flags; flags = λ n at. absurd cc; event = λ n at. absurd cc; bell = r.device_signals.bell };
       acks = acks_rested f (ack_word f) d.done s e.stored r.acks;
       driver_doing = doing_along d.doing f d.done d.stored d.seen s (Rest ∷ s) (λ u at. at) r.driver_doing;
       device_doing = tt;
       driver_seen = r.driver_seen;
-      device_seen = r.device_seen;
-      device_shown = λ h. omega (arith, r.device_shown h, r.lists.count);
+      device_seen = omega (arith, index);
+      device_shown = λ h. omega (arith, index, r.device_shown h, r.device_seen, r.lists.count);
       rested = (len, is);
     }

@@ -17,7 +17,7 @@ use Rattle.vd_split_ring.specs.SplitDeviceLaws.{DeviceKeeps}
 use Rattle.vd_split_ring.specs.SplitRing.{Ring}
 use Rattle.vd_split_ring.proofs.Areas.{areas, lane_inside, entry_inside, drivers_inside}
 use Rattle.vd_split_ring.proofs.DeviceParts.{knows}
-use Rattle.vd_split_ring.proofs.DeviceLooks.{looks, look_tells, shows_offers, finds_head}
+use Rattle.vd_split_ring.proofs.DeviceLooks.{offers_shown, looks, look_tells, shows_offers, finds_head}
 use Rattle.vd_split_ring.proofs.DeviceTakes.{loads}
 use Rattle.vd_split_ring.proofs.DeviceGives.{names, measures, publishes, rests}
 use Rattle.vd_split_ring.proofs.DeviceControl.{commands, acks}
@@ -26,7 +26,7 @@ use Rattle.vd_split_ring.proofs.DeviceControl.{commands, acks}
 pub index_shown : (ws : List ℕ) (d : DriverView) (e : DeviceView) (p : ℕ) → Ring ws d e → p ≡ lane_word d.frame 1 → lane16 (slice_index ws p) 1 ≡ length (offers d.done) % 65536
 index_shown ws d e p r at =
     let low : p < used_from d.frame = omega (arith, lane_inside d.frame 1 (omega arith)) in
-    ap (λ y. lane16 y 1) (r.words.drivers p (inl low) ∙ ap (λ q. slice_index d.stored q) at) ∙ r.driven.index
+    ap (λ y. lane16 y 1) (r.words.drivers p (inl low) ∙ ap (λ q. slice_index d.stored q) at) ∙ r.driver_words.index
 
 -- descriptors are the driver's words
 drivers_descriptor : (f : Frame) (p : ℕ) → IsDescriptors f p → IsDrivers f p
@@ -69,7 +69,7 @@ device_keeps_at ws d e Idle op.Rest (Load p) r h =
     let n : BeginsRest d.frame e.done p = h in
     record {
       inside = omega (arith, r.words.wide, areas d.frame, n.place, lane_inside d.frame 1 (omega arith));
-      keeps = rests ws d e r n.whole;
+      keeps = rests ws d e (slice_index ws p) r n.whole (offers_shown ws d E (slice_index ws p) (index_shown ws d E p r n.place) r);
       told = (knows ws d E (Load p) r, shows_offers ws d E (slice_index ws p) (index_shown ws d E p r n.place) r);
     }
 device_keeps_at ws d e Idle op.Control (Load p) r h =

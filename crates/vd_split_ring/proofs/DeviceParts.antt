@@ -17,7 +17,7 @@ use Rattle.vd_ring.specs.Control.{Acks}
 use Rattle.vd_ring.specs.Lists.{Lists, Rested, entry_at}
 use Rattle.vd_split_ring.specs.SplitWords.{IsDevices, used_from, call_at, ack_word}
 use Rattle.vd_split_ring.specs.SplitDevice.{DeviceKnows}
-use Rattle.vd_split_ring.specs.SplitRing.{Words, Served, DeviceSignals, DriverDoing, DeviceDoing, Ring}
+use Rattle.vd_split_ring.specs.SplitRing.{Words, DeviceWords, DeviceSignals, DriverDoing, DeviceDoing, Ring}
 use Rattle.vd_split_ring.proofs.Areas.{areas, other_word}
 
 -- the parts that speak of the device
@@ -25,7 +25,7 @@ pub record DeviceSide (ws : List ℕ) (d : DriverView) (e : DeviceView) : Type 0
   pub same : e.frame ≡ d.frame
   pub words : Words d.frame ws d.stored e.stored
   pub lists : Lists d.frame d.done e.done
-  pub served : Served d.frame d.done e.done e.stored
+  pub device_words : DeviceWords d.frame d.done e.done e.stored
   pub signals : DeviceSignals d.frame e.armed e.bells e.stored
   pub acks : Acks d.frame (ack_word d.frame) d.done e.done e.stored
   pub driver_doing : DriverDoing d.doing d.frame d.done d.stored d.seen e.done
@@ -43,9 +43,9 @@ ring_with ws us d e v r s = record {
   built = r.built;
   words = s.words;
   places = r.places;
-  driven = r.driven;
+  driver_words = r.driver_words;
   lists = s.lists;
-  served = s.served;
+  device_words = s.device_words;
   driver_signals = r.driver_signals;
   device_signals = s.signals;
   commands = r.commands;

@@ -80,7 +80,7 @@ takes_chain ws d e g w ss us r spelled =
       same = refl;
       words = r.words;
       lists = lists_taken f o s hd r.lists below r.device_doing.1.is_head;
-      served = record { index = r.served.index; ids = r.served.ids; lens = r.served.lens };
+      device_words = record { index = r.device_words.index; ids = r.device_words.ids; lens = r.device_words.lens };
       signals = r.device_signals;
       acks = acks_taken f (ack_word f) o s c hd e.stored r.acks;
       driver_doing = doing_along d.doing f o d.stored d.seen s (Take c hd ∷ s) (λ u is. is) r.driver_doing;
@@ -102,7 +102,7 @@ loads_on ws d e g w ss us r words left =
       same = refl;
       words = r.words;
       lists = r.lists;
-      served = r.served;
+      device_words = r.device_words;
       signals = r.device_signals;
       acks = r.acks;
       driver_doing = r.driver_doing;
@@ -160,7 +160,7 @@ loads ws d e g w ss p r at =
     let pl : List Put = reading f ps c in
     let st : Put = slice_index_or pl k (put 0 0) in
     let place : p ≡ st.place = at ∙ ap (λ h. cursor f h ss) l.is_head ∙ ap (cursor f (first ps)) l.words ∙ (reads f ps c k ch.as_many ch.fits.chain).place l.left in
-    let stand : Stand d.stored pl = reading_stands f d.stored ps c (r.driven.spelled t (Contains_from t (open_at o) here)) in
+    let stand : Stand d.stored pl = reading_stands f d.stored ps c (r.driver_words.spelled t (Contains_from t (open_at o) here)) in
     let word : slice_index d.stored p ≡ st.word = ap (λ q. slice_index d.stored q) place ∙ stand k (put 0 0) l.left in
     let us : List ℕ = ss ++ slice_index d.stored p ∷ [] in
     let longer : length us ≡ k + 1 = length_push ss (slice_index d.stored p) in

@@ -1,9 +1,10 @@
 -- What the answers of the driver's steps say: of the chain offered, of the entry collected, and of the bag.
-use Rattle.std.proofs.Common.{◌≡◌, ℕ, Bool, true, false, List, [], ◌∷◌, ◌++◌, length, take, if◌then◌else◌, slice_index, slice_set, refl, sym, ap, ◌∙◌, subst, arith}
+use Rattle.std.proofs.Common.{◌≡◌, ℕ, ◌%◌, Bool, true, false, List, [], ◌∷◌, ◌++◌, length, take, if◌then◌else◌, slice_index, slice_set, refl, sym, ap, ◌∙◌, subst, arith}
 use Rattle.std.specs.List.{Contains}
+use Rattle.std.proofs.lemmas.Bool.{eq-eqb, eqb-true}
 use Rattle.std.proofs.lemmas.Nat.{mod_below}
 use Rattle.std.proofs.lemmas.List.{take_all}
-use Rattle.vd_bits.specs.Lanes.{lane32}
+use Rattle.vd_bits.specs.Lanes.{lane16, lane32}
 use Rattle.vd_model.specs.declared.chain.Piece.{Piece}
 use Rattle.vd_words.specs.declared.access.Access.{Access}
 use Rattle.vd_words.specs.declared.access.Access.TheVariants.{Load, Store}
@@ -32,7 +33,7 @@ use Rattle.vd_ring.proofs.DriverBag.{offer_step}
 use Rattle.vd_split_ring.specs.SplitWords.{Spells, len_word, used_len, shows, shown_from, words_of, staged_chain}
 use Rattle.vd_split_ring.specs.SplitDriver.{Publishes, DriverNextAt, DriverNext, driver_act_at, driver_act, driver_offers, NamesOpen}
 use Rattle.vd_split_ring.specs.SplitRing.{Ring, HasEntered}
-use Rattle.vd_split_ring.specs.SplitDriverLaws.{DriverBags, IsOffered, IsCollected}
+use Rattle.vd_split_ring.specs.SplitDriverLaws.{DriverBags, IsOffered, IsCollected, CollectsNothing}
 use Rattle.vd_split_ring.proofs.DriverOffers.{publishes, staged_is_chain}
 use Rattle.vd_split_ring.proofs.DriverCollects.{collected_is, collects_last}
 use Rattle.vd_split_ring.proofs.DriverKeeps.{used_word}
@@ -160,17 +161,33 @@ look_shows false is = absurd (not_both (ap is_nothing is))
 all_collected : (o : List DriverDone) (s : List DeviceDone) → collects o ≡ take (length (collects o)) (gives s) → length (gives s) ≡ length (collects o) → collects o ≡ gives s
 all_collected o s is len = is ∙ take_all (length (collects o)) (gives s) (omega arith)
 
-nothing_at : (ws : List ℕ) (d : DriverView) (e : DeviceView) (now : DriverNow) (op : Op) (a : Access) → Ring ws (record d { doing = now }) e → DriverNextAt now (record d { doing = now }) op a
-    → driver_act_at now (record d { doing = now }) op a (answered ws a) ≡ act.Nothing → collects d.done ≡ gives e.done
-nothing_at ws d e Idle op.Collect (Load p) r h is =
-    let on : shows (slice_index ws p) (length (collects d.done)) ≡ true = look_shows (shows (slice_index ws p) (length (collects d.done))) is in
-    all_collected d.done e.done r.lists.collected ((looks_show ws (record d { doing = Idle }) e r).driver.0 (ap (λ (q : ℕ). shows (slice_index ws q) (length (collects d.done))) (sym h.1) ∙ on))
-nothing_at ws d e (Entered puts) op.Offer (Store p x) r h is = absurd (not_both (ap is_nothing is))
-nothing_at ws d e (Collecting (g ∷ w ∷ [])) op.Collect (Load p) r h is = absurd (not_both (ap is_nothing is))
-nothing_at ws d e _ _ _ r h is = absurd (not_both (ap is_nothing is))
+other_answer : (ws : List ℕ) (d : DriverView) (e : DeviceView) (o : Op) (a : Access) → (driver_act d o a (answered ws a) ≡ act.Nothing → ⊥) → (d.doing ≡ Idle → o ≡ op.Collect → ⊥) → CollectsNothing ws d e o a
+other_answer ws d e o a never other = record { only = λ is. absurd (never is); says = λ is. absurd (never is); shown = λ idle collect lane. absurd (other idle collect); all = λ is. absurd (never is) }
+
+nothing_at : (ws : List ℕ) (d : DriverView) (e : DeviceView) (now : DriverNow) (op : Op) (a : Access) → Ring ws (record d { doing = now }) e → DriverNextAt now (record d { doing = now }) op a → CollectsNothing ws (record d { doing = now }) e op a
+nothing_at ws d e Idle op.Collect (Load p) r h =
+    let g : ℕ = slice_index ws p in let m : ℕ = length (collects d.done) in
+    let on : (if shows g m then act.Nothing else act.Moved) ≡ act.Nothing → shows g m ≡ true = λ is. look_shows (shows g m) is in
+    record {
+      only = λ is. (refl, refl);
+      says = λ is. eqb-true (lane16 g 1) (m % 65536) (on is);
+      shown = λ idle collect lane. ap (λ (b : Bool). if b then act.Nothing else act.Moved) (eq-eqb (lane16 g 1) (m % 65536) lane);
+      all = λ is. all_collected d.done e.done r.lists.collected ((looks_show ws (record d { doing = Idle }) e r).driver.0 (ap (λ (q : ℕ). shows (slice_index ws q) m) (sym h.1) ∙ on is));
+    }
+nothing_at ws d e Idle op.Offer (Store p x) r h = other_answer ws (record d { doing = Idle }) e op.Offer (Store p x) (λ is. cc) (λ idle collect. cc)
+nothing_at ws d e (Offering puts) op.Offer (Store p x) r h = other_answer ws (record d { doing = Offering puts }) e op.Offer (Store p x) (λ is. cc) (λ idle collect. cc)
+nothing_at ws d e (Entered puts) op.Offer (Store p x) r h = other_answer ws (record d { doing = Entered puts }) e op.Offer (Store p x) (λ is. cc) (λ idle collect. cc)
+nothing_at ws d e (Collecting (g ∷ [])) op.Collect (Load p) r h = other_answer ws (record d { doing = Collecting (g ∷ []) }) e op.Collect (Load p) (λ is. cc) (λ idle collect. cc)
+nothing_at ws d e (Collecting (g ∷ w ∷ [])) op.Collect (Load p) r h = other_answer ws (record d { doing = Collecting (g ∷ w ∷ []) }) e op.Collect (Load p) (λ is. cc) (λ idle collect. cc)
+nothing_at ws d e Idle op.Control (Store p x) r h = other_answer ws (record d { doing = Idle }) e op.Control (Store p x) (λ is. cc) (λ idle collect. cc)
+nothing_at ws d e Idle op.Control (Load p) r h = other_answer ws (record d { doing = Idle }) e op.Control (Load p) (λ is. cc) (λ idle collect. cc)
+nothing_at ws d e _ _ _ r h = absurd h
+
+pub collects_nothing : (ws : List ℕ) (d : DriverView) (e : DeviceView) (op : Op) (a : Access) → Ring ws d e → DriverNext d op a → CollectsNothing ws d e op a
+collects_nothing ws d e op a r h = nothing_at ws d e d.doing op a r h
 
 pub driver_nothing : (ws : List ℕ) (d : DriverView) (e : DeviceView) (op : Op) (a : Access) → Ring ws d e → DriverNext d op a → driver_act d op a (answered ws a) ≡ act.Nothing → collects d.done ≡ gives e.done
-driver_nothing ws d e op a r h is = nothing_at ws d e d.doing op a r h is
+driver_nothing ws d e op a r h is = (collects_nothing ws d e op a r h).all is
 
 -- ---- the bag
 

@@ -22,7 +22,7 @@ use Rattle.vd_ring.proofs.ListSteps.{same_used, batch_one, entry_is, next_open, 
 use Rattle.vd_ring.proofs.ControlSteps.{commands_collected, acks_collected}
 use Rattle.vd_split_ring.specs.SplitWords.{command_word, ack_word, shows, shown_from, ShowsIndex, used_id, used_len}
 use Rattle.vd_split_ring.specs.SplitDriver.{NamesOpen, driver_looks, driver_collects}
-use Rattle.vd_split_ring.specs.SplitRing.{Driven, Served, Ring, DeviceDoing, HasSeen, Finds, Loads}
+use Rattle.vd_split_ring.specs.SplitRing.{DriverWords, DeviceWords, Ring, DeviceDoing, HasSeen, Finds, Loads}
 use Rattle.vd_split_ring.proofs.Areas.{shows_more, shows_further, shown_is}
 
 -- ---- the look
@@ -41,9 +41,9 @@ looks_at ws d e g true lane r eq = record {
   built = r.built;
   words = r.words;
   places = r.places;
-  driven = r.driven;
+  driver_words = r.driver_words;
   lists = r.lists;
-  served = r.served;
+  device_words = r.device_words;
   driver_signals = r.driver_signals;
   device_signals = r.device_signals;
   commands = r.commands;
@@ -64,9 +64,9 @@ looks_at ws d e g false lane r eq =
       built = r.built;
       words = r.words;
       places = r.places;
-      driven = r.driven;
+      driver_words = r.driver_words;
       lists = r.lists;
-      served = r.served;
+      device_words = r.device_words;
       driver_signals = r.driver_signals;
       device_signals = r.device_signals;
       commands = r.commands;
@@ -109,16 +109,16 @@ finds ws d e g w r is =
     let seen : HasSeen g d.seen (length (collects o)) = r.driver_doing in
     let more : length (collects o) < length (gives s) = omega (arith, seen.more, r.driver_seen) in
     let next = r.lists.cut more in
-    let n : Finds f o s w = record { used = next.0; begins = next.1; is_id = is ∙ r.served.ids (length (collects o)) next.0 (omega arith) next.1 } in (
+    let n : Finds f o s w = record { used = next.0; begins = next.1; is_id = is ∙ r.device_words.ids (length (collects o)) next.0 (omega arith) next.1 } in (
       record {
         same = r.same;
         lawful = r.lawful;
         built = r.built;
         words = r.words;
         places = r.places;
-        driven = r.driven;
+        driver_words = r.driver_words;
         lists = r.lists;
-        served = r.served;
+        device_words = r.device_words;
         driver_signals = r.driver_signals;
         device_signals = r.device_signals;
         commands = r.commands;
@@ -136,15 +136,15 @@ finds ws d e g w r is =
 
 -- ---- the last load
 
-driven_collected : (f : Frame) (o : List DriverDone) (u : Used) (ws : List ℕ) → 1 ≤ occurs u.number (open_at o) → Driven f o ws → Driven f (Collect (u ∷ []) ∷ o) ws
-driven_collected f o u ws here d = record {
+driver_words_collected : (f : Frame) (o : List DriverDone) (u : Used) (ws : List ℕ) → 1 ≤ occurs u.number (open_at o) → DriverWords f o ws → DriverWords f (Collect (u ∷ []) ∷ o) ws
+driver_words_collected f o u ws here d = record {
   index = d.index;
   entries = λ k low high. d.entries k (omega (arith, length_push (collects o) u)) high;
   spelled = λ k a. d.spelled k (Contains_from k (open_at o) (omega (arith, occurs_from k (open_at (Collect (u ∷ []) ∷ o)) a, occurs_without k u.number (open_at o) here)));
 }
 
-served_collected : (f : Frame) (o : List DriverDone) (u : Used) (s : List DeviceDone) (ws : List ℕ) → Served f o s ws → Served f (Collect (u ∷ []) ∷ o) s ws
-served_collected f o u s ws r = record {
+device_words_collected : (f : Frame) (o : List DriverDone) (u : Used) (s : List DeviceDone) (ws : List ℕ) → DeviceWords f o s ws → DeviceWords f (Collect (u ∷ []) ∷ o) s ws
+device_words_collected f o u s ws r = record {
   index = r.index;
   ids = λ j v low is. r.ids j v (omega (arith, length_push (collects o) u)) is;
   lens = λ j v low is. r.lens j v (omega (arith, length_push (collects o) u)) is;
@@ -178,7 +178,7 @@ collected_is ws d e g w x r is =
     let id : lane32 w 1 ≡ head f o u.number = n.is_id ∙ ap (λ (v : Used). head f o v.number) (sym same) in
     let number : with_head (head f o) (open_at o) (lane32 w 1) ≡ u.number =
     with_head_is (head f o) (open_at o) (lane32 w 1) u.number (sym id) here (λ j a e2. same_head f o j u.number r.places a here (e2 ∙ id)) in
-    let len : lane32 x 0 ≡ u.len = is ∙ r.served.lens m n.used (omega arith) n.begins ∙ ap (λ (v : Used). v.len) (sym same) in (
+    let len : lane32 x 0 ≡ u.len = is ∙ r.device_words.lens m n.used (omega arith) n.begins ∙ ap (λ (v : Used). v.len) (sym same) in (
       batch_one f (chain o) m (with_head (head f o) (open_at o) (lane32 w 1)) (lane32 x 0) (λ on. number ∙ r.lists.in_order on m more)
           ∙ ap (λ (v : Used). v ∷ []) (same_used (with_head (head f o) (open_at o) (lane32 w 1)) (lane32 x 0) u number len),
       more,
@@ -200,9 +200,9 @@ collects_last ws d e g w x r is =
         built = r.built;
         words = r.words;
         places = collect_places f o u r.places c.2;
-        driven = driven_collected f o u d.stored c.2 r.driven;
+        driver_words = driver_words_collected f o u d.stored c.2 r.driver_words;
         lists = lists_collected f o s r.lists c.1;
-        served = served_collected f o u s e.stored r.served;
+        device_words = device_words_collected f o u s e.stored r.device_words;
         driver_signals = r.driver_signals;
         device_signals = r.device_signals;
         commands = commands_collected f (command_word f) (ack_word f) o u d.stored c.2 r.commands;

@@ -18,9 +18,9 @@ use Rattle.vd_ring.proofs.HeldPlaces.{free_inside}
 use Rattle.vd_ring.proofs.ControlSteps.{next_free, commands_stored, commands_loaded, acks_stored, acks_loaded}
 use Rattle.vd_split_ring.specs.SplitWords.{width, used_from, commands_from, command_word, ack_word}
 use Rattle.vd_split_ring.specs.SplitDriver.{driver_commands, driver_acks}
-use Rattle.vd_split_ring.specs.SplitRing.{Driven, Served, Ring, DeviceDoing, Loads}
+use Rattle.vd_split_ring.specs.SplitRing.{DriverWords, DeviceWords, Ring, DeviceDoing, Loads}
 use Rattle.vd_split_ring.proofs.Areas.{areas, acks_follow, driver_stores, drivers_inside, commands_apart, command_drivers}
-use Rattle.vd_split_ring.proofs.DriverParts.{driven_past, signals_past}
+use Rattle.vd_split_ring.proofs.DriverParts.{driver_words_past, signals_past}
 
 -- ---- an act on control words changes none of the other parts
 
@@ -30,11 +30,11 @@ places_stored f o h i x p = record { once = p.once; sizes = p.sizes; as_many = p
 places_loaded : (f : Frame) (o : List DriverDone) (k x : ℕ) → Places f o → Places f (LoadAck k x ∷ o)
 places_loaded f o k x p = record { once = p.once; sizes = p.sizes; as_many = p.as_many; listed = p.listed; is_open = p.is_open; count = p.count; fits = p.fits; limited = p.limited }
 
-driven_stored : (f : Frame) (o : List DriverDone) (h i x : ℕ) (ws : List ℕ) → Driven f o ws → Driven f (StoreCommand h i x ∷ o) ws
-driven_stored f o h i x ws d = record { index = d.index; entries = d.entries; spelled = d.spelled }
+driver_words_stored : (f : Frame) (o : List DriverDone) (h i x : ℕ) (ws : List ℕ) → DriverWords f o ws → DriverWords f (StoreCommand h i x ∷ o) ws
+driver_words_stored f o h i x ws d = record { index = d.index; entries = d.entries; spelled = d.spelled }
 
-driven_loaded : (f : Frame) (o : List DriverDone) (k x : ℕ) (ws : List ℕ) → Driven f o ws → Driven f (LoadAck k x ∷ o) ws
-driven_loaded f o k x ws d = record { index = d.index; entries = d.entries; spelled = d.spelled }
+driver_words_loaded : (f : Frame) (o : List DriverDone) (k x : ℕ) (ws : List ℕ) → DriverWords f o ws → DriverWords f (LoadAck k x ∷ o) ws
+driver_words_loaded f o k x ws d = record { index = d.index; entries = d.entries; spelled = d.spelled }
 
 lists_stored : (f : Frame) (o : List DriverDone) (h i x : ℕ) (s : List DeviceDone) → Lists f o s → Lists f (StoreCommand h i x ∷ o) s
 lists_stored f o h i x s l = record {
@@ -66,11 +66,11 @@ lists_loaded f o k x s l = record {
   in_order = l.in_order;
 }
 
-served_stored : (f : Frame) (o : List DriverDone) (h i x : ℕ) (s : List DeviceDone) (ws : List ℕ) → Served f o s ws → Served f (StoreCommand h i x ∷ o) s ws
-served_stored f o h i x s ws r = record { index = r.index; ids = r.ids; lens = r.lens }
+device_words_stored : (f : Frame) (o : List DriverDone) (h i x : ℕ) (s : List DeviceDone) (ws : List ℕ) → DeviceWords f o s ws → DeviceWords f (StoreCommand h i x ∷ o) s ws
+device_words_stored f o h i x s ws r = record { index = r.index; ids = r.ids; lens = r.lens }
 
-served_loaded : (f : Frame) (o : List DriverDone) (k x : ℕ) (s : List DeviceDone) (ws : List ℕ) → Served f o s ws → Served f (LoadAck k x ∷ o) s ws
-served_loaded f o k x s ws r = record { index = r.index; ids = r.ids; lens = r.lens }
+device_words_loaded : (f : Frame) (o : List DriverDone) (k x : ℕ) (s : List DeviceDone) (ws : List ℕ) → DeviceWords f o s ws → DeviceWords f (LoadAck k x ∷ o) s ws
+device_words_loaded f o k x s ws r = record { index = r.index; ids = r.ids; lens = r.lens }
 
 loads_stored : (f : Frame) (o : List DriverDone) (h i x k w : ℕ) (ws : List ℕ) → Loads f o k w ws → Loads f (StoreCommand h i x ∷ o) k w ws
 loads_stored f o h i x k w ws l = record { is_head = l.is_head; words = l.words; left = l.left }
@@ -124,9 +124,9 @@ stores_command ws d e p x r n =
         built = r.built;
         words = driver_stores f ws d.stored e.stored q x r.words own;
         places = places_stored f o h i x r.places;
-        driven = driven_stored f o h i x (slice_set d.stored q x) (driven_past f o d.stored q x r.lawful r.places r.driven (omega arith));
+        driver_words = driver_words_stored f o h i x (slice_set d.stored q x) (driver_words_past f o d.stored q x r.lawful r.places r.driver_words (omega arith));
         lists = lists_stored f o h i x e.done r.lists;
-        served = served_stored f o h i x e.done e.stored r.served;
+        device_words = device_words_stored f o h i x e.done e.stored r.device_words;
         driver_signals = signals_past f d.armed d.bells d.stored q x past (λ a. omega arith) r.driver_signals;
         device_signals = r.device_signals;
         commands = commands_stored f (command_word f) (ack_word f) o i x d.stored r.places (commands_apart f) n.two n.room (omega arith) r.commands;
@@ -154,9 +154,9 @@ loads_ack ws d e y r k on last is =
       built = r.built;
       words = r.words;
       places = places_loaded f o k y r.places;
-      driven = driven_loaded f o k y d.stored r.driven;
+      driver_words = driver_words_loaded f o k y d.stored r.driver_words;
       lists = lists_loaded f o k y e.done r.lists;
-      served = served_loaded f o k y e.done e.stored r.served;
+      device_words = device_words_loaded f o k y e.done e.stored r.device_words;
       driver_signals = r.driver_signals;
       device_signals = r.device_signals;
       commands = commands_loaded f (command_word f) (ack_word f) o k y d.stored r.commands;

@@ -72,7 +72,7 @@ driver_keeps_at ws d e (Entered puts) op.Offer (Store p x) r h =
 driver_keeps_at ws d e Idle op.Collect (Load p) r h =
     let v : DriverView = record d { doing = Idle } in
     let g : ℕ = slice_index ws p in
-    let lane : lane16 g 1 ≡ length (gives e.done) % 65536 = ap (λ y. lane16 y 1) (used_word ws v e p r (omega (arith, h.1)) (omega (arith, h.1)) ∙ ap (λ q. slice_index e.stored q) h.1) ∙ r.served.index in
+    let lane : lane16 g 1 ≡ length (gives e.done) % 65536 = ap (λ y. lane16 y 1) (used_word ws v e p r (omega (arith, h.1)) (omega (arith, h.1)) ∙ ap (λ q. slice_index e.stored q) h.1) ∙ r.device_words.index in
     record {
       inside = omega (arith, r.words.wide, areas d.frame, h.1);
       keeps = looks ws d e g lane r;

@@ -26,12 +26,12 @@ use Rattle.vd_ring.proofs.ControlSteps.{next_free, head_before, commands_elsewhe
 use Rattle.vd_split_ring.specs.SplitWords.{IsLawful, IsDescriptors, width, used_from, commands_from, command_word, ack_word, lane_word, with_lane, entry_lane, spelling, reading, put, words_of, staged_chain, Stand}
 use Rattle.vd_split_ring.specs.SplitDriver.{CanOffer, Begins, Publishes, plan, stores, driver_offers}
 use Rattle.vd_split_ring.specs.SplitDriver.{Enters as EntersNext}
-use Rattle.vd_split_ring.specs.SplitRing.{Ring, Served, Stages, HasEntered, Loads, DeviceDoing}
+use Rattle.vd_split_ring.specs.SplitRing.{Ring, DeviceWords, Stages, HasEntered, Loads, DeviceDoing}
 use Rattle.vd_split_ring.proofs.Descriptors.{IsApart, Stands, stand_other}
 use Rattle.vd_split_ring.proofs.Tables.{IsWord, spelling_within, spelling_differ, staged_spelling}
 use Rattle.vd_split_ring.proofs.Direct.{IsNext, is_next}
 use Rattle.vd_split_ring.proofs.Areas.{areas, descriptor_drivers, descriptor_low, area_no_descriptor, driver_stores, lane_same, lane_inside}
-use Rattle.vd_split_ring.proofs.DriverParts.{room_lent, next_chain, next_free_place, needs_some, word_descriptor, spelled_past, slot_free, driven_described, driven_entered, driven_published, signals_descriptor, signals_lane}
+use Rattle.vd_split_ring.proofs.DriverParts.{room_lent, next_chain, next_free_place, needs_some, word_descriptor, spelled_past, slot_free, driver_words_described, driver_words_entered, driver_words_published, signals_descriptor, signals_lane}
 
 -- the places that the chain gets
 abbrev next_places : Frame → List DriverDone → List Piece → List ℕ
@@ -65,9 +65,9 @@ describes ws d e now puts p x r stand n =
         built = r.built;
         words = driver_stores f ws d.stored e.stored p x r.words (descriptor_drivers f p own);
         places = r.places;
-        driven = driven_described f o d.stored ps p x r.lawful r.places r.driven own some are_free w;
+        driver_words = driver_words_described f o d.stored ps p x r.lawful r.places r.driver_words own some are_free w;
         lists = r.lists;
-        served = r.served;
+        device_words = r.device_words;
         driver_signals = signals_descriptor f d.armed d.bells d.stored p x own r.driver_signals;
         device_signals = r.device_signals;
         commands = commands_elsewhere f (command_word f) (ack_word f) o d.stored p x r.places (λ h i under two e2. omega arith) r.commands;
@@ -119,9 +119,9 @@ enters ws d e puts p x r n =
         built = r.built;
         words = driver_stores f ws d.stored e.stored (lane_word f j) y r.words (inl low);
         places = r.places;
-        driven = driven_entered f o c d.stored h r.lawful r.places r.driven n.can small far;
+        driver_words = driver_words_entered f o c d.stored h r.lawful r.places r.driver_words n.can small far;
         lists = r.lists;
-        served = r.served;
+        device_words = r.device_words;
         driver_signals = signals_lane f d.armed d.bells d.stored j h small far (omega arith) under r.driver_signals;
         device_signals = r.device_signals;
         commands = commands_elsewhere f (command_word f) (ack_word f) o d.stored (lane_word f j) y r.places (λ g i below two e2. omega arith) r.commands;
@@ -139,8 +139,8 @@ enters ws d e puts p x r n =
 
 -- ---- the store of the index
 
-served_offered : (f : Frame) (o : List DriverDone) (c : List Piece) (s : List DeviceDone) (ws : List ℕ) → Places f o → Lists f o s → Served f o s ws → Served f (Offer c ∷ o) s ws
-served_offered f o c s ws pl l r = record {
+device_words_offered : (f : Frame) (o : List DriverDone) (c : List Piece) (s : List DeviceDone) (ws : List ℕ) → Places f o → Lists f o s → DeviceWords f o s ws → DeviceWords f (Offer c ∷ o) s ws
+device_words_offered f o c s ws pl l r = record {
   index = r.index;
   ids = λ j u low is.
       let g = entry_is f s j u l.entries is in
@@ -191,9 +191,9 @@ publishes ws d e puts p x r n =
       built = r.built;
       words = driver_stores f ws d.stored e.stored q y r.words (inl low);
       places = offer_places f o c r.places h.can.fits (room_lent f o c r.lawful h.can) h.can.limited;
-      driven = driven_published f o c d.stored r.places r.driven h.can r.lawful far (subst (λ (l : List Put). Stand d.stored l) h.whole h.stand) h.entry;
+      driver_words = driver_words_published f o c d.stored r.places r.driver_words h.can r.lawful far (subst (λ (l : List Put). Stand d.stored l) h.whole h.stand) h.entry;
       lists = lists_offered f o c e.done r.places r.lists;
-      served = served_offered f o c e.done e.stored r.places r.lists r.served;
+      device_words = device_words_offered f o c e.done e.stored r.places r.lists r.device_words;
       driver_signals = signals_lane f d.armed d.bells d.stored 1 v (omega arith) far (omega arith) (omega (arith, r.lawful.some_place)) r.driver_signals;
       device_signals = r.device_signals;
       commands = commands_offered f (command_word f) (ack_word f) o c (slice_set d.stored q y) r.places h.can.fits (room_lent f o c r.lawful h.can) h.can.control

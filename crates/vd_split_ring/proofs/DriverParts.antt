@@ -16,7 +16,7 @@ use Rattle.vd_ring.proofs.HeldPlaces.{open_below, chain_fits, head_held, few_ope
 use Rattle.vd_ring.proofs.ControlSteps.{head_before, head_new}
 use Rattle.vd_split_ring.specs.SplitWords.{IsLawful, IsDescriptors, commands_from, used_from, kick_at, lane_at, lane_word, with_lane, entry_lane, event_lane, spelling, Stand}
 use Rattle.vd_split_ring.specs.SplitDriver.{CanOffer}
-use Rattle.vd_split_ring.specs.SplitRing.{Driven, DriverSignals}
+use Rattle.vd_split_ring.specs.SplitRing.{DriverWords, DriverSignals}
 use Rattle.vd_split_ring.proofs.Descriptors.{stand_other}
 use Rattle.vd_split_ring.proofs.Direct.{lent_needs}
 use Rattle.vd_split_ring.proofs.Tables.{IsWord, spelling_within}
@@ -63,7 +63,7 @@ spelled_past f ws ps c p x len is inside apart = spelled_apart f ws ps c p x len
 pub open_inside : (f : Frame) (o : List DriverDone) (k q : ℕ) → Places f o → Contains (open_at o) k → 1 ≤ occurs q (places f o k) → q < f.size
 open_inside f o k q pl here a = places_inside f o k q pl (occurs_from k (open_at o) here) a
 
-open_past : (f : Frame) (o : List DriverDone) (ws : List ℕ) (p x k : ℕ) → IsLawful f → Places f o → Driven f o ws → (IsDescriptors f p → ⊥) → Contains (open_at o) k → Stand (slice_set ws p x) (spelling f (places f o k) (chain o k))
+open_past : (f : Frame) (o : List DriverDone) (ws : List ℕ) (p x k : ℕ) → IsLawful f → Places f o → DriverWords f o ws → (IsDescriptors f p → ⊥) → Contains (open_at o) k → Stand (slice_set ws p x) (spelling f (places f o k) (chain o k))
 open_past f o ws p x k l pl d apart here =
     let c = open_chain f o k l pl here in
     spelled_past f ws (places f o k) (chain o k) p x c.0 c.1 (λ q a. open_inside f o k q pl here a) apart (d.spelled k here)
@@ -81,16 +81,16 @@ word_apart f o ps p k pl some are_free here (inr t) (inr u) =
     omega (arith, head_held f o k pl is_open, free_apart f o k (head f o k) pl is_open (subst (λ (q : ℕ). 1 ≤ occurs q (free f o)) e (are_free (first ps) (first_occurs ps some))))
 
 -- a store in a word of free places
-pub driven_described : (f : Frame) (o : List DriverDone) (ws ps : List ℕ) (p x : ℕ) → IsLawful f → Places f o → Driven f o ws → IsDescriptors f p → 1 ≤ length ps → ((q : ℕ) → 1 ≤ occurs q ps → 1 ≤ occurs q (free f o)) → IsWord f ps p → Driven f o (slice_set ws p x)
-driven_described f o ws ps p x l pl d own some are_free w = record {
+pub driver_words_described : (f : Frame) (o : List DriverDone) (ws ps : List ℕ) (p x : ℕ) → IsLawful f → Places f o → DriverWords f o ws → IsDescriptors f p → 1 ≤ length ps → ((q : ℕ) → 1 ≤ occurs q ps → 1 ≤ occurs q (free f o)) → IsWord f ps p → DriverWords f o (slice_set ws p x)
+driver_words_described f o ws ps p x l pl d own some are_free w = record {
   index = lane_descriptor f ws p x 1 own (omega arith) ∙ d.index;
   entries = λ k a h. lane_descriptor f ws p x (entry_lane f k) own (entry_inside f k l.some_place) ∙ d.entries k a h;
   spelled = λ k here. let c = open_chain f o k l pl here in spelled_apart f ws (places f o k) (chain o k) p x c.0 c.1 (λ u. word_apart f o ps p k pl some are_free here w u) (d.spelled k here);
 }
 
 -- a store past the driver area, in no table
-pub driven_past : (f : Frame) (o : List DriverDone) (ws : List ℕ) (p x : ℕ) → IsLawful f → Places f o → Driven f o ws → commands_from f ≤ p → Driven f o (slice_set ws p x)
-driven_past f o ws p x l pl d past = record {
+pub driver_words_past : (f : Frame) (o : List DriverDone) (ws : List ℕ) (p x : ℕ) → IsLawful f → Places f o → DriverWords f o ws → commands_from f ≤ p → DriverWords f o (slice_set ws p x)
+driver_words_past f o ws p x l pl d past = record {
   index = lane_past f ws p x 1 (omega (arith, areas f)) (omega arith) ∙ d.index;
   entries = λ k a h. lane_past f ws p x (entry_lane f k) (omega (arith, areas f)) (entry_inside f k l.some_place) ∙ d.entries k a h;
   spelled = λ k here. open_past f o ws p x k l pl d (command_no_descriptor f p past) here;
@@ -104,9 +104,9 @@ slot_free f o c l pl can =
     (omega (arith, pl.count, few_open f o pl), omega (arith, few_open f o pl))
 
 -- the store of the entry of the next chain
-pub driven_entered : (f : Frame) (o : List DriverDone) (c : List Piece) (ws : List ℕ) (v : ℕ) → IsLawful f → Places f o → Driven f o ws → CanOffer f o c → v < 65536 → used_from f ≤ length ws
-    → Driven f o (slice_set ws (lane_word f (entry_lane f (length (offers o)))) (with_lane f ws (entry_lane f (length (offers o))) v))
-driven_entered f o c ws v l pl d can small wide =
+pub driver_words_entered : (f : Frame) (o : List DriverDone) (c : List Piece) (ws : List ℕ) (v : ℕ) → IsLawful f → Places f o → DriverWords f o ws → CanOffer f o c → v < 65536 → used_from f ≤ length ws
+    → DriverWords f o (slice_set ws (lane_word f (entry_lane f (length (offers o)))) (with_lane f ws (entry_lane f (length (offers o))) v))
+driver_words_entered f o c ws v l pl d can small wide =
     let m : ℕ = length (offers o) in
     let j : ℕ = entry_lane f m in
     let slot = slot_free f o c l pl can in
@@ -117,10 +117,10 @@ driven_entered f o c ws v l pl d can small wide =
     }
 
 -- the store of the index
-pub driven_published : (f : Frame) (o : List DriverDone) (c : List Piece) (ws : List ℕ) → Places f o → Driven f o ws → CanOffer f o c → IsLawful f → used_from f ≤ length ws
+pub driver_words_published : (f : Frame) (o : List DriverDone) (c : List Piece) (ws : List ℕ) → Places f o → DriverWords f o ws → CanOffer f o c → IsLawful f → used_from f ≤ length ws
     → Stand ws (spelling f (take (lent f c) (free f o)) c) → lane_at f ws (entry_lane f (length (offers o))) ≡ next_head f o
-    → Driven f (Offer c ∷ o) (slice_set ws (lane_word f 1) (with_lane f ws 1 ((length (offers o) + 1) % 65536)))
-driven_published f o c ws pl d can l wide stand entry =
+    → DriverWords f (Offer c ∷ o) (slice_set ws (lane_word f 1) (with_lane f ws 1 ((length (offers o) + 1) % 65536)))
+driver_words_published f o c ws pl d can l wide stand entry =
     let m : ℕ = length (offers o) in
     let v : ℕ = (m + 1) % 65536 in
     let slot = slot_free f o c l pl can in

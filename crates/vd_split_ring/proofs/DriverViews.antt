@@ -7,6 +7,10 @@ use Rattle.vd_words.specs.declared.access.Access.TheVariants.{Load, Store}
 use Rattle.vd_words.specs.declared.access.Op.{Op}
 use Rattle.vd_words.specs.declared.access.Op.TheVariants as op
 use Rattle.vd_words.specs.Step.{place_of}
+use Rattle.vd_ring.specs.declared.act.DriverAct.TheVariants as act
+use Rattle.vd_ring.specs.DriverSteps.{DriverDid}
+use Rattle.std.specs.Prelude.{◌-◌, ◌/◌, ◌%◌, unwrap_or}
+use Rattle.vd_bits.specs.Lanes.{lane32}
 use Rattle.vd_ring.specs.declared.frame.Frame.{Frame}
 use Rattle.vd_ring.specs.declared.frame.Put.{Put}
 use Rattle.vd_ring.specs.declared.driver.DriverDone.{DriverDone}
@@ -14,11 +18,11 @@ use Rattle.vd_ring.specs.declared.driver.DriverNow.{DriverNow}
 use Rattle.vd_ring.specs.declared.driver.DriverNow.TheVariants.{Idle, Offering, Entered, Collecting}
 use Rattle.vd_ring.specs.declared.driver.DriverView.{DriverView}
 use Rattle.vd_ring.specs.Frames.{lent}
-use Rattle.vd_ring.specs.History.{offers, collects, free, head, next_head}
-use Rattle.vd_ring.specs.Control.{StoresCommand, LoadsAck}
+use Rattle.vd_ring.specs.History.{offers, collected, collects, free, head, next_head}
+use Rattle.vd_ring.specs.Control.{StoresCommand, LoadsAck, last_collected}
 use Rattle.vd_ring.proofs.HeldInside.{inside, head_low, next_low}
-use Rattle.vd_split_ring.specs.SplitWords.{IsLawful, width, put, spelling, command_word, ack_word, id_word, len_word, entry_lane, shows, shown_from}
-use Rattle.vd_split_ring.specs.SplitDriver.{Begins, Publishes, DriverNextAt, DriverNext, driver_after_at}
+use Rattle.vd_split_ring.specs.SplitWords.{IsLawful, commands_from, words_of, staged_chain, width, put, spelling, command_word, ack_word, id_word, len_word, entry_lane, shows, shown_from}
+use Rattle.vd_split_ring.specs.SplitDriver.{Begins, Publishes, DriverNextAt, DriverNext, driver_after_at, driver_after, driver_act_at, driver_act}
 use Rattle.vd_split_ring.specs.SplitDriverLaws.{DriverAlone}
 use Rattle.vd_split_ring.proofs.Tables.{IsWord, spelling_within}
 use Rattle.vd_split_ring.proofs.DriverParts.{next_chain, next_free_place, needs_some, word_descriptor}
@@ -71,3 +75,26 @@ frame_at d _ _ _ r = refl
 
 pub driver_alone : (d : DriverView) (op : Op) (a : Access) → IsLawful d.frame → DriverNext d op a → DriverAlone d op a
 driver_alone d op a l h = record { inside = inside_at d d.doing op a l h; frame = λ r. frame_at d d.doing op a r }
+
+pub driver_frame : (d : DriverView) (op : Op) (a : Access) (r : ℕ) → (driver_after d op a r).frame ≡ d.frame
+driver_frame d op a r = frame_at d d.doing op a r
+
+-- ---- the acts
+
+looks_did : (d v w : DriverView) (b : Bool) → v.done ≡ d.done → w.done ≡ d.done → DriverDid (if b then act.Nothing else act.Moved) d.done (if b then v else w).done
+looks_did d v w true a b = a
+looks_did d v w false a b = inl b
+
+did_at : (now : DriverNow) (d : DriverView) (op : Op) (a : Access) (r : ℕ) → DriverDid (driver_act_at now d op a r) d.done (driver_after_at now d op a r).done
+did_at Idle d op.Collect (Load p) r = looks_did d (record d { seen = shown_from r (length (collects d.done)); shown = false }) (record d { seen = shown_from r (length (collects d.done)); shown = true; doing = Collecting (r ∷ []) }) (shows r (length (collects d.done))) refl refl
+did_at Idle d op.Offer (Store p x) r = inl refl
+did_at (Offering puts) d op.Offer (Store p x) r = inl refl
+did_at (Entered puts) d op.Offer (Store p x) r = (refl, (staged_chain d.frame (words_of puts), refl))
+did_at (Collecting (g ∷ [])) d op.Collect (Load p) r = inl refl
+did_at (Collecting (g ∷ w ∷ [])) d op.Collect (Load p) r = (collected d.frame d.done (lane32 w 1) (lane32 r 0), refl, refl)
+did_at Idle d op.Control (Store p x) r = inr (inl ((p - commands_from d.frame) / 2, (p - commands_from d.frame) % 2, x, refl))
+did_at Idle d op.Control (Load p) r = inr (inr (unwrap_or (last_collected d.done) 0, r, refl))
+did_at _ d _ _ r = inl refl
+
+pub driver_did : (d : DriverView) (op : Op) (a : Access) (r : ℕ) → DriverDid (driver_act d op a r) d.done (driver_after d op a r).done
+driver_did d op a r = did_at d.doing d op a r

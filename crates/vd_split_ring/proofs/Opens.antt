@@ -33,7 +33,7 @@ opens f l b =
         fits = All-nil (Fits f);
         limited = omega arith;
       };
-      driven = record {
+      driver_words = record {
         index = lane (lane_word f 1) 1 (omega (arith, areas f, lane_inside f 1 (omega arith)));
         entries = λ k a c. absurd (omega arith);
         spelled = λ k a. absurd (omega arith);
@@ -51,7 +51,7 @@ opens f l b =
         cut = λ h. absurd (omega arith);
         in_order = λ on j a. absurd (omega arith);
       };
-      served = record {
+      device_words = record {
         index = lane (used_from f) 1 (omega (arith, areas f));
         ids = λ j u low is. absurd cc;
         lens = λ j u low is. absurd cc;

@@ -32,7 +32,7 @@ open_stands ws d e k r here = λ i b h.
     let c = open_chain f o k r.lawful r.places here in
     let w = spelling_within f (places f o k) (chain o k) c.0 c.1 i b h in
     let own = word_descriptor f (places f o k) (slice_index_or (spelling f (places f o k) (chain o k)) i b).place (omega (arith, c.0, needs_some f (chain o k) c.1)) (λ q n. places_inside f o k q r.places a n) w in
-    r.words.drivers (slice_index_or (spelling f (places f o k) (chain o k)) i b).place (descriptor_drivers f (slice_index_or (spelling f (places f o k) (chain o k)) i b).place own) ∙ r.driven.spelled k here i b h
+    r.words.drivers (slice_index_or (spelling f (places f o k) (chain o k)) i b).place (descriptor_drivers f (slice_index_or (spelling f (places f o k) (chain o k)) i b).place own) ∙ r.driver_words.spelled k here i b h
 
 pub spells : (ws : List ℕ) (d : DriverView) (e : DeviceView) (k : ℕ) → Ring ws d e → Contains (open_at d.done) k → Spells d.frame ws (head d.frame d.done k) (chain d.done k)
 spells ws d e k r here =

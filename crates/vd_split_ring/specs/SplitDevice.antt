@@ -105,8 +105,9 @@ device_gives v a b p x =
     let us = given v.frame v.done (lane32 a 1) (lane32 b 0) in
     record v { done = Give us ∷ v.done; stored = slice_set v.stored p x; doing = device_published (length (gives v.done)) (length (gives v.done ++ us)) }
 
-abbrev pub device_rests : DeviceView → DeviceView
-device_rests v = record v { done = Rest ∷ v.done; armed = None }
+-- its look is no look for a chain: what the last one showed stays, but no later index is before this one
+abbrev pub device_rests : DeviceView → ℕ → DeviceView
+device_rests v r = record v { done = Rest ∷ v.done; armed = None; seen = shown_from r (length (takes v.done)) }
 
 abbrev pub device_commands : DeviceView → ℕ → ℕ → DeviceView
 device_commands v p r =
@@ -122,7 +123,7 @@ device_after_at (Taking (r ∷ w ∷ ws)) v op.Take (Load p) x = device_loads v 
 device_after_at Idle v op.Give (Store p x) r = device_stores v p x (Giving (x ∷ []))
 device_after_at (Giving (a ∷ [])) v op.Give (Store p x) r = device_stores v p x (Giving (a ∷ x ∷ []))
 device_after_at (Giving (a ∷ b ∷ [])) v op.Give (Store p x) r = device_gives v a b p x
-device_after_at Idle v op.Rest (Load p) r = device_rests v
+device_after_at Idle v op.Rest (Load p) r = device_rests v r
 device_after_at Idle v op.Control (Load p) r = device_commands v p r
 device_after_at Idle v op.Control (Store p x) r = device_acks v p x
 device_after_at _ v _ _ _ = v

@@ -1,9 +1,13 @@
 -- What the laws of a split ring's driver say. Each is the contract of a function in src/driver_laws.rt.
-use Rattle.std.specs.Prelude.{◌≡◌, ℕ, ◌<◌, List, [], ◌∷◌, ◌++◌, length}
+use Rattle.std.specs.Prelude.{◌≡◌, ℕ, ◌%◌, ◌<◌, List, [], ◌∷◌, ◌++◌, length}
+use Rattle.vd_bits.specs.Lanes.{lane16}
 use Rattle.vd_model.specs.declared.chain.Piece.{Piece}
 use Rattle.vd_words.specs.declared.access.Access.{Access}
 use Rattle.vd_words.specs.declared.access.Op.{Op}
+use Rattle.vd_words.specs.declared.access.Op.TheVariants as op
 use Rattle.vd_words.specs.Step.{place_of, answered, written}
+use Rattle.vd_ring.specs.declared.act.DriverAct.TheVariants as act
+use Rattle.vd_ring.specs.declared.driver.DriverNow.TheVariants.{Idle}
 use Rattle.vd_ring.specs.declared.driver.DriverView.{DriverView}
 use Rattle.vd_ring.specs.declared.device.DeviceView.{DeviceView}
 use Rattle.vd_ring.specs.History.{offers, collects, gives, head, next_head, entry, used_at}
@@ -43,3 +47,11 @@ pub record IsCollected (ws : List ℕ) (d : DriverView) (e : DeviceView) (op : O
   pub is_entry : used_at (gives e.done) (length (collects d.done)) ≡ entry number len
   pub collected : collects (driver_after d op a (answered ws a)).done ≡ collects d.done ++ entry number len ∷ []
   pub is_head : at_head ≡ head d.frame d.done number
+
+-- `Nothing` is the answer of a collect's look alone, exactly where the loaded index is the count collected modulo 65,536; then all
+-- entries given are collected
+pub record CollectsNothing (ws : List ℕ) (d : DriverView) (e : DeviceView) (o : Op) (a : Access) : Type 0 where
+  pub only : driver_act d o a (answered ws a) ≡ act.Nothing → (d.doing ≡ Idle) × (o ≡ op.Collect)
+  pub says : driver_act d o a (answered ws a) ≡ act.Nothing → lane16 (answered ws a) 1 ≡ length (collects d.done) % 65536
+  pub shown : d.doing ≡ Idle → o ≡ op.Collect → lane16 (answered ws a) 1 ≡ length (collects d.done) % 65536 → driver_act d o a (answered ws a) ≡ act.Nothing
+  pub all : driver_act d o a (answered ws a) ≡ act.Nothing → collects d.done ≡ gives e.done

@@ -25,14 +25,14 @@ use Rattle.vd_split_ring.specs.SplitDevice.{loaded_head}
 -- ---- the words
 
 -- each word is what its one writer last stored in it
-pub record Words (f : Frame) (ws driven served : List ℕ) : Type 0 where
+pub record Words (f : Frame) (ws by_driver by_device : List ℕ) : Type 0 where
   -- the ring and both images have as many words as its areas, control words and bells counted
-  pub wide : (length ws ≡ width f) × (length driven ≡ width f) × (length served ≡ width f)
-  pub drivers : (i : ℕ) → IsDrivers f i → slice_index ws i ≡ slice_index driven i
-  pub devices : (i : ℕ) → IsDevices f i → slice_index ws i ≡ slice_index served i
+  pub wide : (length ws ≡ width f) × (length by_driver ≡ width f) × (length by_device ≡ width f)
+  pub drivers : (i : ℕ) → IsDrivers f i → slice_index ws i ≡ slice_index by_driver i
+  pub devices : (i : ℕ) → IsDevices f i → slice_index ws i ≡ slice_index by_device i
 
 -- what the driver's words say of its chains
-pub record Driven (f : Frame) (o : List DriverDone) (stored : List ℕ) : Type 0 where
+pub record DriverWords (f : Frame) (o : List DriverDone) (stored : List ℕ) : Type 0 where
   -- the available index is the count of chains offered
   pub index : lane_at f stored 1 ≡ length (offers o) % 65536
   -- the ring entry of each chain that the driver may still count on is its head
@@ -41,7 +41,7 @@ pub record Driven (f : Frame) (o : List DriverDone) (stored : List ℕ) : Type 0
   pub spelled : (k : ℕ) → Contains (open_at o) k → Stand stored (spelling f (places f o k) (chain o k))
 
 -- what the device's words say of what it gave
-pub record Served (f : Frame) (o : List DriverDone) (s : List DeviceDone) (stored : List ℕ) : Type 0 where
+pub record DeviceWords (f : Frame) (o : List DriverDone) (s : List DeviceDone) (stored : List ℕ) : Type 0 where
   -- the used index is the count of entries given
   pub index : used_index f stored ≡ length (gives s) % 65536
   -- where a give begins that is not collected, its last chain's head and length stand
@@ -136,11 +136,11 @@ pub record Ring (ws : List ℕ) (d : DriverView) (e : DeviceView) : Type 0 where
   -- each place is free or held by one open chain; no chain was offered past the limit, the size or the bounds
   pub places : Places d.frame d.done
   -- the driver's index, entries and descriptors are those of its chains
-  pub driven : Driven d.frame d.done d.stored
+  pub driver_words : DriverWords d.frame d.done d.stored
   -- taken is a prefix of offered, and collected of given; each chain is given once
   pub lists : Lists d.frame d.done e.done
   -- the device's index and entries are those of what it gave
-  pub served : Served d.frame d.done e.done e.stored
+  pub device_words : DeviceWords d.frame d.done e.done e.stored
   -- flags, event words and bells are those of where each side is armed and of how many bells it stored
   pub driver_signals : DriverSignals d.frame d.armed d.bells d.stored
   pub device_signals : DeviceSignals d.frame e.armed e.bells e.stored

@@ -3,14 +3,14 @@ ghost use Rattle.std.specs.Prelude.{◌≡◌, ℕ, List};
 ghost use Rattle.vd_words.specs.declared.access.Access.{Access};
 ghost use Rattle.vd_words.specs.declared.access.Op.{Op};
 ghost use Rattle.vd_words.specs.Step.{answered};
-ghost use Rattle.vd_ring.specs.declared.act.DriverAct.TheVariants.{Offered, Collected, Nothing};
+ghost use Rattle.vd_ring.specs.declared.act.DriverAct.TheVariants.{Offered, Collected};
 ghost use Rattle.vd_ring.specs.declared.device.DeviceView.{DeviceView};
 ghost use Rattle.vd_ring.specs.declared.driver.DriverView.{DriverView};
 ghost use Rattle.vd_ring.specs.Bag.{State};
-ghost use Rattle.vd_ring.specs.History.{collects, gives};
+ghost use Rattle.vd_ring.specs.DriverSteps.{DriverDid};
 ghost use Rattle.vd_ring.specs.Steps.{StandsFor};
-ghost use Rattle.vd_split_ring.specs.SplitDriver.{DriverNext, driver_act};
-ghost use Rattle.vd_split_ring.specs.SplitDriverLaws.{DriverKeeps, DriverAlone, DriverBags, IsOffered, IsCollected};
+ghost use Rattle.vd_split_ring.specs.SplitDriver.{DriverNext, driver_after, driver_act};
+ghost use Rattle.vd_split_ring.specs.SplitDriverLaws.{DriverKeeps, DriverAlone, DriverBags, IsOffered, IsCollected, CollectsNothing};
 ghost use Rattle.vd_split_ring.specs.SplitRing.{Ring};
 ghost use Rattle.vd_split_ring.specs.SplitWords.{IsLawful};
 
@@ -19,9 +19,12 @@ pub fn driver_law()
     ensures { (ws : List ℕ) (d : DriverView) (e : DeviceView) (op : Op) (a : Access) → Ring ws d e → DriverNext d op a → DriverKeeps ws d e op a }
 {}
 
-/// From the view alone: it is to one of the ring's words, and leaves the frame.
+/// From the view alone: an access that is next is to one of the ring's words, none changes the frame, and each answer says what
+/// was done.
 pub fn driver_alone_law()
-    ensures { (d : DriverView) (op : Op) (a : Access) → IsLawful d.frame → DriverNext d op a → DriverAlone d op a }
+    ensures inside { (d : DriverView) (op : Op) (a : Access) → IsLawful d.frame → DriverNext d op a → DriverAlone d op a }
+    ensures frame { (d : DriverView) (op : Op) (a : Access) (r : ℕ) → (driver_after d op a r).frame ≡ d.frame }
+    ensures did { (d : DriverView) (op : Op) (a : Access) (r : ℕ) → DriverDid (driver_act d op a r) d.done (driver_after d op a r).done }
 {}
 
 /// The answer names the one step of the ring's bag.
@@ -39,7 +42,8 @@ pub fn driver_collected_law()
     ensures { (ws : List ℕ) (d : DriverView) (e : DeviceView) (op : Op) (a : Access) (k l h : ℕ) → Ring ws d e → DriverNext d op a → driver_act d op a (answered ws a) ≡ Collected k l h → IsCollected ws d e op a k l h }
 {}
 
-/// `Nothing` comes only where all that was given is collected.
+/// `Nothing` is the answer of a collect exactly where the loaded index is the count collected, modulo 65,536. Then all entries
+/// given are collected.
 pub fn driver_nothing_law()
-    ensures { (ws : List ℕ) (d : DriverView) (e : DeviceView) (op : Op) (a : Access) → Ring ws d e → DriverNext d op a → driver_act d op a (answered ws a) ≡ Nothing → collects d.done ≡ gives e.done }
+    ensures { (ws : List ℕ) (d : DriverView) (e : DeviceView) (op : Op) (a : Access) → Ring ws d e → DriverNext d op a → CollectsNothing ws d e op a }
 {}

@@ -1,5 +1,5 @@
-use Rattle.vd_split_ring.proofs.DriverAnswers.{driver_nothing}
+use Rattle.vd_split_ring.proofs.DriverAnswers.{collects_nothing}
 use Rattle.vd_split_ring.proofs.driver_laws.driver_nothing_law.Goals as goal
 
 pub returns : goal.returns
-returns c = driver_nothing
+returns c = collects_nothing
