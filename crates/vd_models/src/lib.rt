@@ -3,6 +3,7 @@
 
 mod cursor;
 mod device;
+mod driving;
 mod serving;
 
 pub use cursor::Cursor;
