@@ -1,26 +1,25 @@
 -- What a take, a give and a rest do to what a model device holds and has recorded.
-use Rattle.std.proofs.Common.{◌≡◌, ℕ, zero, suc, ◌+◌, ◌-◌, ◌<◌, ◌≤◌, ◌==◌, Bool, true, false, Option, Some, None, List, [], ◌∷◌, ◌++◌, length, map, take, drop, slice_get, slice_index_or, nat_lt, if◌then◌else◌, refl, sym, ◌∙◌, ap, subst, arith, inl, inr}
-use Rattle.std.specs.List.{All, Contains}
+use Rattle.std.proofs.Common.{◌≡◌, ℕ, zero, suc, ◌+◌, ◌-◌, ◌<◌, ◌≤◌, Bool, true, false, Some, List, [], ◌∷◌, ◌++◌, length, drop, slice_get, slice_index_or, nat_lt, refl, sym, ◌∙◌, ap, subst, arith, inl, inr}
+use Rattle.std.specs.List.{All}
 use Rattle.std.proofs.lemmas.Bool.{cases_lt}
 use Rattle.std.proofs.lemmas.List.{map-append, map_push, length-map, length-append, length_push, take_all, drop-append-le, get_or_append_left, get_or_push, get_or-drop, nil_from_length}
 use Rattle.std.proofs.lemmas.List.Elements.{All-push, All-weaker}
 use Rattle.std.proofs.lemmas.Option.{slice_get_within, get_or_from_slice_get}
 use Rattle.vd_model.specs.declared.chain.Piece.{Piece}
 use Rattle.vd_model.specs.declared.record.Begun.{Begun}
-use Rattle.vd_model.specs.Chains.{writable}
 use Rattle.vd_ring.specs.declared.device.DeviceDone.{DeviceDone}
 use Rattle.vd_ring.specs.declared.device.DeviceDone.TheVariants.{Take, Give, Rest}
 use Rattle.vd_ring.specs.declared.frame.Frame.{Frame}
 use Rattle.vd_ring.specs.declared.frame.Used.{Used}
 use Rattle.vd_ring.specs.History.{entry, takes, gives, running, numbers, occurs, IsWhole}
-use Rattle.vd_ring.proofs.Counts.{one, one_more, one_below, one_above, occurs_push, occurs_without, occurs_rest, Contains_from}
+use Rattle.vd_ring.proofs.Counts.{one, one_more, one_below, one_above, occurs_push, occurs_without, Contains_from}
 use Rattle.vd_ring.proofs.HeldPlaces.{numbers_push}
 use Rattle.vd_layout.specs.Device.{MayGive}
 use Rattle.vd_bus.specs.declared.device.Attached.{Attached}
 use Rattle.vd_bus.specs.Device.{IsServing, IsJournalled, IsBegun, chains_of, lens_of}
 use Rattle.vd_models.specs.declared.serving.Held.{Held}
-use Rattle.vd_models.specs.Serving.{IsHeld, IsSpread, next_held, rest_held, held_numbers, begun_of, held_of, given_len}
-use Rattle.vd_models.proofs.Lists.{next_is, All-rest_held, All-next}
+use Rattle.vd_models.specs.Serving.{IsHeld, next_held, rest_held, held_numbers, begun_of, held_of}
+use Rattle.vd_models.proofs.Lists.{next_is, All-rest_held}
 
 -- ---- the journal
 

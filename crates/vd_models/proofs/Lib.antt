@@ -4,3 +4,4 @@ pub mod Turns
 pub mod Phases
 pub mod Parties
 pub mod Scripts
+pub mod Drives

@@ -1,16 +1,16 @@
 -- Lists of what is held and of what was begun.
-use Rattle.std.proofs.Common.{◌≡◌, ℕ, zero, suc, ◌+◌, ◌-◌, ◌<◌, ◌≤◌, ◌==◌, Bool, true, false, Option, Some, None, List, [], ◌∷◌, ◌++◌, length, map, take, drop, slice_get, slice_index_or, if◌then◌else◌, refl, sym, ◌∙◌, ap, subst, arith, inl, inr}
-use Rattle.std.specs.List.{All, sum_by}
-use Rattle.std.proofs.lemmas.Bool.{cases_eq, cases_lt, eq-eqb, ne_eqb}
-use Rattle.std.proofs.lemmas.List.{map-append, map_push, length-map, length-append, length_push, take_more, take_all, append-nil, append_assoc, get_or-map}
+use Rattle.std.proofs.Common.{◌≡◌, ℕ, ◌+◌, ◌-◌, ◌<◌, ◌≤◌, Bool, true, false, Some, List, [], ◌∷◌, ◌++◌, length, take, slice_get, if◌then◌else◌, refl, sym, ◌∙◌, ap, subst, arith, inl, inr}
+use Rattle.std.specs.List.{All}
+use Rattle.std.proofs.lemmas.Bool.{cases_eq, eq-eqb, ne_eqb}
+use Rattle.std.proofs.lemmas.List.{map_push, length_push, take_more, take_all, append-nil, append_assoc}
 use Rattle.std.proofs.lemmas.List.Elements.{All-take, All-drop}
 use Rattle.std.proofs.lemmas.List.Sums.{sum_by-cons}
-use Rattle.std.proofs.lemmas.Option.{slice_get_within, get_or_from_slice_get, slice_get-get_or}
+use Rattle.std.proofs.lemmas.Option.{slice_get_within, get_or_from_slice_get}
 use mathlib.Core.List.{IsPrefix}
 use Rattle.vd_model.specs.declared.chain.Piece.{Piece}
-use Rattle.vd_model.specs.Chains.{total, readable, writable, readable_len, writable_len}
+use Rattle.vd_model.specs.Chains.{total, readable, readable_len}
 use Rattle.vd_ring.specs.History.{without, occurs}
-use Rattle.vd_ring.proofs.Counts.{one, one_same, occurs_push, occurs_at}
+use Rattle.vd_ring.proofs.Counts.{one_same, occurs_push}
 use Rattle.vd_models.specs.declared.serving.Held.{Held}
 use Rattle.vd_models.specs.Serving.{next_held, rest_held, held_numbers}
 

@@ -1,23 +1,22 @@
 -- From what a model device holds to what its calls do.
-use Rattle.std.proofs.Common.{◌≡◌, ◌≢◌, ◌⊎◌, ◌↔◌, ℕ, ◌+◌, ◌-◌, ◌<◌, ◌≤◌, ◌==◌, Bool, true, false, Option, Some, None, Result, Ok, Err, is_err, OnOk, List, [], ◌∷◌, length, drop, nat_lt, if◌then◌else◌, refl, sym, ◌∙◌, ap, subst, arith, inl, inr}
+use Rattle.std.proofs.Common.{◌≡◌, ◌↔◌, ℕ, ◌+◌, ◌<◌, ◌≤◌, ◌==◌, Bool, true, false, Option, Some, None, Result, Ok, Err, is_err, OnOk, List, [], length, nat_lt, if◌then◌else◌, refl, sym, ◌∙◌, ap, subst, arith, inl, inr}
 use Rattle.std.specs.List.{All}
 use Rattle.std.proofs.lemmas.Bool.{cases_eq, cases_lt, eq-eqb, ne_eqb}
 use Rattle.std.proofs.lemmas.List.{drop_all}
 use Rattle.std.proofs.lemmas.List.Elements.{All-nil}
-use Rattle.vd_model.specs.declared.chain.Piece.{Piece}
 use Rattle.vd_model.specs.declared.record.Begun.{Begun}
 use Rattle.vd_ring.specs.declared.device.DeviceDone.{DeviceDone}
 use Rattle.vd_ring.specs.declared.device.DeviceView.{DeviceView}
 use Rattle.vd_ring.specs.declared.frame.Used.{Used}
 use Rattle.vd_ring.specs.History.{takes, gives, running, numbers, occurs, entry, IsWhole}
-use Rattle.vd_ring.proofs.Counts.{one, one_below, one_above, occurs_rest}
+use Rattle.vd_ring.proofs.Counts.{one_below, one_above, occurs_rest}
 use Rattle.vd_layout.specs.declared.moves.Move.{Move}
 use Rattle.vd_layout.specs.declared.moves.Move.TheVariants as move
 use Rattle.vd_layout.specs.Begun.{DeviceOp}
 use Rattle.vd_layout.specs.Device.{DeviceModel, IsLawfulDevice, IsStill}
 use Rattle.vd_bus.specs.declared.device.Attached.{Attached}
 use Rattle.vd_bus.specs.declared.journal.Journal.{Journal}
-use Rattle.vd_bus.specs.Device.{IsServing, IsJournalled, IsBegun, chains_of}
+use Rattle.vd_bus.specs.Device.{IsJournalled, IsBegun, chains_of}
 use Rattle.vd_bus.specs.Entries.{Reserved}
 use Rattle.circular_buffer.specs.Buffer.{Buffer}
 use Rattle.vd_models.specs.declared.serving.Held.{Held}

@@ -1,25 +1,20 @@
 -- A model device's turns over plain words.
-use Rattle.std.proofs.Common.{◌≡◌, ◌≢◌, ◌⊎◌, ℕ, ◌+◌, ◌<◌, ◌≤◌, Bool, true, false, List, [], ◌++◌, length, take, refl, sym, ◌∙◌, ap, subst, arith, inl, inr}
+use Rattle.std.proofs.Common.{◌≡◌, ℕ, ◌+◌, ◌≤◌, true, List, length, refl, sym, ◌∙◌, ap, arith, inl, inr}
 use Rattle.std.proofs.lemmas.List.{take_all, length-append}
 use mathlib.Core.List.{IsPrefix}
 use Rattle.vd_words.specs.Model.{PortModel, IsLawfulPort}
 use Rattle.vd_words.specs.Own.{IsOwn}
-use Rattle.vd_ring.specs.declared.act.DeviceAct.TheVariants as act
 use Rattle.vd_ring.specs.declared.device.DeviceView.{DeviceView}
 use Rattle.vd_ring.specs.declared.driver.DriverView.{DriverView}
 use Rattle.vd_ring.specs.History.{offers, takes, gives}
-use Rattle.vd_layout.specs.Begun.{DeviceOp}
 use Rattle.vd_layout.specs.Driver.{DriverModel}
 use Rattle.vd_layout.specs.Device.{DeviceModel}
 use Rattle.vd_layout.specs.Layout.{LayoutModel, IsLawfulLayout}
 use Rattle.vd_layout.specs.Plain.{plain_step, own_plain_device}
 use Rattle.vd_bus.specs.declared.device.Attached.{Attached}
-use Rattle.vd_bus.specs.Device.{HasServed}
-use Rattle.vd_models.specs.declared.serving.Stage.{Stage}
 use Rattle.vd_models.specs.declared.serving.Turn.{Turn}
 use Rattle.vd_models.specs.declared.serving.Turn.TheVariants.{Worked, Waits}
-use Rattle.vd_models.specs.declared.serving.Held.{Held}
-use Rattle.vd_models.specs.Serving.{State, state, Serves, Opens, IsTurn, SoFar, IsServedAll, StageIs, is_done}
+use Rattle.vd_models.specs.Serving.{State, Opens, IsTurn, SoFar, IsServedAll, is_done}
 use Rattle.vd_models.proofs.Lists.{prefix_same, prefix_through}
 use Rattle.vd_models.specs.Laws.{at_done}
 

@@ -1,6 +1,6 @@
 -- What each answer of the end leaves of a model device.
-use Rattle.std.proofs.Common.{◌≡◌, ◌≢◌, ℕ, zero, suc, ◌+◌, ◌-◌, ◌*◌, ◌<◌, ◌≤◌, ◌==◌, ◌||◌, Bool, true, false, Option, Some, None, nat_lt, List, [], ◌∷◌, ◌++◌, length, refl, sym, ◌∙◌, ap, subst, arith, inl, inr}
-use Rattle.std.proofs.lemmas.Bool.{cases_eq, cases_lt, eq-eqb, ne_eqb, ltb-true, lt-ltb}
+use Rattle.std.proofs.Common.{◌≡◌, ◌≢◌, ℕ, zero, suc, ◌+◌, ◌-◌, ◌*◌, ◌<◌, ◌≤◌, ◌==◌, ◌||◌, Bool, true, false, Some, nat_lt, List, [], ◌∷◌, ◌++◌, length, refl, sym, ◌∙◌, ap, subst, arith, inl, inr}
+use Rattle.std.proofs.lemmas.Bool.{cases_eq, eq-eqb, ne_eqb, ltb-true, lt-ltb}
 use Rattle.std.proofs.lemmas.List.{length_push, nil_from_length}
 use Rattle.vd_model.specs.declared.chain.Piece.{Piece}
 use Rattle.vd_model.specs.declared.features.Features.{Features}
@@ -12,7 +12,7 @@ use Rattle.vd_ring.specs.declared.device.DeviceDone.{DeviceDone}
 use Rattle.vd_ring.specs.declared.device.DeviceDone.TheVariants.{Take, Give, Rest}
 use Rattle.vd_ring.specs.declared.device.DeviceView.{DeviceView}
 use Rattle.vd_ring.specs.declared.frame.Frame.{Frame}
-use Rattle.vd_ring.specs.History.{entry, takes, gives, running}
+use Rattle.vd_ring.specs.History.{entry, takes, gives}
 use Rattle.vd_layout.specs.Begun.{DeviceOp, DevicePublished, DeviceGoesOn}
 use Rattle.vd_layout.specs.Device.{DeviceModel, IsDeviceStep, IsLawfulDevice}
 use Rattle.vd_bus.specs.declared.device.Attached.{Attached}
@@ -23,7 +23,7 @@ use Rattle.vd_models.specs.declared.serving.Held.{Held}
 use Rattle.vd_models.specs.declared.serving.Stage.{Stage}
 use Rattle.vd_models.specs.declared.serving.Stage.TheVariants as stage
 use Rattle.vd_models.specs.declared.serving.Turn.TheVariants.{Worked, Waits}
-use Rattle.vd_models.specs.Serving.{State, state, Serves, Opens, IsTurn, IsHeld, StageIs, HasWindow, next_held, rest_held, begun_of, held_of, taken_stage, given_stage, is_done, weight, operations, some_held, work_left, HasMore}
+use Rattle.vd_models.specs.Serving.{state, Serves, Opens, IsTurn, IsHeld, StageIs, HasWindow, next_held, rest_held, begun_of, held_of, taken_stage, given_stage, is_done, weight, operations, some_held, HasMore}
 use Rattle.vd_models.proofs.Lists.{prefix_same, prefix_push, next_is, All-next}
 use Rattle.vd_models.proofs.Holding.{serving_taken, serving_given, serving_rested, held_taken, held_given, held_rested, takes_rested}
 
@@ -215,11 +215,11 @@ module _ {P E : Type 0} (port : PortModel P) (e : DeviceModel E) (law : IsLawful
         rested = λ z. let t : act.Taken k c ≡ act.Rested = s.is_answer ∙ z in absurd (cc);
         waits = λ z. absurd (cc);
         nearer = λ z.
-          let one : all - length begun'.items + 1 ≡ all - length begun.items = omega arith in
-          let steps = operations_taken full (all - length begun'.items) (length held.items) in
-          let there : operations stage.Taking (all - length begun'.items + 1) (length held.items) ≡ operations stage.Taking (all - length begun.items) (length held.items) = ap (λ m. operations stage.Taking m (length held.items)) one in
-          let here : operations (taken_stage full) (all - length begun'.items) (length held'.items) ≡ operations (taken_stage full) (all - length begun'.items) (length held.items + 1) = ap (operations (taken_stage full) (all - length begun'.items)) h' in
-          fewer (operations (taken_stage full) (all - length begun'.items) (length held'.items)) (operations stage.Taking (all - length begun.items) (length held.items)) (weight (e.begun y) (e.left y)) (weight (e.begun a) (e.left a)) (omega (arith, steps, there, here)) (omega (arith, now));
+            let one : all - length begun'.items + 1 ≡ all - length begun.items = omega arith in
+            let steps = operations_taken full (all - length begun'.items) (length held.items) in
+            let there : operations stage.Taking (all - length begun'.items + 1) (length held.items) ≡ operations stage.Taking (all - length begun.items) (length held.items) = ap (λ m. operations stage.Taking m (length held.items)) one in
+            let here : operations (taken_stage full) (all - length begun'.items) (length held'.items) ≡ operations (taken_stage full) (all - length begun'.items) (length held.items + 1) = ap (operations (taken_stage full) (all - length begun'.items)) h' in
+            fewer (operations (taken_stage full) (all - length begun'.items) (length held'.items)) (operations stage.Taking (all - length begun.items) (length held.items)) (weight (e.begun y) (e.left y)) (weight (e.begun a) (e.left a)) (omega (arith, steps, there, here)) (omega (arith, now));
       }
 
   -- ---- a give
@@ -283,9 +283,9 @@ module _ {P E : Type 0} (port : PortModel P) (e : DeviceModel E) (law : IsLawful
         rested = λ z. let t : act.Given k ≡ act.Rested = s.is_answer ∙ z in absurd (cc);
         waits = λ z. absurd (cc);
         nearer = λ z.
-          let steps = operations_given empty (all - length begun.items) (length held'.items) (zero_test (length held'.items) empty is_empty) in
-          let there : operations stage.Giving (all - length begun.items) (length held'.items + 1) ≡ operations stage.Giving (all - length begun.items) (length held.items) = ap (operations stage.Giving (all - length begun.items)) h' in
-          fewer_by (operations (given_stage empty) (all - length begun.items) (length held'.items)) (operations stage.Giving (all - length begun.items) (length held.items)) (weight (e.begun y) (e.left y)) (weight (e.begun a) (e.left a)) (e.left y) (omega (arith, steps, there)) (weight_published (e.begun y) (e.left y) s.says.2) (omega (arith, s.left));
+            let steps = operations_given empty (all - length begun.items) (length held'.items) (zero_test (length held'.items) empty is_empty) in
+            let there : operations stage.Giving (all - length begun.items) (length held'.items + 1) ≡ operations stage.Giving (all - length begun.items) (length held.items) = ap (operations stage.Giving (all - length begun.items)) h' in
+            fewer_by (operations (given_stage empty) (all - length begun.items) (length held'.items)) (operations stage.Giving (all - length begun.items) (length held.items)) (weight (e.begun y) (e.left y)) (weight (e.begun a) (e.left a)) (e.left y) (omega (arith, steps, there)) (weight_published (e.begun y) (e.left y) s.says.2) (omega (arith, s.left));
       }
 
   -- ---- a look that shows nothing

@@ -1,10 +1,9 @@
 -- A model device's laws.
-use Rattle.std.specs.Prelude.{◌≡◌, ℕ, ◌+◌, ◌<◌, ◌≤◌, Bool, true, false, Option, Some, None, IsSome, List, [], length, nat_lt, if◌then◌else◌}
+use Rattle.std.specs.Prelude.{◌≡◌, ℕ, ◌+◌, Bool, true, Option, Some, IsSome, List, [], length, if◌then◌else◌}
 use Rattle.std.proofs.Common.{refl, sym, ◌∙◌, ap, subst, arith}
 use Rattle.std.proofs.lemmas.Bool.{lt-ltb}
-use Rattle.std.proofs.lemmas.List.{nil_from_length}
 use Rattle.vd_ring.specs.declared.device.DeviceView.{DeviceView}
-use Rattle.vd_ring.specs.History.{takes, gives, running, occurs, numbers, IsWhole}
+use Rattle.vd_ring.specs.History.{takes, gives, running, occurs, IsWhole}
 use Rattle.vd_layout.specs.Begun.{DeviceOp}
 use Rattle.vd_layout.specs.Device.{DeviceModel}
 use Rattle.vd_bus.specs.declared.device.Attached.{Attached}
@@ -14,7 +13,7 @@ use Rattle.circular_buffer.specs.Buffer.{Buffer}
 use Rattle.vd_models.specs.declared.serving.Held.{Held}
 use Rattle.vd_models.specs.declared.serving.Stage.{Stage}
 use Rattle.vd_models.specs.declared.serving.Stage.TheVariants as stage
-use Rattle.vd_models.specs.Serving.{Holds, Serves, IsHeld, StageIs, state, held_numbers, is_done}
+use Rattle.vd_models.specs.Serving.{Holds, IsHeld, StageIs, is_done}
 
 pub at_done : (st : Stage) (op : DeviceOp) (io : Bool) (hs : List Held) (n all : ℕ) → is_done st ≡ true → StageIs st op io hs n all → (hs ≡ []) × (n ≡ all)
 at_done stage.Done op io hs n all d h = h

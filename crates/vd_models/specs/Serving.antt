@@ -1,5 +1,5 @@
 -- What a model device holds while it is attached to a data queue's ring.
-use Rattle.std.specs.Prelude.{◌≡◌, ◌≢◌, ◌⊎◌, ◌↔◌, ℕ, zero, suc, ◌+◌, ◌-◌, ◌*◌, ◌<◌, ◌≤◌, ◌==◌, Bool, true, false, Option, Some, None, List, [], ◌∷◌, length, map, take, drop, slice_get, slice_index_or, nat_lt, min, if◌then◌else◌, IsTrue}
+use Rattle.std.specs.Prelude.{◌≡◌, ◌≢◌, ◌⊎◌, ◌↔◌, ℕ, zero, suc, ◌+◌, ◌-◌, ◌*◌, ◌<◌, ◌≤◌, ◌==◌, Bool, true, false, Option, Some, None, List, [], length, map, take, drop, slice_get, slice_index_or, nat_lt, min, if◌then◌else◌, IsTrue}
 use Rattle.std.specs.List.{All}
 use mathlib.Core.List.{IsPrefix}
 use Rattle.vd_model.specs.declared.chain.Piece.{Piece}
@@ -8,7 +8,6 @@ use Rattle.vd_model.specs.Chains.{readable, writable}
 use Rattle.vd_words.specs.declared.access.Access.{Access}
 use Rattle.vd_words.specs.declared.access.Op.{Op}
 use Rattle.vd_words.specs.Model.{PortModel}
-use Rattle.vd_ring.specs.declared.act.DeviceAct.{DeviceAct}
 use Rattle.vd_ring.specs.declared.act.DeviceAct.TheVariants as act
 use Rattle.vd_ring.specs.declared.device.DeviceDone.{DeviceDone}
 use Rattle.vd_ring.specs.declared.device.DeviceNow.TheVariants as now

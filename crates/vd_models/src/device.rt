@@ -58,28 +58,24 @@ pub(crate) fn move_of(done: bool) -> Move
 impl<L: Layout> Device<L> for ModelDevice<L> {
     type Carried = ();
 
-    ghost party = {
-        record {
-            events = λ m. m.journal.events.items;
-            begun = λ m. m.journal.begun.items;
-            event_room = λ m. journal_room m.held m.journal.events.room;
-            chain_room = λ m. m.journal.begun.room;
-            settings = λ m. m.settings;
-            faults = λ m. 0;
-            carried = λ m. tt;
-            attached = λ m. m.by;
-            holds = λ m w. Holds L.Device.device m.end m.by m.held m.stage m.journal w;
-            is_done = λ m. is_done m.stage ≡ true;
-        }
-    };
+    ghost party = { record {
+      events = λ m. m.journal.events.items;
+      begun = λ m. m.journal.begun.items;
+      event_room = λ m. journal_room m.held m.journal.events.room;
+      chain_room = λ m. m.journal.begun.room;
+      settings = λ m. m.settings;
+      faults = λ m. 0;
+      carried = λ m. tt;
+      attached = λ m. m.by;
+      holds = λ m w. Holds L.Device.device m.end m.by m.held m.stage m.journal w;
+      is_done = λ m. is_done m.stage ≡ true;
+    } };
 
-    ghost lawful = {
-        record {
-            held = λ x w h. held_law L.Device.device x.end x.by x.held x.stage x.journal w h;
-            serves = λ x w a h is d. serves_law L.Device.device x.end x.by x.held x.stage x.journal w a h is;
-            done = λ x w a h is d. done_law L.Device.device x.end x.by x.held x.stage x.journal w a h is d;
-        }
-    };
+    ghost lawful = { record {
+      held = λ x w h. held_law L.Device.device x.end x.by x.held x.stage x.journal w h;
+      serves = λ x w a h is d. serves_law L.Device.device x.end x.by x.held x.stage x.journal w a h is;
+      done = λ x w a h is d. done_law L.Device.device x.end x.by x.held x.stage x.journal w a h is d;
+    } };
 
     fn reserve(
         &mut self,
@@ -139,7 +135,14 @@ impl<L: Layout> Device<L> for ModelDevice<L> {
         let Some(held) = &mut self.held else {
             unreachable!()
         };
-        <Policy as Serving<L>>::serve(end, by, &mut self.stage, held, &mut self.journal.begun, port);
+        <Policy as Serving<L>>::serve(
+            end,
+            by,
+            &mut self.stage,
+            held,
+            &mut self.journal.begun,
+            port,
+        );
         move_of(self.stage.is_done())
     }
 
@@ -151,7 +154,14 @@ impl<L: Layout> Device<L> for ModelDevice<L> {
         let Some(held) = &mut self.held else {
             unreachable!()
         };
-        <Policy as Serving<L>>::serve_all(end, by, &mut self.stage, held, &mut self.journal.begun, port);
+        <Policy as Serving<L>>::serve_all(
+            end,
+            by,
+            &mut self.stage,
+            held,
+            &mut self.journal.begun,
+            port,
+        );
     }
 
     fn done(&self) -> bool {

@@ -4,8 +4,9 @@
 mod cursor;
 mod device;
 mod driving;
+mod faulty;
 mod serving;
 
-pub use cursor::Cursor;
 pub use device::ModelDevice;
+pub use faulty::FaultyDevice;
 pub use serving::{Held, Stage, Turn};

@@ -64,11 +64,7 @@ fn next(held: &HeapCircularBuffer<Held>, in_order: bool) -> Held
     requires { 0 < length held.now.items }
     ensures { next_held in_order held.now.items ≡ Some result }
 {
-    let next = if in_order {
-        held.front()
-    } else {
-        held.back()
-    };
+    let next = if in_order { held.front() } else { held.back() };
     match next {
         Some(next) => *next,
         None => unreachable!(),
@@ -97,12 +93,7 @@ fn hold(held: &mut HeapCircularBuffer<Held>, chain: Held)
 }
 
 /// Records a chain that was taken, and holds it.
-fn note(
-    number: u32,
-    chain: Chain,
-    held: &mut HeapCircularBuffer<Held>,
-    begun: &mut Entries<Begun>,
-)
+fn note(number: u32, chain: Chain, held: &mut HeapCircularBuffer<Held>, begun: &mut Entries<Begun>)
     requires len { total chain < 2 ^ 32 }
     requires window { length held.old.items < held.old.capacity }
     requires room { 0 < begun.old.room }
@@ -136,12 +127,7 @@ pub(crate) struct Policy;
 
 pub(crate) trait Serving<L: Layout> {
     /// Begins the next operation where none is in progress. `more` tells whether there are chains still to begin.
-    fn begin_next(
-        end: &mut L::Device,
-        stage: Stage,
-        held: &HeapCircularBuffer<Held>,
-        more: bool,
-    )
+    fn begin_next(end: &mut L::Device, stage: Stage, held: &HeapCircularBuffer<Held>, more: bool)
         requires { (by : Attached) × (begun : Reserved Begun) × (w : DeviceView) × Opens L.Device.device by (state end.old stage held.now begun) w × HasMore more by begun.items }
         ensures busy { ¬ (L.Device.device.begun end.new ≡ DeviceOp.idle) }
         ensures serves { (by : Attached) (begun : Reserved Begun) (w : DeviceView) → Opens L.Device.device by (state end.old stage held.now begun) w → HasMore more by begun.items → Opens L.Device.device by (state end.new stage held.now begun) w }
@@ -173,12 +159,7 @@ pub(crate) trait Serving<L: Layout> {
 }
 
 impl<L: Layout> Serving<L> for Policy {
-    fn begin_next(
-        end: &mut L::Device,
-        stage: Stage,
-        held: &HeapCircularBuffer<Held>,
-        more: bool,
-    ) {
+    fn begin_next(end: &mut L::Device, stage: Stage, held: &HeapCircularBuffer<Held>, more: bool) {
         if end.idle() {
             match stage {
                 Stage::Taking if more => end.begin_take(),

@@ -1,7 +1,6 @@
-use Rattle.std.proofs.Common.{arith, rules, ◌≡◌, ◌<◌, ◌≤◌, ◌+◌, false, is_err, refl, sym, ap, ◌∙◌, length, subst, Some}
+use Rattle.std.proofs.Common.{arith, rules, ◌≡◌, ◌<◌, false, is_err, refl, sym, ap, ◌∙◌}
 use Rattle.circular_buffer.specs.Buffer.{Buffer}
 use Rattle.vd_bus.specs.Orders.{Terms}
-use Rattle.vd_models.specs.Serving.{is_done}
 use Rattle.vd_models.specs.declared.serving.Held.{Held}
 use Rattle.vd_models.proofs.Parties.{starts, ok_of, room_most, room_some, room_all}
 use Rattle.std.specs.Option.{option_copied}
@@ -21,7 +20,7 @@ returns g c =
     let cleared : c.clear.new.self.capacity ≡ c.in-Some-held.held.capacity = ap (λ (z : Buffer Held). z.capacity) c.clear.ensures in
     let count = ap (λ (z : Terms). z.count) c.copy-2.ensures in
     let settings : c.match-control.settings ≡ control_settings (λ (z : ModelDevice g.row.L.Denot g.row.L-Driver.Denot g.row.L-Device.Denot). z.settings) (option_copied c.args.control) = elim c.match-control.branch [
-      in-Some w ↦ w.settings-is ∙ sym (ap (λ o. control_settings {X = ModelDevice g.row.L.Denot g.row.L-Driver.Denot g.row.L-Device.Denot} (λ z. z.settings) (option_copied o)) w.in-Some.is)
+      | in-Some w ↦ w.settings-is ∙ sym (ap (λ o. control_settings {X = ModelDevice g.row.L.Denot g.row.L-Driver.Denot g.row.L-Device.Denot} (λ z. z.settings) (option_copied o)) w.in-Some.is)
       | in-None w ↦ w.settings-is ∙ w.new-settings.ensures.value ∙ sym (ap (λ o. control_settings {X = ModelDevice g.row.L.Denot g.row.L-Driver.Denot g.row.L-Device.Denot} (λ z. z.settings) (option_copied o)) w.in-None.is)
     ] in
     record {

@@ -1,4 +1,4 @@
-use Rattle.std.proofs.Common.{arith, ◌≡◌, refl, sym, ap, ◌∙◌, inl, inr, length}
+use Rattle.std.proofs.Common.{arith, refl, sym, ap, ◌∙◌, inl, inr, length}
 use Rattle.vd_models.specs.Serving.{held_numbers}
 use Rattle.vd_models.proofs.Parties.{opened, not_done, room_most, room_all, window_some, same_by}
 use Rattle.vd_models.proofs.device.ModelDeviceDevice.phase.Goals as goal

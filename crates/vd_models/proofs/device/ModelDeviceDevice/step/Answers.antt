@@ -1,4 +1,4 @@
-use Rattle.std.proofs.Common.{arith, ◌≡◌, refl}
+use Rattle.std.proofs.Common.{arith, refl}
 use Rattle.vd_models.proofs.Parties.{opened, not_done, finished_at, looked_at, room_most, room_all, window_some}
 use Rattle.vd_models.proofs.device.ModelDeviceDevice.step.Goals as goal
 

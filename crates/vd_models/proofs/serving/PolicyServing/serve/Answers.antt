@@ -1,5 +1,4 @@
-use Rattle.std.proofs.Common.{arith, rules, ◌≡◌, length, ◌<◌, ◌+◌, ◌*◌, ap, sym, ◌∙◌, refl}
-use Rattle.vd_ring.specs.declared.device.DeviceView.{DeviceView}
+use Rattle.std.proofs.Common.{rules, ◌≡◌, length, ◌<◌, ◌+◌, ap}
 use Rattle.vd_layout.specs.Begun.{DeviceOp}
 use Rattle.vd_models.proofs.Turns.{taken_at, given_at, waited_at, turned_at, rested_at, other, more_is, full_is}
 use Rattle.vd_models.proofs.serving.PolicyServing.serve.Goals as goal

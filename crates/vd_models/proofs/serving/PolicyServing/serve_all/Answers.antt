@@ -1,4 +1,4 @@
-use Rattle.std.proofs.Common.{arith, rules, ◌≡◌, refl, true, false}
+use Rattle.std.proofs.Common.{rules, ◌≡◌, true, false}
 use Rattle.vd_models.specs.Serving.{is_done}
 use Rattle.vd_models.proofs.Phases.{begins, own_at, goes, waits, finishes, worked}
 use Rattle.vd_models.proofs.serving.PolicyServing.serve_all.Goals as goal
