@@ -22,10 +22,11 @@ use Rattle.vd_layout.specs.Driver.{DriverModel, HasRoom}
 use Rattle.vd_layout.specs.Layout.{LayoutModel}
 use Rattle.vd_bus.specs.Scripts.{chains}
 
--- the script that is loaded; how many chains were offered; what came back, in order; for which views of a ring the end stands
+-- the script; whether it was loaded, with room for all that will come back; how many chains were offered; what came back, in order; for which views of a ring the end stands
 -- that it holds; and whether all chains of the script were offered and returned, and the end is idle
 pub record GuestParty (X : Type 0) : Type 1 where
   pub script : X → Option Script
+  pub is_loaded : X → Type 0
   pub offered : X → ℕ
   pub returned : X → List Return
   pub holds : X → DriverView → Type 0

@@ -1,5 +1,5 @@
 //! What a guest of a queue is.
-ghost use Rattle.std.specs.Prelude.{◌≡◌, ℕ, ◌↔◌, None, Some, [], IsTrue, IsSome, List, OnOk, OnErr};
+ghost use Rattle.std.specs.Prelude.{◌≡◌, ℕ, ◌↔◌, None, Some, [], IsTrue, List, OnOk, OnErr};
 ghost use Rattle.vd_ring.specs.declared.device.DeviceView.{DeviceView};
 ghost use Rattle.vd_ring.specs.declared.driver.DriverView.{DriverView};
 ghost use Rattle.vd_words.specs.Own.{IsOwn};
@@ -21,7 +21,7 @@ pub trait Guest<L: Layout>: Send + Drop {
     fn load(&mut self, alloc: Global, script: &Script) -> Result<(), AllocError>
         requires free { party.script self.old ≡ None }
         requires few { IsScript script.now }
-        ensures ok { OnOk result (party.script self.new ≡ Some script.now) }
+        ensures ok { OnOk result (party.is_loaded self.new × (party.script self.new ≡ Some script.now)) }
         ensures err { OnErr result (party.script self.new ≡ None) }
         ensures offered { party.offered self.new ≡ party.offered self.old }
         ensures returned { party.returned self.new ≡ party.returned self.old }
@@ -29,7 +29,7 @@ pub trait Guest<L: Layout>: Send + Drop {
 
     /// Takes over the driver's end of a fresh ring.
     fn boot(&mut self, end: L::Driver)
-        requires loaded { IsSome (party.script self.old) }
+        requires loaded { party.is_loaded self.old }
         requires unused { (party.offered self.old ≡ 0) × (party.returned self.old ≡ []) }
         requires idle { L.Driver.driver.begun end ≡ DriverOp.idle }
         ensures { IsBoot L.Driver.driver party end self.old self.new };

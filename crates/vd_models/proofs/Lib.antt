@@ -5,3 +5,5 @@ pub mod Phases
 pub mod Parties
 pub mod Scripts
 pub mod Drives
+pub mod DrivePhases
+pub mod GuestParties

@@ -1,5 +1,5 @@
 -- Where a guest stands in its script.
-use Rattle.std.specs.Prelude.{◌≡◌, ℕ, ◌+◌, ◌-◌, ◌<◌, Option, None, List, [], ◌∷◌, ◌++◌, length, drop, replicate, slice_get, slice_index_or, option_map}
+use Rattle.std.specs.Prelude.{ℕ, ◌-◌, ◌<◌, Option, List, [], ◌∷◌, ◌++◌, drop, replicate, slice_get}
 use Rattle.vd_model.specs.declared.chain.Piece.{Piece}
 use Rattle.vd_model.specs.declared.record.Run.{Run}
 use Rattle.vd_bus.specs.Scripts.{run_chains}

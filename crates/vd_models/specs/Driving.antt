@@ -1,5 +1,5 @@
 -- What a model guest holds from its boot on.
-use Rattle.std.specs.Prelude.{◌≡◌, ◌≢◌, ◌⊎◌, ◌↔◌, ℕ, zero, suc, ◌+◌, ◌-◌, ◌*◌, ◌<◌, ◌≤◌, Bool, true, false, Option, Some, None, List, [], ◌∷◌, length, map, take, drop}
+use Rattle.std.specs.Prelude.{◌≡◌, ◌≢◌, ◌⊎◌, ℕ, ◌+◌, ◌-◌, ◌*◌, ◌<◌, ◌≤◌, Bool, true, false, Option, Some, None, List, [], length, map, take, drop, vec_capacity}
 use Rattle.std.specs.List.{All}
 use Rattle.vd_model.specs.declared.chain.Piece.{Piece}
 use Rattle.vd_model.specs.declared.record.Return.{Return}
@@ -21,6 +21,7 @@ use Rattle.vd_layout.specs.Layout.{LayoutModel}
 use Rattle.vd_bus.specs.Guest.{HasDriven, as_return}
 use Rattle.vd_bus.specs.Scripts.{chains, run_count}
 use Rattle.vd_models.specs.declared.cursor.Cursor.{Cursor}
+use Rattle.vd_models.specs.declared.guest.Loaded.{Loaded}
 use Rattle.vd_models.specs.declared.serving.Turn.{Turn}
 use Rattle.vd_models.specs.declared.serving.Turn.TheVariants.{Worked, Waits}
 use Rattle.vd_models.specs.Cursors.{left_at, next_at, IsSettled}
@@ -110,3 +111,40 @@ pub record IsDrivenAll {P D : Type 0} (port : PortModel P) (d : DriverModel D) (
   pub so_far : DroveSoFar port d l s p q v w y
   pub idle : so_far.view.doing ≡ now.Idle
   pub ends : (y.done ≡ true) ⊎ ((collects so_far.view.done ≡ gives w.done) × (y.done ≡ false) × IsStuck (next_at s.runs y.at) so_far.view.frame so_far.view.done)
+
+-- ---- the guest
+
+abbrev pub script_of : Option Loaded → Option Script
+script_of None = None
+script_of (Some x) = Some x.script
+
+abbrev pub offered_of : Option Loaded → ℕ
+offered_of None = 0
+offered_of (Some x) = x.offered
+
+abbrev pub returned_of : Option Loaded → List Return
+returned_of None = []
+returned_of (Some x) = x.returned.items
+
+abbrev pub is_done_of : Option Loaded → Bool
+is_done_of None = false
+is_done_of (Some x) = x.done
+
+-- the script's chains are counted, and there is room for all that will come back
+pub record IsPlan (x : Loaded) : Type 0 where
+  pub total : x.total ≡ run_count x.script.runs
+  pub few : x.total ≤ 4000000000
+  pub room : x.total ≤ vec_capacity x.returned
+
+abbrev pub IsLoaded : Option Loaded → Type 0
+IsLoaded None = ⊥
+IsLoaded (Some x) = IsPlan x
+
+-- it is loaded, and its end stands for the view
+pub record GuestHolds {D : Type 0} (d : DriverModel D) (end : Option D) (loaded : Option Loaded) (v : DriverView) : Type 0 where
+  pub is_end : D
+  pub is_loaded : Loaded
+  pub at_end : end ≡ Some is_end
+  pub at_loaded : loaded ≡ Some is_loaded
+  pub plan : IsPlan is_loaded
+  pub drives : Drives d is_loaded.script (drive is_end is_loaded.at is_loaded.offered is_loaded.returned.items (vec_capacity is_loaded.returned) is_loaded.done) v

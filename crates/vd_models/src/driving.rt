@@ -5,9 +5,10 @@ ghost use Rattle.vd_words.specs.Own.{IsOwn};
 ghost use Rattle.vd_ring.specs.declared.device.DeviceView.{DeviceView};
 ghost use Rattle.vd_ring.specs.declared.driver.DriverView.{DriverView};
 ghost use Rattle.vd_layout.specs.Begun.{DriverOp};
+ghost use Rattle.vd_bus.specs.Scripts.{chains};
 ghost use Rattle.vd_models.specs.Driving.{DriveOpens, IsDriveTurn, IsDrivenAll, drive, drive_weight};
 
-use crate::cursor::{next_chain, settle, Cursor};
+use crate::cursor::{Cursor, next_chain, settle};
 use crate::serving::{Policy, Turn};
 use vd_layout::{DriverAct, DriverEnd, Layout};
 use vd_model::{Return, Script};
@@ -40,10 +41,28 @@ pub(crate) trait Driving<L: Layout> {
         offered: &mut u32,
         returned: &mut Vec<Return>,
         done: &mut bool,
+        total: u32,
         port: &mut P,
     ) -> Turn
+        requires total { total ≡ length (chains script.now) }
         requires own { (v : DriverView) × DriveOpens L.Driver.driver script.now (drive end.old at.old offered.old returned.old.items (vec_capacity returned.old) done.old) v × IsOwn P.port L.Driver.driver.side port.old v }
         ensures { (v : DriverView) → DriveOpens L.Driver.driver script.now (drive end.old at.old offered.old returned.old.items (vec_capacity returned.old) done.old) v → IsOwn P.port L.Driver.driver.side port.old v → IsDriveTurn P.port L.Driver.driver script.now port.old port.new v (drive end.old at.old offered.old returned.old.items (vec_capacity returned.old) done.old) (drive end.new at.new offered.new returned.new.items (vec_capacity returned.new) done.new) result };
+
+    /// Makes accesses over plain words until the guest is done, or can neither offer nor collect.
+    fn drive_all<P: Port>(
+        end: &mut L::Driver,
+        script: &Script,
+        at: &mut Cursor,
+        offered: &mut u32,
+        returned: &mut Vec<Return>,
+        done: &mut bool,
+        total: u32,
+        port: &mut P,
+    )
+        requires total { total ≡ length (chains script.now) }
+        requires own { (ws : List ℕ) × (v : DriverView) × (w : DeviceView) × P.port.plain port.old ws × L.layout.ring ws v w × DriveOpens L.Driver.driver script.now (drive end.old at.old offered.old returned.old.items (vec_capacity returned.old) done.old) v }
+        ensures { (ws : List ℕ) (v : DriverView) (w : DeviceView) → P.port.plain port.old ws → L.layout.ring ws v w → DriveOpens L.Driver.driver script.now (drive end.old at.old offered.old returned.old.items (vec_capacity returned.old) done.old) v
+            → IsDrivenAll P.port L.Driver.driver L.layout script.now port.old port.new v w (drive end.new at.new offered.new returned.new.items (vec_capacity returned.new) done.new) };
 }
 
 impl<L: Layout> Driving<L> for Policy {
@@ -63,6 +82,7 @@ impl<L: Layout> Driving<L> for Policy {
         offered: &mut u32,
         returned: &mut Vec<Return>,
         done: &mut bool,
+        total: u32,
         port: &mut P,
     ) -> Turn {
         <Policy as Driving<L>>::begin_drive(end, script, *at);
@@ -76,12 +96,38 @@ impl<L: Layout> Driving<L> for Policy {
                 *at = settle(script.runs.as_slice(), next);
             }
             DriverAct::Collected { number, len, .. } => {
-                keep(returned, Return { number, len, ack: 0 });
-                *done = at.run == script.runs.len() && returned.len() == *offered as usize;
+                keep(
+                    returned,
+                    Return {
+                        number,
+                        len,
+                        ack: 0,
+                    },
+                );
+                *done = returned.len() == total as usize;
             }
             DriverAct::Nothing => return Turn::Waits,
             _ => {}
         }
         Turn::Worked
+    }
+
+    fn drive_all<P: Port>(
+        end: &mut L::Driver,
+        script: &Script,
+        at: &mut Cursor,
+        offered: &mut u32,
+        returned: &mut Vec<Return>,
+        done: &mut bool,
+        total: u32,
+        port: &mut P,
+    ) {
+        while !*done {
+            if let Turn::Waits = <Policy as Driving<L>>::drive(
+                end, script, at, offered, returned, done, total, port,
+            ) {
+                return;
+            }
+        }
     }
 }

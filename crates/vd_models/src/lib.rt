@@ -5,8 +5,11 @@ mod cursor;
 mod device;
 mod driving;
 mod faulty;
+mod guest;
+mod script;
 mod serving;
 
 pub use device::ModelDevice;
 pub use faulty::FaultyDevice;
+pub use guest::ModelGuest;
 pub use serving::{Held, Stage, Turn};

@@ -1,4 +1,4 @@
-use Rattle.std.proofs.Common.{arith, ap, ◌≡◌, ◌∙◌}
+use Rattle.std.proofs.Common.{arith, ap, ◌∙◌}
 use Rattle.vd_model.specs.declared.record.Run.{Run}
 use Rattle.vd_models.proofs.Scripts.{passed}
 use Rattle.vd_models.proofs.cursor.settle.Goals as goal
