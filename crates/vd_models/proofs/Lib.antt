@@ -3,3 +3,7 @@ pub mod Holding
 pub mod Turns
 pub mod Phases
 pub mod Parties
+pub mod Scripts
+pub mod Drives
+pub mod DrivePhases
+pub mod GuestParties
