@@ -1,5 +1,6 @@
 pub mod Lists
 pub mod Holding
+pub mod Stages
 pub mod Turns
 pub mod Phases
 pub mod Parties
