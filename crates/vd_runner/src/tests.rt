@@ -72,13 +72,14 @@ fn each_answer_comes_with_its_state(rt: HostRuntime) -> Result<(), Fail> {
     let report = REPORT.as_bytes();
     let play: &[&str] = &["play"];
     let no_text = Status::Machine(MachineFault::M1);
-    let cases: [(&[&str], &[u8], &[u32], &[u32], Status, &[u8], usize); 10] = [
+    let cases: [(&[&str], &[u8], &[u32], &[u32], Status, &[u8], usize); 11] = [
         (play, file, &[], &[], Status::Ok, report, 4),
         (&[], file, &[], &[], Status::Usage, b"", 0),
         (&["play", "play"], file, &[], &[], Status::Usage, b"", 0),
         (&["play", "--seed"], file, &[], &[], Status::Usage, b"", 0),
         (&["make"], file, &[], &[], Status::Usage, b"", 0),
         (play, b"layout = ", &[], &[], no_text, b"", 0),
+        (play, b"", &[], &[], Status::Machine(MachineFault::M3), b"", 0),
         (play, b"layout = \"split\xff\"", &[], &[], no_text, b"", 0),
         (play, file, &[1], &[], Status::ReadFault, b"", 0),
         (play, file, &[2], &[], Status::ReadFault, b"", 0),
