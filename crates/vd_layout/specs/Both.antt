@@ -9,8 +9,9 @@ use Rattle.vd_ring.specs.declared.driver.DriverView.{DriverView}
 use Rattle.vd_ring.specs.declared.device.DeviceView.{DeviceView}
 use Rattle.vd_ring.specs.declared.frame.Frame.{Frame}
 use Rattle.vd_ring.specs.Fresh.{fresh_driver, fresh_device}
-use Rattle.vd_layout.specs.Driver.{DriverModel}
-use Rattle.vd_layout.specs.Device.{DeviceModel}
+use Rattle.vd_layout.specs.Begun.{DriverOp, DeviceOp}
+use Rattle.vd_layout.specs.Driver.{DriverModel, DriverSays}
+use Rattle.vd_layout.specs.Device.{DeviceModel, DeviceSays}
 use Rattle.vd_layout.specs.DriverFinish.{IsDriverFinish}
 use Rattle.vd_layout.specs.DeviceFinish.{IsDeviceFinish}
 use Rattle.vd_layout.specs.Layout.{LayoutModel, IsMadeWith, CanMake, IsFresh, IsLawfulLayout}
@@ -69,6 +70,12 @@ driver_finished port law d e l lawful fr p q ws x x' y answer plain on f =
       };
     }
 
+-- and the answer is about the views of before and after
+pub driver_did : {P D E : Type 0} (port : PortModel P) (law : IsLawfulPort port) (d : DriverModel D) (e : DeviceModel E) (l : LayoutModel) (lawful : IsLawfulLayout d e l) (f : Frame) (p q : P) (ws : List ℕ) (x x' : D) (y : E) (answer : DriverAct) → port.plain p ws → (on : AreOn d e l f x y ws)
+    → IsDriverFinish port d p q on.view x x' answer → (z : Finished port d e l f p q x' y) × DriverSays answer (d.begun x) DriverOp.idle on.view.frame on.view.done z.on.view.done
+unfolding driver_finished
+driver_did port law d e l lawful fr p q ws x x' y answer plain on f = (driver_finished port law d e l lawful fr p q ws x x' y answer plain on f, f.says)
+
 pub device_finished : {P D E : Type 0} (port : PortModel P) (law : IsLawfulPort port) (d : DriverModel D) (e : DeviceModel E) (l : LayoutModel) (lawful : IsLawfulLayout d e l) (f : Frame) (p q : P) (ws : List ℕ) (x : D) (y y' : E) (answer : DeviceAct) → port.plain p ws → (on : AreOn d e l f x y ws)
     → IsDeviceFinish port e p q on.device_view y y' answer → Finished port d e l f p q x y'
 device_finished port law d e l lawful fr p q ws x y y' answer plain on f =
@@ -85,6 +92,11 @@ device_finished port law d e l lawful fr p q ws x y y' answer plain on f =
         framed = on.framed;
       };
     }
+
+pub device_did : {P D E : Type 0} (port : PortModel P) (law : IsLawfulPort port) (d : DriverModel D) (e : DeviceModel E) (l : LayoutModel) (lawful : IsLawfulLayout d e l) (f : Frame) (p q : P) (ws : List ℕ) (x : D) (y y' : E) (answer : DeviceAct) → port.plain p ws → (on : AreOn d e l f x y ws)
+    → IsDeviceFinish port e p q on.device_view y y' answer → (z : Finished port d e l f p q x y') × DeviceSays e.words answer (e.begun y) DeviceOp.idle on.device_view.frame on.device_view.done z.on.device_view.done
+unfolding device_finished
+device_did port law d e l lawful fr p q ws x y y' answer plain on f = (device_finished port law d e l lawful fr p q ws x y y' answer plain on f, f.says)
 
 pub driver_owns : {P D E : Type 0} (port : PortModel P) (law : IsLawfulPort port) (d : DriverModel D) (e : DeviceModel E) (l : LayoutModel) (lawful : IsLawfulLayout d e l) (f : Frame) (p : P) (ws : List ℕ) (x : D) (y : E) → port.plain p ws → (on : AreOn d e l f x y ws) → IsOwn port d.side p on.view
 driver_owns port law d e l lawful f p ws x y plain on = own_plain_driver port law d e l lawful p ws on.view on.device_view plain on.ring

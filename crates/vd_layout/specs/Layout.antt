@@ -1,5 +1,6 @@
 -- What a layout of a ring is, as one record, and its laws.
 use Rattle.std.specs.Prelude.{◌≡◌, ℕ, ◌<◌, ◌≤◌, Bool, true, false, List, [], ◌∷◌, length, replicate}
+use Rattle.vd_model.specs.declared.chain.Piece.{Piece}
 use Rattle.vd_model.specs.declared.features.Features.{Features}
 use Rattle.vd_words.specs.declared.access.Access.{Access}
 use Rattle.vd_words.specs.declared.access.Op.{Op}
@@ -107,5 +108,8 @@ pub record IsLawfulLayout {D E : Type 0} (d : DriverModel D) (e : DeviceModel E)
   pub worded : (g : Frame) (h : ℕ) → (d.words.command g h ≡ l.words.command g h) × (d.words.ack g h ≡ l.words.ack g h) × (e.words.command g h ≡ l.words.command g h) × (e.words.ack g h ≡ l.words.ack g h)
   -- a lawful size has a place, and few enough
   pub sizes : (n : ℕ) → l.lawful_size n ≡ true → (2 ≤ n) × (n ≤ 32768)
+  -- the base of a fresh ring, and that of any chains, is a lawful one
+  pub fresh_based : (n : ℕ) → l.lawful_size n ≡ true → l.lawful_base n l.fresh_base ≡ true
+  pub always_based : (g : Frame) (cs : List (List Piece)) → l.lawful_size g.size ≡ true → l.lawful_base g.size (e.base_of g cs) ≡ true
   -- the base of a fresh ring is that of no chain
   pub based : (g : Frame) → e.base_of g [] ≡ l.fresh_base

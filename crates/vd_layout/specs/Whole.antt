@@ -1,10 +1,6 @@
 -- A whole operation on plain words: they meet the ring invariant after it, with the same view of the other side.
-use Rattle.std.proofs.Common.{◌≡◌, ℕ, ◌+◌, ◌<◌, List, [], ◌∷◌, length, sym, ap, ◌∙◌, subst, true, false}
-use Rattle.vd_words.specs.declared.access.Access.{Access}
-use Rattle.vd_words.specs.declared.access.Op.{Op}
+use Rattle.std.proofs.Common.{◌≡◌, ℕ, List, sym, ap, ◌∙◌}
 use Rattle.vd_words.specs.Model.{PortModel, IsLawfulPort}
-use Rattle.vd_words.specs.Own.{IsOwn}
-use Rattle.vd_words.specs.Step.{answered}
 use Rattle.vd_ring.specs.declared.act.DriverAct.{DriverAct}
 use Rattle.vd_ring.specs.declared.act.DriverAct.TheVariants as driver_act
 use Rattle.vd_ring.specs.declared.act.DeviceAct.{DeviceAct}

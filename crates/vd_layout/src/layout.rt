@@ -45,13 +45,13 @@ pub trait Layout {
 
     /// The first of the two command words of a head, on a control ring.
     fn command_word(size: u32, f: Features, head: u32) -> u32
-        requires made { CanMake layout size f }
+        requires lawful { layout.lawful_size size ≡ true }
         requires inside { head < size }
         ensures { (g : Frame) → IsMadeWith layout size f true g → result ≡ layout.words.command g head };
 
     /// The ack word of a head, on a control ring.
     fn ack_word(size: u32, f: Features, head: u32) -> u32
-        requires made { CanMake layout size f }
+        requires lawful { layout.lawful_size size ≡ true }
         requires inside { head < size }
         ensures { (g : Frame) → IsMadeWith layout size f true g → result ≡ layout.words.ack g head };
 

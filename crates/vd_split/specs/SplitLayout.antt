@@ -1,6 +1,6 @@
 -- What the layout of a split ring is, and its laws.
-use Rattle.std.proofs.Common.{◌≡◌, ◌⊎◌, inl, inr, lit≤, ℕ, ◌-◌, ◌≤◌, ◌==◌, ◌||◌, ◌&&◌, nat_le, Bool, true, false, List, [], length, refl, sym, ap, ◌∙◌, subst, arith}
-use Rattle.std.proofs.lemmas.Bool.{eqb-true}
+use Rattle.std.proofs.Common.{◌≡◌, ◌%◌, ◌⊎◌, inl, inr, lit≤, ℕ, ◌-◌, ◌≤◌, ◌==◌, ◌||◌, ◌&&◌, nat_le, Bool, true, false, List, [], length, refl, sym, ap, ◌∙◌, subst, arith}
+use Rattle.std.proofs.lemmas.Bool.{eqb-true, le-leb}
 use Rattle.std.proofs.lemmas.List.{length_push, get_or_push}
 use Rattle.vd_model.specs.declared.chain.Piece.{Piece}
 use Rattle.vd_model.specs.declared.features.Features.{Features}
@@ -112,6 +112,9 @@ spells_last ws v op a k is =
     subst (λ i. Spells v.frame (written ws a) (head v.frame o' i) (chain o' i)) (sym last)
     (subst (λ h. Spells v.frame (written ws a) h (chain o' k)) (sym is.is_head) (subst (λ (c : List Piece). Spells v.frame (written ws a) (next_head v.frame v.done) c) (sym same) is.spelled))
 
+base_low : (n : ℕ) → nat_le (n % 65536) 65535 ≡ true
+base_low n = le-leb (n % 65536) 65535 (omega arith)
+
 pub split_laws : IsLawfulLayout split_driver split_device split_layout
 split_laws = record {
   driver_end = driver_laws;
@@ -135,6 +138,8 @@ split_laws = record {
   device_bag = λ ws v w op a b r n st. let s = bags ws v w op a b r n st in record { entries = s.entries; gave = s.gave; bag = s.bag; step = s.step; stands = s.stands };
   worded = λ g h. (refl, refl, refl, refl);
   sizes = λ n e. let s = sizes n e in (s.0, omega (arith, s.1));
+  fresh_based = λ n h. refl;
+  always_based = λ g cs h. base_low (length cs);
   based = λ g. refl;
 }
 

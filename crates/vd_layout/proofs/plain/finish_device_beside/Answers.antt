@@ -1,4 +1,4 @@
-use Rattle.vd_layout.specs.Both.{device_owns, device_finished}
+use Rattle.vd_layout.specs.Both.{device_owns, device_finished, device_did}
 use Rattle.vd_layout.proofs.plain.finish_device_beside.Goals as goal
 
 pub finish_device-requires-clause-own : goal.finish_device-requires-clause-own
@@ -15,6 +15,10 @@ returns g c =
           let own = device_owns g.P.Port.port g.met.P.Port.lawful g.L.Driver.DriverEnd.driver g.L.Device.DeviceEnd.device g.L.Layout.layout g.met.L.Layout.lawful f c.args.port.now ws c.args.driver.now c.args.device.now plain on in
           device_finished g.P.Port.port g.met.P.Port.lawful g.L.Driver.DriverEnd.driver g.L.Device.DeviceEnd.device g.L.Layout.layout g.met.L.Layout.lawful f c.args.port.now c.finish_device.new.port ws c.args.driver.now c.args.device.now c.finish_device.new.end c.finish_device.result plain on (c.finish_device.ensures on.device_view on.serves own);
       idle = f.idle;
+      did = λ fr ws plain on.
+          let own = device_owns g.P.Port.port g.met.P.Port.lawful g.L.Driver.DriverEnd.driver g.L.Device.DeviceEnd.device g.L.Layout.layout g.met.L.Layout.lawful fr c.args.port.now ws c.args.driver.now c.args.device.now plain on in
+          let made = c.finish_device.ensures on.device_view on.serves own in
+          device_did g.P.Port.port g.met.P.Port.lawful g.L.Driver.DriverEnd.driver g.L.Device.DeviceEnd.device g.L.Layout.layout g.met.L.Layout.lawful fr c.args.port.now c.finish_device.new.port ws c.args.driver.now c.args.device.now c.finish_device.new.end c.finish_device.result plain on made;
       rests = f.rests;
       says = (h.3.device_view.frame, h.3.device_view.done, f.view.done, f.says);
     }

@@ -1,4 +1,4 @@
-use Rattle.vd_layout.specs.Both.{driver_owns, driver_finished}
+use Rattle.vd_layout.specs.Both.{driver_owns, driver_finished, driver_did}
 use Rattle.vd_layout.proofs.plain.finish_driver_beside.Goals as goal
 
 pub finish_driver-requires-clause-own : goal.finish_driver-requires-clause-own
@@ -15,5 +15,9 @@ returns g c =
           let own = driver_owns g.P.Port.port g.met.P.Port.lawful g.L.Driver.DriverEnd.driver g.L.Device.DeviceEnd.device g.L.Layout.layout g.met.L.Layout.lawful f c.args.port.now ws c.args.driver.now c.args.device.now plain on in
           driver_finished g.P.Port.port g.met.P.Port.lawful g.L.Driver.DriverEnd.driver g.L.Device.DeviceEnd.device g.L.Layout.layout g.met.L.Layout.lawful f c.args.port.now c.finish_driver.new.port ws c.args.driver.now c.finish_driver.new.end c.args.device.now c.finish_driver.result plain on (c.finish_driver.ensures on.view on.drives own);
       idle = ends.idle;
+      did = λ f ws plain on.
+          let own = driver_owns g.P.Port.port g.met.P.Port.lawful g.L.Driver.DriverEnd.driver g.L.Device.DeviceEnd.device g.L.Layout.layout g.met.L.Layout.lawful f c.args.port.now ws c.args.driver.now c.args.device.now plain on in
+          let made = c.finish_driver.ensures on.view on.drives own in
+          driver_did g.P.Port.port g.met.P.Port.lawful g.L.Driver.DriverEnd.driver g.L.Device.DeviceEnd.device g.L.Layout.layout g.met.L.Layout.lawful f c.args.port.now c.finish_driver.new.port ws c.args.driver.now c.finish_driver.new.end c.args.device.now c.finish_driver.result plain on made;
       says = (h.3.view.frame, h.3.view.done, ends.view.done, ends.says);
     }
