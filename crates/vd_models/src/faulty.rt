@@ -28,6 +28,7 @@ impl<L: Layout> FaultyDevice<L> {
         ensures begun { ⟦<FaultyDevice<L> as Device<L>>⟧.party.begun result ≡ ⟦<ModelDevice<L> as Device<L>>⟧.party.begun inner }
         ensures settings { ⟦<FaultyDevice<L> as Device<L>>⟧.party.settings result ≡ ⟦<ModelDevice<L> as Device<L>>⟧.party.settings inner }
         ensures faults { ⟦<FaultyDevice<L> as Device<L>>⟧.party.faults result ≡ 0 }
+        ensures number { ⟦<FaultyDevice<L> as Device<L>>⟧.party.carried result ≡ fails }
     {
         FaultyDevice {
             inner,
@@ -39,7 +40,8 @@ impl<L: Layout> FaultyDevice<L> {
 }
 
 impl<L: Layout> Device<L> for FaultyDevice<L> {
-    type Carried = ();
+    /// The number of the attach that it refuses.
+    type Carried = u32;
 
     ghost party = { record {
       events = λ m. m.inner.journal.events.items;
@@ -48,7 +50,7 @@ impl<L: Layout> Device<L> for FaultyDevice<L> {
       chain_room = λ m. m.inner.journal.begun.room;
       settings = λ m. m.inner.settings;
       faults = λ m. m.faults;
-      carried = λ m. tt;
+      carried = λ m. m.fails;
       attached = λ m. m.inner.by;
       holds = λ m w. Holds L.Device.device m.inner.end m.inner.by m.inner.held m.inner.stage m.inner.journal w;
       is_done = λ m. is_done m.inner.stage ≡ true;
