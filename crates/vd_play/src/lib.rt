@@ -1,0 +1,6 @@
+//! Plays a machine over the guests and devices of a bench.
+#![tactic(auto)]
+
+mod bench;
+
+pub use bench::Bench;
