@@ -1,20 +1,9 @@
-//! The whole of a command: words, a source, a sink and a bench.
+//! The whole of a command: words, a source, a sink and the parties of a bench.
 #![tactic(auto)]
 
-mod bench;
-mod command;
-mod floor;
-mod lane;
+mod epochs;
 mod line;
-mod order;
-mod play;
-mod serve;
-mod status;
-#[cfg(test)]
-mod tests;
-mod top;
+mod reporting;
 mod writing;
 
-pub use bench::{FirstBench, FirstEvent};
-pub use status::Status;
-pub use top::vdpa;
+pub use reporting::report;
