@@ -1,3 +1,5 @@
 pub mod Epochs
 pub mod Journal
 pub mod Played
+pub mod Turns
+pub mod Lane

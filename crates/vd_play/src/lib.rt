@@ -2,5 +2,8 @@
 #![tactic(auto)]
 
 mod bench;
+mod floor;
+mod lane;
 
 pub use bench::Bench;
+pub use floor::{Floor, Lane};
