@@ -8,7 +8,7 @@ use Rattle.std.proofs.lemmas.Option.{slice_get_within, get_or_from_slice_get, sl
 use Rattle.vd_play.specs.Epochs.{Epoch, AreChained, begun_before}
 
 pub at_index : {A : Type 0} (xs : List A) (i : ℕ) → i < length xs → (x : A) × (slice_get xs i ≡ Some x)
-at_index xs i h = elim (slice_get_cases xs i).1 [ | inl f ↦ (f.0, f.2) | inr f ↦ absurd (omega (arith, f.0)) ]
+at_index xs i h = elim (slice_get_cases xs i).1 [ inl f ↦ (f.0, f.2) | inr f ↦ absurd (omega (arith, f.0)) ]
 
 -- epoch k reaches from the count before it to the count before the next
 pub record Bounded (n : ℕ) (es : List Epoch) (k : ℕ) : Type 0 where

@@ -164,14 +164,14 @@ module _ {D E G X C : Type 0} (d : DriverModel D) (e : DeviceModel E) (l : Layou
               elim t.so_far [
                 | inl f ↦ (let all : length (offers t.view.done) ≡ length cs = ap length ((gue.done guest1 t.view s t.holds first.script first.queue.plain f).0) in absurd (omega (arith, b.low, few, after, same, all)))
                 | inr f ↦ elim (cases_lt (length (offers t.view.done)) (length cs)) [
-                    | inl a ↦ (
-                        let c = at_index cs (length (offers t.view.done)) a in
-                        let fits : Fits (guest_frame l plan q) c.0 = Rattle.vd_play.proofs.Lists.All-at (Fits (guest_frame l plan q)) cs _ c.0 c.1 first.queue.fits in
-                        let held : 0 < length (open_at t.view.done) = some_open t.view.frame t.view.done c.0 (open_at t.view.done) refl (subst (λ (z : Frame). needs z.features c.0 ≤ z.size) (sym first.framed) fits.size) (f.2 s c.0 first.script first.queue.plain c.1) in
-                        omega (arith, before, after, same, places.count, ap length f.0, held)
-                        )
-                    | inr a ↦ absurd (omega (arith, b.low, few, after, same, a, offered))
-                  ]
+                  | inl a ↦ (
+                      let c = at_index cs (length (offers t.view.done)) a in
+                      let fits : Fits (guest_frame l plan q) c.0 = Rattle.vd_play.proofs.Lists.All-at (Fits (guest_frame l plan q)) cs _ c.0 c.1 first.queue.fits in
+                      let held : 0 < length (open_at t.view.done) = some_open t.view.frame t.view.done c.0 (open_at t.view.done) refl (subst (λ (z : Frame). needs z.features c.0 ≤ z.size) (sym first.framed) fits.size) (f.2 s c.0 first.script first.queue.plain c.1) in
+                      omega (arith, before, after, same, places.count, ap length f.0, held)
+                      )
+                  | inr a ↦ absurd (omega (arith, b.low, few, after, same, a, offered))
+                ]
               ]
               )
         ] in
