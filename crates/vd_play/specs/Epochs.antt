@@ -1,5 +1,6 @@
 -- The epochs that a machine orders for a queue.
-use Rattle.std.specs.Prelude.{ℕ, min, Bool, true, false, List, [], ◌∷◌, ◌++◌}
+use Rattle.std.specs.Prelude.{◌≡◌, ℕ, zero, suc, ◌≤◌, min, Bool, true, false, List, [], ◌∷◌, ◌++◌, length, slice_get, Option, Some, None}
+use Rattle.std.specs.Option.{option_map_or}
 use Rattle.vd_model.specs.declared.base.Mode.{Mode}
 use Rattle.vd_model.specs.declared.base.Mode.TheVariants as mode
 use Rattle.vd_machine.specs.File.{Plan}
@@ -42,3 +43,13 @@ closing n = record { mode = mode.Pass; renewed = false; first = n; end = n }
 -- all epochs, the closing one last
 abbrev pub epochs : Plan → ℕ → List Epoch
 epochs plan n = working_epochs plan n ++ closing n ∷ []
+
+-- how many chains are begun before epoch k
+abbrev pub begun_before : List Epoch → ℕ → ℕ
+begun_before es zero = 0
+begun_before es (suc k) = option_map_or (λ ep. ep.end) (slice_get es k) 0
+
+-- each epoch begins where the one before it ends, and all n chains are begun in them
+pub record AreChained (n : ℕ) (es : List Epoch) : Type 0 where
+  pub at : (k : ℕ) (ep : Epoch) → slice_get es k ≡ Some ep → (ep.first ≡ begun_before es k) × (ep.first ≤ ep.end) × (ep.end ≤ n)
+  pub whole : begun_before es (length es) ≡ n

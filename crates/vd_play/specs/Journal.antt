@@ -43,10 +43,18 @@ own_address r = record { iova = r.addr; size = r.size; guest = r.addr }
 abbrev pub pass_map : Plan → List Mapping
 pass_map plan = map own_address plan.regions
 
--- the device is attached to the guest's ring, and suspended once the epoch's chains are begun. No machine has an epoch of the
--- mode shadow yet, nor a renewal
+-- the device is attached to the guest's ring after k chains, with the default settings
+abbrev pub attach_event : {E : Type 0} → DeviceModel E → LayoutModel → Plan → ℕ → ℕ → Event
+attach_event e l plan q k = Attach k q (base_at e l plan q k) Pass default (pass_map plan)
+
+-- it is suspended after k chains
+abbrev pub suspend_event : {E : Type 0} → DeviceModel E → LayoutModel → Plan → ℕ → ℕ → Event
+suspend_event e l plan q k = Suspend k (base_at e l plan q k)
+
+-- the device is attached, and suspended once the epoch's chains are begun. No machine has an epoch of the mode shadow yet, nor a
+-- renewal
 abbrev pub epoch_events : {E : Type 0} → DeviceModel E → LayoutModel → Plan → ℕ → Epoch → List Event
-epoch_events e l plan q ep = Attach ep.first q (base_at e l plan q ep.first) Pass default (pass_map plan) ∷ Suspend ep.end (base_at e l plan q ep.end) ∷ []
+epoch_events e l plan q ep = attach_event e l plan q ep.first ∷ suspend_event e l plan q ep.end ∷ []
 
 abbrev pub queue_epochs : Plan → ℕ → List Epoch
 queue_epochs plan q = epochs plan (length (queue_chains plan q))
