@@ -1,3 +1,5 @@
 pub mod Lines
 pub mod Midway
 pub mod Queues
+pub mod Prepared
+pub mod Outcome

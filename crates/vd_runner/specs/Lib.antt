@@ -1,1 +1,5 @@
 pub mod Report
+pub mod Command
+pub mod Reading
+pub mod Outcome
+pub mod Answers

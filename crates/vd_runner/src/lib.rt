@@ -1,9 +1,17 @@
 //! The whole of a command: words, a source, a sink and the parties of a bench.
 #![tactic(auto)]
 
+mod command;
 mod epochs;
 mod line;
+mod playing;
+mod read;
 mod reporting;
+mod status;
+mod top;
 mod writing;
 
 pub use reporting::report;
+pub use status::Status;
+pub use top::vdpa;
+pub use vd_play::{Bench, Floor, PlayFault, play_machine, prepare};

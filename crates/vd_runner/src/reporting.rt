@@ -1,10 +1,11 @@
 //! The report of a machine that was played.
-ghost use Rattle.std.specs.Prelude.{OnOk, OnErr};
+ghost use Rattle.std.specs.Prelude.{OnOk, OnErr, length};
 ghost use Rattle.std.specs.Io.KnownBytes.{Appends};
 ghost use Rattle.vd_stream.specs.Causes.{HasCause};
 ghost use Rattle.vd_stream.specs.Sinks.{AppendsFront};
 ghost use Rattle.vd_machine.specs.File.{view};
-ghost use Rattle.vd_play.specs.Played.{HasParties, AllPlayed};
+ghost use Rattle.vd_play.specs.Each.{HasLanes};
+ghost use Rattle.vd_play.specs.Played.{AllPlayed};
 ghost use Rattle.vd_runner.specs.Report.{report, all_lens};
 
 use crate::line::drained_line;
@@ -23,7 +24,7 @@ pub fn report<L: Layout, K: Sink, G: Guest<L>, V: Device<L>>(
     bench: &Bench<G, V>,
     sink: &mut K,
 ) -> Result<(), Failed>
-    requires parties { HasParties (view m.now) bench.now }
+    requires parties { HasLanes (length m.now.queues) bench.now }
     requires played { AllPlayed L.Device.device L.layout G.party V.party (view m.now) bench.now }
     ensures ok { OnOk result (Appends (K.held sink.old) (K.held sink.new) (report (view m.now) brief (all_lens V.party (view m.now) bench.now))) }
     ensures err { OnErr result (AppendsFront (K.held sink.old) (K.held sink.new) (report (view m.now) brief (all_lens V.party (view m.now) bench.now))) }
