@@ -24,12 +24,12 @@ pub enum PlayFault {
 }
 
 /// Attaches a lane's device to its ring, to begin `count` chains more. A refusal leaves the end in the lane.
-fn attach<L: Layout, V: Device<L>>(
+fn attach<'a, L: Layout, V: Device<L>>(
     m: &Machine,
     queue: u32,
     count: u32,
     lane: &mut Lane<L::Device>,
-    device: &mut V,
+    device: &'a mut V,
 ) -> Result<(), PlayFault>
     requires low { queue < 8 }
     requires still { IsSomeAnd lane.old.still (λ end. IsStill L.Device.device end) }
@@ -46,7 +46,8 @@ fn attach<L: Layout, V: Device<L>>(
     };
     let map = pass_map(m.regions.as_slice());
     let order = Order::first(queue, queue, end.base(), count, m.size, m.features, map);
-    match device.attach(&order, end, None) {
+    let control: Option<&'a V> = None;
+    match device.attach(&order, end, control) {
         Ok(()) => Ok(()),
         Err(refused) => {
             lane.still = Some(refused.end);
