@@ -6,3 +6,5 @@ pub mod Benches
 pub mod Rounds
 pub mod Returns
 pub mod Ending
+pub mod Begin
+pub mod Cut
