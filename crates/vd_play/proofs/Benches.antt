@@ -31,10 +31,12 @@ module _ {G X C : Type 0} (m : DeviceParty X C) (n : ℕ) where
     other_devices = λ j h. ap (λ zs. slice_get zs j) xs ∙ get_set_other now.devices.items i j y (λ e. omega arith) ∙ k.other_devices j h;
   }
 
+  pub same_many : (old new : Bench G X) → KeepsBench m n old new → length new.devices.items ≡ length old.devices.items
+  same_many old new k = sym (length-map new.devices.items m.carried) ∙ ap length k.carried ∙ length-map old.devices.items m.carried
+
   pub lanes_kept : (old new : Bench G X) (j : ℕ) → KeepsBench m n old new → HasLanes j old → HasLanes j new
   lanes_kept old new j k h =
-      let devices : length new.devices.items ≡ length old.devices.items = sym (length-map new.devices.items m.carried) ∙ ap length k.carried ∙ length-map old.devices.items m.carried in
-      record { guests = omega (arith, h.guests, k.guests); devices = omega (arith, h.devices, devices) }
+      record { guests = omega (arith, h.guests, k.guests); devices = omega (arith, h.devices, same_many old new k) }
 
 pub faults_set : {G X C : Type 0} (m : DeviceParty X C) (old now new : Bench G X) (i : ℕ) (x y : X) → HasNoFault m old now → new.devices.items ≡ set now.devices.items i y → slice_get now.devices.items i ≡ Some x → m.faults y ≡ m.faults x → HasNoFault m old new
 faults_set m old now new i x y none xs at same = ap (map m.faults) xs ∙ map_set m.faults now.devices.items i x y at same ∙ none

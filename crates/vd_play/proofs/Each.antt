@@ -6,6 +6,7 @@ use Rattle.std.proofs.lemmas.Option.{slice_get_within}
 use Rattle.vd_bus.specs.Device.{DeviceParty}
 use Rattle.vd_play.specs.declared.bench.Bench.{Bench}
 use Rattle.vd_play.specs.Each.{EachLane, Stage}
+use Rattle.vd_play.proofs.Bounds.{at_index}
 use Rattle.vd_play.proofs.Lists.{some_same}
 
 pub get_set_same : {A : Type 0} (xs : List A) (i : ℕ) (y : A) → i < length xs → slice_get (set xs i y) i ≡ Some y
@@ -90,3 +91,7 @@ all_but_one P Q R i ls bs xs l g x hg e p q new =
     let both : EachLane (Stage i R R) ls bs xs = record { at = λ k a b c ha hb hc. record { before = λ below. p k a b c ((e.at k a b c ha hb hc).before below); from = λ from. q k a b c ((e.at k a b c ha hb hc).from from) } } in
     let after : EachLane (Stage (i + 1) R R) (set ls i l) bs (set xs i x) = stage_device R R i ls bs xs l g x hg both new in
     record { at = λ k a b c ha hb hc. elim (cases_lt k (i + 1)) [ | inl h ↦ (after.at k a b c ha hb hc).before h | inr h ↦ (after.at k a b c ha hb hc).from h ] }
+
+-- of each lane's parties
+pub each_queue : {A G X : Type 0} (P : ℕ → G → X → Type 0) (n : ℕ) (lanes : List A) (gs : List G) (xs : List X) → length lanes ≡ n → EachLane (λ q a g x. P q g x) lanes gs xs → (q : ℕ) (g : G) (x : X) → q < n → slice_get gs q ≡ Some g → slice_get xs q ≡ Some x → P q g x
+each_queue P n lanes gs xs many e q g x below hg hx = let a = at_index lanes q (omega arith) in e.at q a.0 g x a.1 hg hx

@@ -18,7 +18,10 @@ use Rattle.vd_bus.specs.Device.{DeviceParty, IsLawfulDeviceParty, chains_of, len
 use Rattle.vd_bus.specs.Guest.{GuestParty, IsLawfulGuestParty, IsHalt, as_return}
 use Rattle.vd_machine.specs.File.{Plan}
 use Rattle.vd_play.specs.Journal.{queue_script, queue_chains, queue_epochs, guest_frame, epoch_events, IsReturned}
-use Rattle.vd_play.specs.Lane.{IsKept, IsStopped, StoppedWith}
+use Rattle.vd_play.specs.declared.floor.Lane.{Lane}
+use Rattle.vd_play.specs.Each.{EachLane}
+use Rattle.vd_play.specs.Lane.{IsKept, IsStopped, StoppedWith, Stopped}
+use Rattle.vd_play.proofs.Bounds.{many_epochs}
 use Rattle.vd_play.specs.Played.{IsPlayed}
 use Rattle.vd_play.specs.Turns.{IsGuestTurn}
 use Rattle.vd_play.proofs.Keep.{kept_guest, prefix_of, begun_of}
@@ -83,3 +86,10 @@ module _ {D E G X C : Type 0} (d : DriverModel D) (e : DeviceModel E) (l : Layou
         offered = h.offered ∙ gue.offered guest x.view k.drives ∙ ap length all.0;
         returned = subst (λ (z : Frame). IsReturned z.features.in_order (lens_of (m.begun device)) (g.returned guest')) k.framed (all_returned f x.view.done x.device_view.done (lens_of (m.begun device)) (g.returned guest') lists k.even lens k.given list);
       }
+
+-- after as many epochs as the machine has
+pub all_ended : {E G X C : Type 0} (e : DeviceModel E) (l : LayoutModel) (g : GuestParty G) (m : DeviceParty X C) (plan : Plan) (k : ℕ) (lanes : List (Lane E)) (gs : List G) (xs : List X) → k ≡ length plan.switches + 2
+    → EachLane (λ q a b x. Stopped e l g m plan q k a b x) lanes gs xs → EachLane (λ q a b x. Stopped e l g m plan q (length (queue_epochs plan q)) a b x) lanes gs xs
+all_ended e l g m plan k lanes gs xs is each = record {
+  at = λ q a b x ha hb hx. subst (λ j. Stopped e l g m plan q j a b x) (is ∙ sym (many_epochs plan (length (queue_chains plan q)))) (each.at q a b x ha hb hx);
+}
