@@ -1,12 +1,11 @@
 //! An epoch's begin: each lane's device is attached to its ring.
-ghost use Rattle.std.specs.Prelude.{◌≡◌, ◌<◌, ◌≤◌, ◌+◌, ◌^◌, None, Some, IsSomeAnd, IfErr, IfOk, MatchResult, length};
-ghost use Rattle.vd_layout.specs.Device.{IsStill};
+ghost use Rattle.std.specs.Prelude.{◌≡◌, ◌<◌, ◌+◌, None, Some, IfErr, IfOk, OnOk, length};
 ghost use Rattle.vd_bus.specs.Device.{IsAttach, IsRefused};
 ghost use Rattle.vd_machine.specs.File.{view};
 ghost use Rattle.vd_play.specs.Each.{EachLane, HasLanes};
 ghost use Rattle.vd_play.specs.Journal.{queue_epochs};
 ghost use Rattle.vd_play.specs.Lane.{Stopped, InEpoch};
-ghost use Rattle.vd_play.specs.Orders.{pass_order};
+ghost use Rattle.vd_play.specs.Orders.{pass_order, CanAttach};
 ghost use Rattle.vd_play.specs.Played.{IsCut, KeepsBench, HasNoFault, IsFaultOf, faulty};
 
 use crate::bench::Bench;
@@ -24,21 +23,18 @@ pub enum PlayFault {
 }
 
 /// Attaches a lane's device to its ring, to begin `count` chains more. A refusal leaves the end in the lane.
-fn attach<L: Layout, V: Device<L>>(
+fn attach<'a, L: Layout, V: Device<L>>(
     m: &Machine,
     queue: u32,
     count: u32,
     lane: &mut Lane<L::Device>,
-    device: &mut V,
+    device: &'a mut V,
 ) -> Result<(), PlayFault>
-    requires low { queue < 8 }
-    requires still { IsSomeAnd lane.old.still (λ end. IsStill L.Device.device end) }
-    requires free { V.party.attached device.old ≡ None }
-    requires events { 2 ≤ V.party.event_room device.old }
-    requires chains { count ≤ V.party.chain_room device.old }
-    requires few { length (V.party.begun device.old) + count < 2 ^ 32 }
+    requires can { CanAttach L.Device.device V.party queue count lane.old.still device.old }
     ensures words { lane.new.words ≡ lane.old.words }
     ensures ok { IfOk result (λ _. (lane.new.still ≡ None) × ((end : _) → lane.old.still ≡ Some end → IsAttach L.Device.device V.party (pass_order L.Device.device (view m.now) queue count end) None end device.old device.new)) }
+    ensures carried { V.party.carried device.new ≡ V.party.carried device.old }
+    ensures faults { OnOk result (V.party.faults device.new ≡ V.party.faults device.old) }
     ensures err { IfErr result (λ f. (f ≡ PlayFault.Device queue) × (lane.new.still ≡ lane.old.still) × IsRefused V.party device.old device.new) }
 {
     let Some(end) = lane.still.take() else {
@@ -46,7 +42,8 @@ fn attach<L: Layout, V: Device<L>>(
     };
     let map = pass_map(m.regions.as_slice());
     let order = Order::first(queue, queue, end.base(), count, m.size, m.features, map);
-    match device.attach(&order, end, None) {
+    let control: Option<&'a V> = None;
+    match device.attach(&order, end, control) {
         Ok(()) => Ok(()),
         Err(refused) => {
             lane.still = Some(refused.end);

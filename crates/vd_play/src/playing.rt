@@ -58,7 +58,7 @@ fn run_epoch<L: Layout, G: Guest<L>, V: Device<L>>(floor: &mut Floor<L>, bench: 
     ensures lanes { (plan : Plan) (k : ℕ) → EachLane (λ q a b x. InEpoch L.Device.device L.layout G.party V.party plan q k 0 a b x) floor.old.lanes.items bench.old.guests.items bench.old.devices.items
         → EachLane (λ q a b x. Stopped L.Device.device L.layout G.party V.party plan q (k + 1) a b x) floor.new.lanes.items bench.new.guests.items bench.new.devices.items }
 {
-    for _ in 0..ROUNDS {
+    for turn in 0..ROUNDS {
         if floor.is_still() {
             return;
         }
