@@ -8,3 +8,5 @@ pub mod Returns
 pub mod Ending
 pub mod Begin
 pub mod Cut
+pub mod Making
+pub mod Untouched
