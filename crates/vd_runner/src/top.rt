@@ -54,8 +54,8 @@ pub fn vdpa<S: Source, K: Sink, GS: Guest<Split>, VS: Device<Split>>(
     ensures unwritten { has_written result ≡ false → K.held sink.new ≡ K.held sink.old }
     ensures nothing { has_played result ≡ false → IsUntouched GS.party VS.party split.old split.new }
     ensures same { has_prepared result ≡ false → split.new ≡ split.old }
-    // No device is moved, nor loses what it carries.
-    ensures carried { map VS.party.carried split.new.devices.items ≡ map VS.party.carried split.old.devices.items }
+    // Whatever it answers, no party is gone, and each device stands at its place with what it carries.
+    ensures kept { (length split.new.guests.items ≡ length split.old.guests.items) × (map VS.party.carried split.new.devices.items ≡ map VS.party.carried split.old.devices.items) }
     // Where the words mean a command and no count rose, the answer follows from the bytes and the numbers of parties.
     ensures complete { (bytes : List ℕ) → S.left source.old ≡ Some bytes → is_play (map (λ w. w.now) words.now) ≡ true
         → ¬ (Rose (S.faults source.old) (S.faults source.new)) → ¬ (Rose (K.faults sink.old) (K.faults sink.new)) → ¬ (SomeRose VS.party split.old split.new)
