@@ -27,3 +27,4 @@ pub mod DriverAnswers
 pub mod DeviceAnswers
 pub mod DeviceBagSteps
 mod Examples
+pub mod ControlFacts

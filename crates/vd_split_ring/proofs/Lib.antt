@@ -23,3 +23,4 @@ pub mod DeviceKeeping
 pub mod DeviceBagSteps
 pub mod DeviceAnswers
 mod Examples
+pub mod ControlFacts
