@@ -74,18 +74,16 @@ says_collected k n h b b' f o o' s =
     }
 
 -- what Given says
-pub record GivenOne (k : ℕ) (b b' : DeviceOp) (f : Frame) (s s' : List DeviceDone) : Type 0 where
-  pub len : ℕ
-  pub begun : b ≡ DeviceOp.give k len
+pub record GivenOne (k n : ℕ) (b b' : DeviceOp) (f : Frame) (s s' : List DeviceDone) : Type 0 where
+  pub begun : b ≡ DeviceOp.give k n
   pub published : DevicePublished b'
-  pub done : s' ≡ Give (entry k len ∷ []) ∷ s
+  pub done : s' ≡ Give (entry k n ∷ []) ∷ s
   pub may : MayGive f s k
 
-pub says_given : (words : ControlWords) (k : ℕ) (b b' : DeviceOp) (f : Frame) (s s' : List DeviceDone) → DeviceSays words (Given k) b b' f s s' → GivenOne k b b' f s s'
+pub says_given : (words : ControlWords) (k : ℕ) (b b' : DeviceOp) (f : Frame) (s s' : List DeviceDone) → (h : DeviceSays words (Given k) b b' f s s') → GivenOne k h.0 b b' f s s'
 says_given words k b b' f s s' h =
     let us : List Used = h.1 in
     let one = given_one f s us k h.0 h.5 in record {
-      len = h.0;
       begun = h.2;
       published = h.3;
       done = h.4 ∙ ap (λ (ys : List Used). Give ys ∷ s) one;
