@@ -15,4 +15,6 @@ pub use driver_laws::{
     driver_alone_law, driver_bag_law, driver_collected_law, driver_law, driver_nothing_law,
     driver_offered_law,
 };
-pub use laws::{agreement_law, base_law, fresh_law, looks_law, position_law, spelling_law};
+pub use laws::{
+    agreement_law, base_law, fresh_law, looks_law, position_law, seen_law, spelling_law,
+};

@@ -34,7 +34,7 @@ impl Port for Tracked {
       counted = λ s ws is. absurd is;
       may = λ s ws op a is fits. absurd is;
       does = λ s ws op a r t is m. absurd is;
-      alike = λ s t e. (refl, e);
+      alike = λ s t p. (refl, p);
       same_refl = λ s. refl;
       same_trans = λ s t u p q. p ∙ q;
     } };
