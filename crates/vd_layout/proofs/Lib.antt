@@ -1,1 +1,2 @@
 pub mod OnePair
+pub mod InTable

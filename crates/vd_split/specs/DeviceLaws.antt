@@ -21,8 +21,9 @@ use Rattle.vd_split_ring.specs.SplitWords.{used_from, tables_from, commands_from
 use Rattle.vd_split_ring.specs.SplitDevice.{DeviceNextAt, device_after_at, device_takes}
 use Rattle.vd_split_ring.proofs.Areas.{areas}
 use Rattle.vd_split_ring.proofs.ControlFacts.{device_controls}
+use Rattle.vd_layout.proofs.InTable.{runs_in_table}
 use Rattle.vd_layout.specs.Begun.{DeviceOp}
-use Rattle.vd_layout.specs.Device.{Runs, IsStill, IsLawfulDevice}
+use Rattle.vd_layout.specs.Device.{IsStill, IsLawfulDevice}
 use Rattle.vd_split.specs.declared.device.SplitDevice.{SplitDevice}
 use Rattle.vd_split.specs.declared.device.DeviceStep.{DeviceStep}
 use Rattle.vd_split.specs.declared.device.DeviceStep.TheVariants as step
@@ -268,28 +269,6 @@ frame_at now.Idle v op.Control (Store p x) r = refl
 frame_at now.Idle v op.Control (Load p) r = refl
 frame_at _ v _ _ r = refl
 
--- ---- what the end knows of its chains
-
-some_same : (a b : Option ℕ) (j k : ℕ) → a ≡ Some j → b ≡ Some k → a ≡ b → j ≡ k
-some_same a b j k x y z = cc
-
-runs_at : (e : SplitDevice) (v : DeviceView) → DeviceStands e v → Runs v.frame v.done
-runs_at e v st =
-    let s : List DeviceDone = v.done in let table : List (Option ℕ) = e.running.items in
-    let kept = λ (k : ℕ) (runs : Contains (running s) k). st.holds.kept k (occurs_from k (running s) runs) in record {
-      each = st.holds.once.each;
-      count = st.holds.once.count;
-      as_many = st.holds.once.as_many;
-      inside = λ k runs. elim (cases_lt (taken_head s k) v.frame.size) [
-        | inl a ↦ a
-        | inr a ↦ absurd (none k (sym (get_or_past table (taken_head s k) None (omega (arith, a, st.holds.places))) ∙ kept k runs))
-      ];
-      apart = λ k b j a e. some_same (Some j) (Some k) j k refl refl (sym (kept j a) ∙ ap (number_at table) e ∙ kept k b);
-    }
-  where
-    none : (k : ℕ) → None ≡ Some k → ⊥
-    none k z = cc z
-
 pub device_laws : IsLawfulDevice split_device
 device_laws = record {
   sized = λ e v st. (st.made.sized, st.made.featured);
@@ -302,7 +281,7 @@ device_laws = record {
   control = λ e v a r st n. control_at v.doing e v a r st n;
   framed = λ v o a r. frame_at v.doing v o a r;
   unarmed = λ e v st still. st.silent.unarmed;
-  runs = runs_at;
+  runs = λ e v st. runs_in_table e.running.items v.frame v.done st.holds.once.each st.holds.once.count st.holds.once.as_many st.holds.places st.holds.kept;
   controls = device_controls;
 }
 
