@@ -1,0 +1,9 @@
+pub mod Spots
+pub mod Seconds
+pub mod DriverEnd
+pub mod Places
+pub mod Offers
+pub mod DriverSteps
+pub mod DriverCollecting
+pub mod DriverLaws
+pub mod Opening
