@@ -1,5 +1,5 @@
 -- The step of a collect: it is next in a view that the end stands for, and the end stands for the view after it.
-use Rattle.std.proofs.Common.{◌≡◌, ℕ, zero, suc, ◌+◌, ◌*◌, ◌<◌, ◌≤◌, Bool, true, false, List, [], ◌∷◌, ◌++◌, length, if◌then◌else◌, slice_index, slice_index_or, refl, sym, ap, ◌∙◌, subst, arith}
+use Rattle.std.proofs.Common.{◌≡◌, ℕ, ◌+◌, ◌*◌, ◌<◌, ◌≤◌, Bool, true, false, List, [], ◌∷◌, ◌++◌, length, if◌then◌else◌, slice_index, slice_index_or, refl, sym, ap, ◌∙◌, subst, arith}
 use Rattle.std.proofs.lemmas.List.{length_push, append-nil}
 use Rattle.vd_model.specs.Chains.{needs}
 use Rattle.vd_words.specs.declared.access.Access.TheVariants.{Load}
@@ -17,9 +17,9 @@ use Rattle.vd_ring.specs.Places.{Places}
 use Rattle.vd_ring.proofs.Counts.{occurs_from, Contains_from, occurs_without, with_head_is, sum_one, sum_without}
 use Rattle.vd_ring.proofs.HeldPlaces.{open_below, same_head, collect_places, head_inside}
 use Rattle.vd_ring.proofs.ListSteps.{batch_one}
-use Rattle.vd_packed_ring.specs.PackedWords.{IsLawful, second_word, id_of, len_of, is_used}
+use Rattle.vd_packed_ring.specs.PackedWords.{IsLawful, id_of, len_of, is_used}
 use Rattle.vd_packed_ring.specs.PackedPositions.{cpos}
-use Rattle.vd_packed_ring.specs.PackedDriver.{NamesOpen, DriverNextAt, DriverNext, DriverTells, DriverTellsAt, driver_after, driver_after_at, driver_act_at, driver_looks, driver_collects, collect_act}
+use Rattle.vd_packed_ring.specs.PackedDriver.{NamesOpen, DriverNextAt, DriverNext, DriverTells, DriverTellsAt, driver_after, driver_after_at, driver_act_at, driver_collects, collect_act}
 use Rattle.vd_packed_ring.proofs.Positions.{cpos_collected}
 use Rattle.vd_packed_ring.proofs.Spelled.{lent_one}
 use Rattle.vd_layout.specs.Begun.{DriverOp}

@@ -1,6 +1,6 @@
 -- The steps of an offer: each is next in a view that the end stands for, and the end stands for the view after it.
 use Rattle.std.proofs.Common.{◌≡◌, ◌≢◌, ℕ, zero, suc, ◌+◌, ◌-◌, ◌*◌, ◌/◌, ◌%◌, ◌<◌, ◌≤◌, ◌==◌, Bool, true, false, List, [], ◌∷◌, ◌++◌, length, take, drop, None, if◌then◌else◌, nat_lt, slice_index, slice_index_or, slice_set, refl, sym, ap, ◌∙◌, subst, arith, inl, inr}
-use Rattle.std.proofs.lemmas.Bool.{cases_eq, cases_lt, eq-eqb, ne_eqb, lt-ltb, le-ltb, ltb-true, ltb-false}
+use Rattle.std.proofs.lemmas.Bool.{cases_eq, eq-eqb, ne_eqb, ltb-true, ltb-false}
 use Rattle.std.proofs.lemmas.List.{length-set, length_push, take_all, take_more, get_or-set_same, get_or-set_other, get_or-take}
 use Rattle.std.specs.Vec.{with_item}
 use Rattle.vd_model.specs.declared.chain.Piece.{Piece}
@@ -16,17 +16,16 @@ use Rattle.vd_ring.specs.declared.frame.Frame.{Frame}
 use Rattle.vd_ring.specs.declared.frame.Put.{Put}
 use Rattle.vd_ring.specs.declared.driver.DriverDone.{DriverDone}
 use Rattle.vd_ring.specs.declared.driver.DriverDone.TheVariants.{Offer}
-use Rattle.vd_ring.specs.declared.driver.DriverNow.{DriverNow}
 use Rattle.vd_ring.specs.declared.driver.DriverNow.TheVariants as now
 use Rattle.vd_ring.specs.declared.driver.DriverView.{DriverView}
 use Rattle.vd_ring.specs.Frames.{lent}
-use Rattle.vd_ring.specs.History.{offers, open_at, open_size, free, next_head, chain, head, first, occurs}
+use Rattle.vd_ring.specs.History.{offers, open_at, open_size, free, next_head, head, first, occurs}
 use Rattle.vd_ring.specs.Places.{Places}
-use Rattle.vd_ring.proofs.Counts.{one_same, one_other, occurs_at, occurs_push}
+use Rattle.vd_ring.proofs.Counts.{one_same, one_other, occurs_push}
 use Rattle.vd_ring.proofs.HeldInside.{next_low}
 use Rattle.vd_ring.proofs.HeldPlaces.{open_below, offer_places, places_before, places_new, chain_before, chain_new, head_inside, same_head}
 use Rattle.vd_packed_ring.specs.PackedWords.{IsLawful, IsBuilt, second_word, put, words_of}
-use Rattle.vd_packed_ring.specs.PackedChains.{Descriptor, direct, staged, avail_word, publishing, descriptors, staged_chain, staged_pieces}
+use Rattle.vd_packed_ring.specs.PackedChains.{direct, staged, publishing, staged_chain, staged_pieces}
 use Rattle.vd_packed_ring.specs.PackedPositions.{opos, cpos}
 use Rattle.vd_packed_ring.specs.PackedDriver.{CanOffer, Begins, DriverNextAt, DriverNext, driver_after_at, driver_after, driver_act, driver_act_at, driver_offers, plan, last_put, stores}
 use Rattle.vd_packed_ring.proofs.Clear.{plan_is}
@@ -36,7 +35,6 @@ use Rattle.vd_layout.specs.Begun.{DriverOp}
 use Rattle.vd_layout.specs.Driver.{DriverSays, IsDriverStep}
 use Rattle.vd_packed.specs.declared.driver.PackedDriver.{PackedDriver}
 use Rattle.vd_packed.specs.declared.driver.Slot.{Slot}
-use Rattle.vd_packed.specs.declared.driver.DriverStep.{DriverStep}
 use Rattle.vd_packed.specs.declared.driver.DriverStep.TheVariants as step
 use Rattle.vd_packed.specs.declared.spot.Spot.{Spot}
 use Rattle.vd_packed.specs.DriverEnd.{HoldsIds, DriverStands, DriverStepStands, Keeps, offering, driver_begun, driver_left, packed_driver}

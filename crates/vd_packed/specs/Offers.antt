@@ -8,11 +8,11 @@ use Rattle.vd_ring.specs.declared.frame.Frame.{Frame}
 use Rattle.vd_ring.specs.declared.frame.Put.{Put}
 use Rattle.vd_ring.specs.declared.driver.DriverDone.{DriverDone}
 use Rattle.vd_ring.specs.History.{next_head}
-use Rattle.vd_packed_ring.specs.PackedWords.{IsLawful, IsBuilt, wrap_bit, other_bit, addr_word, second_word, packed_word, put}
+use Rattle.vd_packed_ring.specs.PackedWords.{IsLawful, IsBuilt, wrap_bit, addr_word, second_word, packed_word, put}
 use Rattle.vd_packed_ring.specs.PackedChains.{Descriptor, avail_word, direct, described, staged}
 use Rattle.vd_packed_ring.specs.PackedDriver.{CanOffer, Begins, plan}
-use Rattle.vd_packed_ring.specs.PackedPositions.{opos, cpos}
-use Rattle.vd_packed_ring.proofs.Clear.{plan_is, room_pieces}
+use Rattle.vd_packed_ring.specs.PackedPositions.{opos}
+use Rattle.vd_packed_ring.proofs.Clear.{plan_is}
 use Rattle.vd_packed_ring.proofs.Plans.{publishing_apart}
 use Rattle.vd_packed_ring.proofs.Spelled.{length_direct, needs_pieces}
 use Rattle.vd_packed.specs.declared.spot.Spot.{Spot}

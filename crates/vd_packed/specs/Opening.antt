@@ -1,5 +1,5 @@
 -- The driver's end of a fresh ring stands for its fresh view.
-use Rattle.std.proofs.Common.{◌≡◌, ℕ, ◌+◌, ◌/◌, ◌%◌, ◌<◌, ◌≤◌, List, [], length, true, refl, sym, ap, ◌∙◌, subst, arith}
+use Rattle.std.proofs.Common.{◌≡◌, ℕ, ◌/◌, ◌%◌, ◌<◌, [], length, true, refl, sym, ap, ◌∙◌, subst, arith}
 use native.Mathlib.Nat.{mod-eq_of_lt, div-eq_of_lt}
 use Rattle.vd_ring.specs.declared.frame.Frame.{Frame}
 use Rattle.vd_ring.specs.declared.driver.DriverNow.TheVariants as driver
@@ -7,7 +7,7 @@ use Rattle.vd_ring.specs.Fresh.{fresh_driver}
 use Rattle.vd_ring.specs.History.{upto}
 use Rattle.vd_ring.specs.Places.{Places}
 use Rattle.vd_ring.proofs.Counts.{one_above, occurs_upto, length_upto}
-use Rattle.vd_packed_ring.specs.PackedWords.{width, wrap_bit}
+use Rattle.vd_packed_ring.specs.PackedWords.{width}
 use Rattle.vd_packed.specs.declared.driver.PackedDriver.{PackedDriver}
 use Rattle.vd_packed.specs.declared.driver.DriverStep.TheVariants as step
 use Rattle.vd_packed.specs.declared.spot.Spot.{Spot}

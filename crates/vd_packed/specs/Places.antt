@@ -73,13 +73,13 @@ forward_at s n q k pos few at = elim (cases_lt (s.place + k) n) [
       }
       )
   | inr h ↦ (
-    let over = turns n q k pos few (omega (arith, at.place)) in
-    let on : nat_le n (s.place + k) ≡ true = le-leb n (s.place + k) h in
-    record {
-      place = ap (λ (b : Bool). if b then s.place + k - n else s.place + k) on ∙ (ap (λ (p : ℕ). p + k - n) at.place ∙ sym over.0);
-      wrap = ap (λ (b : Bool). bit (if b then not s.wrap else s.wrap)) on ∙ next_wrap n q (q + k) s.wrap over.1 at.wrap;
-    }
-    )
+      let over = turns n q k pos few (omega (arith, at.place)) in
+      let on : nat_le n (s.place + k) ≡ true = le-leb n (s.place + k) h in
+      record {
+        place = ap (λ (b : Bool). if b then s.place + k - n else s.place + k) on ∙ (ap (λ (p : ℕ). p + k - n) at.place ∙ sym over.0);
+        wrap = ap (λ (b : Bool). bit (if b then not s.wrap else s.wrap)) on ∙ next_wrap n q (q + k) s.wrap over.1 at.wrap;
+      }
+      )
 ]
 
 -- ---- bases

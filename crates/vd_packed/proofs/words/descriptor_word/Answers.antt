@@ -1,4 +1,4 @@
-use Rattle.std.proofs.Common.{◌≡◌, ◌⊎◌, ℕ, ◌+◌, ◌/◌, ◌%◌, ap, ◌∙◌, inl, inr, arith}
+use Rattle.std.proofs.Common.{◌∙◌, inl, inr}
 use Rattle.vd_packed.specs.Offers.{addr_store, word_store}
 use Rattle.vd_packed.proofs.words.descriptor_word.Goals.{then-at-eq0-via-then-at-eq0, then-at-eq0-via-else-at-eq0+then-at-eq1}
 use Rattle.vd_packed.proofs.words.descriptor_word.Goals as goal

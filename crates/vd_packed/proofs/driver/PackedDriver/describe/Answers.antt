@@ -1,4 +1,4 @@
-use Rattle.std.proofs.Common.{◌≡◌, ◌+◌, ◌/◌, ◌*◌, ◌<◌, ◌≤◌, ℕ, List, length, slice_index, slice_index_or, ap, sym, ◌∙◌, subst, arith}
+use Rattle.std.proofs.Common.{◌≡◌, ◌+◌, ◌/◌, ℕ, List, length, slice_index, slice_index_or, ap, sym, ◌∙◌, subst, arith}
 use Rattle.vd_model.specs.declared.chain.Piece.{Piece}
 use Rattle.vd_words.specs.declared.access.Access.TheVariants.{Store}
 use Rattle.vd_words.specs.declared.access.Op.TheVariants as op
@@ -8,7 +8,6 @@ use Rattle.vd_packed_ring.specs.PackedWords.{put}
 use Rattle.vd_packed_ring.specs.PackedChains.{direct, staged}
 use Rattle.vd_packed.specs.declared.driver.DriverStep.TheVariants as step
 use Rattle.vd_packed.specs.declared.driver.PackedDriver.{PackedDriver}
-use Rattle.vd_packed.specs.declared.spot.Spot.{Spot}
 use Rattle.vd_packed.specs.DriverEnd.{DriverStands}
 use Rattle.vd_packed.specs.DriverSteps.{Goes, made, describe_goes_at, describe_facts}
 use Rattle.vd_packed.specs.Seconds.{described_step, spot_after}

@@ -1,4 +1,4 @@
-use Rattle.std.proofs.Common.{◌≡◌, ◌+◌, ◌*◌, ◌-◌, ◌<◌, ◌≤◌, ℕ, List, length, drop, slice_index, slice_index_or, if◌then◌else◌, nat_lt, refl, ap, sym, ◌∙◌, subst, arith}
+use Rattle.std.proofs.Common.{◌≡◌, ◌+◌, ◌*◌, ◌-◌, ℕ, List, length, drop, slice_index, slice_index_or, if◌then◌else◌, nat_lt, refl, ap, sym, ◌∙◌, subst, arith}
 use Rattle.std.specs.Vec.{with_item}
 use Rattle.vd_model.specs.declared.chain.Piece.{Piece}
 use Rattle.vd_model.specs.Chains.{blank}
@@ -8,7 +8,6 @@ use Rattle.vd_ring.specs.declared.act.DriverAct.TheVariants as act
 use Rattle.vd_ring.specs.declared.driver.DriverView.{DriverView}
 use Rattle.vd_packed.specs.declared.driver.DriverStep.TheVariants as step
 use Rattle.vd_packed.specs.declared.driver.PackedDriver.{PackedDriver}
-use Rattle.vd_packed.specs.declared.driver.Slot.{Slot}
 use Rattle.vd_packed.specs.DriverEnd.{DriverStands}
 use Rattle.vd_packed.specs.DriverSteps.{Goes, made, publish_goes, publish_facts}
 use Rattle.vd_packed.specs.Seconds.{available_word}
