@@ -18,6 +18,7 @@ use Rattle.vd_ring.specs.declared.frame.Frame.{Frame}
 use Rattle.vd_ring.specs.Frames.{Fits, limit}
 use Rattle.vd_ring.specs.History.{entry, offers, collects, open_at}
 use Rattle.vd_ring.proofs.Counts.{occurs_from, length_without}
+use Rattle.vd_layout.proofs.OnePair.{says_collected}
 use Rattle.vd_layout.specs.Begun.{DriverOp, DriverPublished, DriverGoesOn}
 use Rattle.vd_layout.specs.Driver.{DriverModel, IsDriverStep, IsLawfulDriver, HasRoom, MayOffer}
 use Rattle.vd_bus.specs.Guest.{as_return}
@@ -167,9 +168,10 @@ module _ {P D : Type 0} (port : PortModel P) (d : DriverModel D) (law : IsLawful
       let h = opens.drives in
       let v' : DriverView = d.side.after v st.op st.access st.got in
       let framed : v'.frame ≡ v.frame = law.framed v st.op st.access st.got in
-      let done : v'.done ≡ Collect (entry k len ∷ []) ∷ v.done = st.says.2 in
+      let said = says_collected k len hd (d.begun b) (d.begun y) v.frame v.done v'.done st.says in
+      let done : v'.done ≡ Collect (entry k len ∷ []) ∷ v.done = said.done in
       let cols : collects v'.done ≡ collects v.done ++ entry k len ∷ [] = ap collects done in
-      let shorter = length_without k (open_at v.done) (occurs_from k (open_at v.done) st.says.3) in
+      let shorter = length_without k (open_at v.done) (occurs_from k (open_at v.done) said.was_open) in
       let back : length r ≡ length (collects v.done) = ap length h.returned ∙ length-map (collects v.done) as_return in
       let more : length r' ≡ length r + 1 = ap length is_back ∙ length_push r (record { number = k; len = len; ack = 0 }) in
       let many : length (offers v.done) ≡ o = ap length h.offers ∙ length-take-le o (chains s) h.some in
@@ -187,8 +189,8 @@ module _ {P D : Type 0} (port : PortModel P) (d : DriverModel D) (law : IsLawful
           some = h.some;
           returned = is_back ∙ ap (λ z. z ++ record { number = k; len = len; ack = 0 } ∷ []) h.returned ∙ sym (map_push as_return (collects v.done) (entry k len)) ∙ ap (map as_return) (sym cols);
           count = omega (arith, h.count, shorter, ap length cols, length_push (collects v.done) (entry k len), ap (λ (z : List DriverDone). length (offers z)) done, ap (λ (z : List DriverDone). length (open_at z)) done);
-          begun = subst (λ z. BegunIs z (next_at s.runs at) v'.frame v'.done) (sym st.says.1) tt;
-          done = done_is t (d.begun y) (length r') (length (chains s)) is_done st.says.1 (omega (arith, h.count, shorter, h.some));
+          begun = subst (λ z. BegunIs z (next_at s.runs at) v'.frame v'.done) (sym said.idle) tt;
+          done = done_is t (d.begun y) (length r') (length (chains s)) is_done said.idle (omega (arith, h.count, shorter, h.some));
           room = omega (arith, h.room);
           few = h.few;
           fits = subst (λ (f : Frame). All (Fits f) (chains s)) (sym framed) h.fits;
@@ -197,14 +199,15 @@ module _ {P D : Type 0} (port : PortModel P) (d : DriverModel D) (law : IsLawful
         grows = record { offers = prefix_same (offers v.done) (offers v'.done) (ap offers done); collects = prefix_push (collects v.done) (collects v'.done) (entry k len) cols };
         looked = λ z. let e : act.Collected k len hd ≡ act.Asleep = st.is_answer ∙ z in cc;
         waits = λ z. absurd (cc);
-        nearer = λ z. omega (arith, h.count, shorter, h.some, ap (λ w. drive_weight w (d.left b)) st.says.0, ap (λ w. drive_weight w (d.left y)) st.says.1);
+        nearer = λ z. omega (arith, h.count, shorter, h.some, ap (λ w. drive_weight w (d.left b)) said.begun, ap (λ w. drive_weight w (d.left y)) said.idle);
       }
 
   -- there is room for what came back
   pub can_keep : (k len hd : ℕ) → DriveOpens d s (drive b at o r n false) v → IsDriverStep port d p q v b y (act.Collected k len hd) → length r < n
   can_keep k len hd opens st =
       let h = opens.drives in
-      let shorter = length_without k (open_at v.done) (occurs_from k (open_at v.done) st.says.3) in
+      let said = says_collected k len hd (d.begun b) (d.begun y) v.frame v.done (d.side.after v st.op st.access st.got).done st.says in
+      let shorter = length_without k (open_at v.done) (occurs_from k (open_at v.done) said.was_open) in
       omega (arith, h.count, shorter, h.some, h.room, ap length h.returned ∙ length-map (collects v.done) as_return, ap length h.offers ∙ length-take-le o (chains s) h.some)
 
   -- what was done is the same

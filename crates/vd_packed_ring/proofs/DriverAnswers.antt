@@ -27,7 +27,7 @@ use Rattle.vd_ring.proofs.ControlSteps.{head_new}
 use Rattle.vd_ring.proofs.DriverBag.{offer_step}
 use Rattle.vd_packed_ring.specs.PackedWords.{second_word, put, words_of, is_used, Stand}
 use Rattle.vd_packed_ring.specs.PackedChains.{Descriptor, described, staged_chain}
-use Rattle.vd_packed_ring.specs.PackedPositions.{opos, cpos}
+use Rattle.vd_packed_ring.specs.PackedPositions.{opos, cpos, later}
 use Rattle.vd_packed_ring.specs.PackedDriver.{Publishes, DriverNextAt, DriverNext, driver_after_at, driver_act_at, driver_act, driver_offers, driver_collects, stores, collect_act}
 use Rattle.vd_packed_ring.specs.PackedDriverLaws.{DriverBags, IsOffered, IsCollected, CollectsNothing}
 use Rattle.vd_packed_ring.specs.PackedRing.{Ring, Stages}
@@ -81,7 +81,7 @@ abbrev store_act : ℕ → Bool → DriverAct
 store_act k b = if b then act.Offered k else act.Moved
 
 abbrev looked : DriverView → ℕ → Bool → DriverView
-looked v r b = if b then driver_collects v r else record v { seen = cpos v.frame v.done; shown = false }
+looked v r b = if b then driver_collects v r else record v { seen = later v.seen (cpos v.frame v.done); shown = false }
 
 abbrev look_act : DriverView → ℕ → Bool → DriverAct
 look_act v r b = if b then collect_act v r else act.Nothing

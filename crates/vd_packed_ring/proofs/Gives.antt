@@ -19,13 +19,13 @@ use Rattle.vd_ring.proofs.ListSteps.{batch_one}
 use Rattle.vd_ring.proofs.DeviceLists.{running_below, running_head, same_taken_head, lists_given, lists_rested}
 use Rattle.vd_ring.proofs.DeviceAcks.{acks_given, acks_rested, acks_elsewhere}
 use Rattle.vd_packed_ring.specs.PackedWords.{is_available, width, device_event, call_at, ack_word, second_word, len_of, id_of, used_word}
-use Rattle.vd_packed_ring.specs.PackedPositions.{tpos, opos, upos, made_at, marks, stands, second_at}
+use Rattle.vd_packed_ring.specs.PackedPositions.{tpos, opos, upos, made_at, marks, stands, second_at, later}
 use Rattle.vd_packed_ring.specs.PackedDevice.{Returns, device_gives, seen_to, device_rests}
 use Rattle.vd_packed_ring.specs.PackedRing.{Ring, puts_of}
 use Rattle.vd_packed_ring.proofs.WordFacts.{used_id, used_len}
 use Rattle.vd_packed_ring.proofs.Areas.{areas, second_low, second_inside, device_second}
 use Rattle.vd_packed_ring.proofs.Rows.{row_same, row_over}
-use Rattle.vd_packed_ring.proofs.Positions.{needs_some, order, upos_is, taken_chain, gives_below, upos_given}
+use Rattle.vd_packed_ring.proofs.Positions.{needs_some, order, upos_is, taken_chain, gives_below, upos_given, later_second, later_within}
 use Rattle.vd_packed_ring.proofs.Made.{length_marks, mark_new, mark_old}
 use Rattle.vd_packed_ring.proofs.Clear.{doing_clear, doing_other, signals_elsewhere}
 use Rattle.vd_packed_ring.proofs.Ahead.{ahead, none_shows}
@@ -141,7 +141,7 @@ rests ws d e w r whole is =
     let none : running_size f s2 ≡ 0 = refl in
     let back : tpos f s2 ≤ tpos f s = omega (arith, ord.given, same_upos, ord2.running_span, none) in
     let sees = rest_sees ws d E w r is in
-    ring_with ws ws d E (record E { done = s2; armed = None; seen = seen_to E w }) r record {
+    ring_with ws ws d E (record E { done = s2; armed = None; seen = later e.seen (seen_to E w) }) r record {
       same = refl;
       words = r.words;
       seconds = row_same f.size 1 ws (opos f o) (puts_of d.doing) (second_at f o s) (second_at f o s2) (λ q a. refl) r.seconds;
@@ -152,7 +152,7 @@ rests ws d e w r whole is =
       driver_doing = r.driver_doing;
       device_doing = tt;
       driver_seen = omega (arith, r.driver_seen, same_upos);
-      device_seen = sees.0;
-      device_shown = λ h. omega (arith, sees.1 h, back);
+      device_seen = later_within _ _ _ r.device_seen sees.0;
+      device_shown = λ h. omega (arith, sees.1 h, back, later_second e.seen (seen_to E w));
       rested = (len, whole);
     }

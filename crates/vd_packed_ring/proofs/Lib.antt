@@ -26,4 +26,6 @@ pub mod Spelling
 pub mod DriverAnswers
 pub mod DeviceAnswers
 pub mod DeviceBagSteps
+pub mod Seen
 mod Examples
+pub mod ControlFacts

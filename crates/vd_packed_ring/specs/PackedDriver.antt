@@ -24,7 +24,7 @@ use Rattle.vd_ring.specs.History.{offers, collects, head, next_head, open_at, co
 use Rattle.vd_ring.specs.Control.{IsControlChain, StoresCommand, LoadsAck, last_collected}
 use Rattle.vd_packed_ring.specs.PackedWords.{IsDrivers, commands_from, command_word, ack_word, second_word, len_of, id_of, is_used, put, words_of}
 use Rattle.vd_packed_ring.specs.PackedChains.{descriptors, spelling, publishing, staged_chain}
-use Rattle.vd_packed_ring.specs.PackedPositions.{opos, cpos}
+use Rattle.vd_packed_ring.specs.PackedPositions.{opos, cpos, later}
 
 -- ---- the conditions
 
@@ -93,11 +93,11 @@ driver_stores v puts p x = if p == second_word v.frame.size (opos v.frame v.done
 
 abbrev pub driver_collects : DriverView → ℕ → DriverView
 driver_collects v r =
-    let o : List DriverDone = Collect (collected v.frame v.done (id_of r) (len_of r)) ∷ v.done in record v { done = o; seen = cpos v.frame o; shown = false }
+    let o : List DriverDone = Collect (collected v.frame v.done (id_of r) (len_of r)) ∷ v.done in record v { done = o; seen = later v.seen (cpos v.frame o); shown = false }
 
 -- the look is the collect's only load
 abbrev pub driver_looks : DriverView → ℕ → DriverView
-driver_looks v r = if is_used v.frame.size (cpos v.frame v.done) r then driver_collects v r else record v { seen = cpos v.frame v.done; shown = false }
+driver_looks v r = if is_used v.frame.size (cpos v.frame v.done) r then driver_collects v r else record v { seen = later v.seen (cpos v.frame v.done); shown = false }
 
 abbrev pub driver_commands : DriverView → ℕ → ℕ → DriverView
 driver_commands v p x =

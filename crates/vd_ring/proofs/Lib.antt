@@ -7,3 +7,4 @@ pub mod DriverBag
 pub mod DeviceLists
 pub mod DeviceAcks
 pub mod DeviceBag
+pub mod ControlWordsStand

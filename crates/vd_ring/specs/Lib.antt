@@ -1,6 +1,7 @@
 pub mod Frames
 pub mod History
 pub mod Control
+pub mod ControlLaws
 pub mod Bag
 pub mod Account
 pub mod Places

@@ -11,6 +11,7 @@ use Rattle.vd_ring.specs.declared.driver.DriverDone.TheVariants.{Offer, Collect}
 use Rattle.vd_ring.specs.declared.device.DeviceDone.{DeviceDone}
 use Rattle.vd_ring.specs.declared.device.DeviceDone.TheVariants.{Take, Give, Rest}
 use Rattle.vd_ring.specs.declared.frame.Frame.{Frame}
+use Rattle.vd_layout.proofs.OnePair.{says_collected, says_given}
 use Rattle.vd_layout.specs.Begun.{DriverOp, DeviceOp}
 use Rattle.vd_layout.specs.Control.{ControlWords}
 use Rattle.vd_layout.specs.Driver.{DriverSays}
@@ -20,7 +21,7 @@ pub offer_says : (x : DriverAct) (b : DriverOp) (c : List Piece) (f : Frame) (o 
 offer_says driver_act.Moved b c f o o' is told s = absurd (told refl)
 offer_says driver_act.Nothing b c f o o' is told s = absurd (cc (is, s.0))
 offer_says (driver_act.Offered k) b c f o o' is told s = let same : s.0 ≡ c = cc (is, s.1) in s.4 ∙ ap (λ x. Offer x ∷ o) same
-offer_says (driver_act.Collected k n h) b c f o o' is told s = absurd (cc (is, s.0))
+offer_says (driver_act.Collected k n h) b c f o o' is told s = absurd (cc (is, s.1))
 offer_says driver_act.Armed b c f o o' is told s = absurd s
 offer_says driver_act.Awake b c f o o' is told s = absurd s
 offer_says driver_act.Asleep b c f o o' is told s = absurd s
@@ -30,9 +31,10 @@ give_says words device_act.Moved b k n f s s' is told h = absurd (told refl)
 give_says words device_act.Nothing b k n f s s' is told h = absurd (cc (is, h.0))
 give_says words (device_act.Taken j c) b k n f s s' is told h = absurd (cc (is, h.1))
 give_says words (device_act.Given j) b k n f s s' is told h =
-    let number : j ≡ k = cc (is, h.1) in
-    let length : h.0 ≡ n = cc (is, h.1) in
-    (h.3 ∙ ap (λ i. Give (entry i h.0 ∷ []) ∷ s) number ∙ ap (λ l. Give (entry k l ∷ []) ∷ s) length, refl)
+    let given = says_given words j b DeviceOp.idle f s s' h in
+    let number : j ≡ k = cc (is, h.2) in
+    let length : h.0 ≡ n = cc (is, h.2) in
+    (given.done ∙ ap (λ i. Give (entry i h.0 ∷ []) ∷ s) number ∙ ap (λ l. Give (entry k l ∷ []) ∷ s) length, refl)
 give_says words device_act.Rested b k n f s s' is told h = absurd (cc (is, h.0))
 give_says words device_act.Armed b k n f s s' is told h = absurd h
 give_says words device_act.Awake b k n f s s' is told h = absurd h
@@ -47,7 +49,7 @@ pub take_says : (words : ControlWords) (x : DeviceAct) (b : DeviceOp) (f : Frame
 take_says words device_act.Moved b f s s' is told h = absurd (told refl)
 take_says words device_act.Nothing b f s s' is told h = nothing h.2
 take_says words (device_act.Taken k c) b f s s' is told h = taken k c h.0 h.4
-take_says words (device_act.Given k) b f s s' is told h = absurd (cc (is, h.1))
+take_says words (device_act.Given k) b f s s' is told h = absurd (cc (is, h.2))
 take_says words device_act.Rested b f s s' is told h = absurd (cc (is, h.0))
 take_says words device_act.Armed b f s s' is told h = absurd h
 take_says words device_act.Awake b f s s' is told h = absurd h
@@ -62,7 +64,7 @@ pub collect_says : (x : DriverAct) (b : DriverOp) (f : Frame) (o o' : List Drive
 collect_says driver_act.Moved b f o o' is told s = absurd (told refl)
 collect_says driver_act.Nothing b f o o' is told s = nothing s.2
 collect_says (driver_act.Offered k) b f o o' is told s = absurd (cc (is, s.1))
-collect_says (driver_act.Collected k n h) b f o o' is told s = collected k n h s.2
+collect_says (driver_act.Collected k n h) b f o o' is told s = collected k n h (says_collected k n h b DriverOp.idle f o o' s).done
 collect_says driver_act.Armed b f o o' is told s = absurd s
 collect_says driver_act.Awake b f o o' is told s = absurd s
 collect_says driver_act.Asleep b f o o' is told s = absurd s
@@ -108,7 +110,7 @@ pub rest_says : (words : ControlWords) (x : DeviceAct) (b : DeviceOp) (f : Frame
 rest_says words device_act.Moved b f s s' is told h = absurd (told refl)
 rest_says words device_act.Nothing b f s s' is told h = absurd (cc (is, h.0))
 rest_says words (device_act.Taken k c) b f s s' is told h = absurd (cc (is, h.1))
-rest_says words (device_act.Given k) b f s s' is told h = absurd (cc (is, h.1))
+rest_says words (device_act.Given k) b f s s' is told h = absurd (cc (is, h.2))
 rest_says words device_act.Rested b f s s' is told h = (h.2, refl)
 rest_says words device_act.Armed b f s s' is told h = absurd h
 rest_says words device_act.Awake b f s s' is told h = absurd h

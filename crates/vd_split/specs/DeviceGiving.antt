@@ -26,6 +26,7 @@ use Rattle.vd_ring.proofs.ListSteps.{batch_one}
 use Rattle.vd_split_ring.specs.SplitWords.{used_from, lane_word}
 use Rattle.vd_split_ring.specs.SplitDevice.{DeviceNextAt, DeviceNext, device_after_at, device_after, device_act, device_act_at}
 use Rattle.vd_split_ring.proofs.Areas.{areas}
+use Rattle.vd_layout.proofs.OnePair.{were_given}
 use Rattle.vd_layout.specs.Begun.{DeviceOp}
 use Rattle.vd_layout.specs.Device.{DeviceSays, IsDeviceStep, is_rested}
 use Rattle.vd_split.specs.declared.device.SplitDevice.{SplitDevice}
@@ -210,7 +211,7 @@ publish_goes e v r number head len x is st word =
       is = sym (ap (λ t. device_act_at t v op.Give (Store p x) r) n.2 ∙ ap (λ (ys : List Used). act.Given (last_used ys).number) one);
       left = subst (λ t. 0 < device_left t (length e.pieces.items)) (sym is) (let y : 0 < 1 = omega arith in y);
       says = subst (λ t. DeviceSays split_words (act.Given number) (device_begun t) DeviceOp.idle f s (device_after v op.Give (Store p x) r).done) (sym is)
-          (len, refl, inl refl, ap (λ (w : DeviceView). w.done) is_after, record { runs = Contains_from number (running s) next.runs; in_order = next.in_order });
+          (len, entry number len ∷ [], refl, inl refl, ap (λ (w : DeviceView). w.done) is_after, were_given f s number len (Contains_from number (running s) next.runs) next.in_order);
       rests = refl;
     }
 

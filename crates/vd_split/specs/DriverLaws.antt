@@ -22,6 +22,7 @@ use Rattle.vd_ring.proofs.Counts.{sum_same}
 use Rattle.vd_split_ring.specs.SplitWords.{avail_from, tables_from, commands_from, command_word, shows, shown_from}
 use Rattle.vd_split_ring.specs.SplitDriver.{CanOffer, DriverNextAt, driver_after_at}
 use Rattle.vd_split_ring.proofs.Areas.{areas}
+use Rattle.vd_split_ring.proofs.ControlFacts.{driver_controls}
 use Rattle.vd_split_ring.proofs.Direct.{lent_needs, needs_pieces}
 use Rattle.vd_layout.specs.Begun.{DriverOp}
 use Rattle.vd_layout.specs.Driver.{HasRoom, MayOffer, IsLawfulDriver}
@@ -180,4 +181,6 @@ driver_laws = record {
   ends = λ e none. ends_at e.doing e.pieces.items none;
   control = λ e v a r st n. control_at v.doing e v a r st n;
   framed = λ v o a r. frame_at v.doing v o a r;
+  places = λ e v st. st.holds.held;
+  controls = driver_controls;
 }

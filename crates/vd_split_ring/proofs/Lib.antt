@@ -22,4 +22,6 @@ pub mod DeviceViews
 pub mod DeviceKeeping
 pub mod DeviceBagSteps
 pub mod DeviceAnswers
+pub mod Seen
 mod Examples
+pub mod ControlFacts
