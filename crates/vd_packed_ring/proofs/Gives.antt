@@ -147,7 +147,7 @@ rests ws d e w r whole is =
       seconds = row_same f.size 1 ws (opos f o) (puts_of d.doing) (second_at f o s) (second_at f o s2) (λ q a. refl) r.seconds;
       lists = lists2;
       short = r.short;
-      signals = record { enable = λ q at off. absurd cc; event = λ q at on. absurd cc; bell = r.device_signals.bell };
+      signals = record { flags = r.device_signals.flags; names = r.device_signals.names; enable = λ q at off. absurd cc; event = λ q at on. absurd cc; bell = r.device_signals.bell };
       acks = acks_rested f (ack_word f) o s e.stored r.acks;
       driver_doing = r.driver_doing;
       device_doing = tt;

@@ -229,7 +229,7 @@ rests ws d e x r is index =
       words = r.words;
       lists = lists_rested f d.done s r.lists is;
       device_words = record { index = r.device_words.index; ids = r.device_words.ids; lens = r.device_words.lens };
-      signals = record { no_flags = r.device_signals.no_flags; flags = λ n at. absurd cc; event = λ n at. absurd cc; bell = r.device_signals.bell };
+      signals = record { no_flags = r.device_signals.no_flags; no_event = r.device_signals.no_event; bit = r.device_signals.bit; flags = λ n at. absurd cc; event = λ n at. absurd cc; bell = r.device_signals.bell };
       acks = acks_rested f (ack_word f) d.done s e.stored r.acks;
       driver_doing = doing_along d.doing f d.done d.stored d.seen s (Rest ∷ s) (λ u at. at) r.driver_doing;
       device_doing = tt;

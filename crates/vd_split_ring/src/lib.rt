@@ -5,6 +5,7 @@ mod control_laws;
 mod device_laws;
 mod driver_laws;
 mod laws;
+mod signal_laws;
 
 pub use control_laws::{control_law, control_words_law};
 pub use device_laws::{
@@ -16,3 +17,4 @@ pub use driver_laws::{
     driver_offered_law,
 };
 pub use laws::{agreement_law, fresh_law, looks_law, seen_law, spelling_law};
+pub use signal_laws::{signals_law, unarmed_law};
