@@ -22,10 +22,11 @@ use Rattle.vd_ring.proofs.Counts.{one_same, one_other, one_small, one_below, one
 use Rattle.vd_ring.proofs.HeldPlaces.{numbers_push}
 use Rattle.vd_ring.proofs.ListSteps.{batch_one, number_in}
 use Rattle.vd_packed_ring.specs.PackedWords.{second_word, used_word, id_of, len_of}
-use Rattle.vd_packed_ring.specs.PackedPositions.{tpos, upos}
+use Rattle.vd_packed_ring.specs.PackedPositions.{tpos, upos, later}
 use Rattle.vd_packed_ring.specs.PackedDevice.{DeviceNextAt, DeviceNext, device_after_at, device_after, device_act, device_act_at, seen_to}
 use Rattle.vd_packed_ring.proofs.Positions.{device_span, sum_entries, upos_given}
 use Rattle.vd_packed_ring.proofs.WordFacts.{used_id, used_len}
+use Rattle.vd_layout.proofs.OnePair.{were_given}
 use Rattle.vd_layout.specs.Begun.{DeviceOp}
 use Rattle.vd_layout.specs.Device.{DeviceSays, IsDeviceStep, is_rested}
 use Rattle.vd_packed.specs.declared.device.PackedDevice.{PackedDevice}
@@ -178,7 +179,7 @@ give_goes e v r number head len x count is st word sized =
       is = sym (ap (λ t. device_act_at t v op.Give (Store p x) r) facts.4 ∙ ap (λ (ys : List Used). act.Given (last_used ys).number) one);
       left = subst (λ t. 0 < device_left t (length e.pieces.items)) (sym is) (let y : 0 < 1 = omega arith in y);
       says = subst (λ t. DeviceSays packed_words (act.Given number) (device_begun t) DeviceOp.idle f s (device_after v op.Give (Store p x) r).done) (sym is)
-          (len, refl, inl refl, ap (λ (w : DeviceView). w.done) is_after, record { runs = Contains_from number (running s) n.runs; in_order = n.in_order });
+          (len, entry number len ∷ [], refl, inl refl, ap (λ (w : DeviceView). w.done) is_after, were_given f s number len (Contains_from number (running s) n.runs) n.in_order);
       rests = refl;
     }
 
@@ -233,7 +234,7 @@ rest_goes e e2 v r is st long none =
     let p : ℕ = 2 * e.next.place + 1 in
     let held = rests_running e.running.items e.counts.items (length e.guesses.items) f s e2.running.items st.holds n.1 long none in
     let e' : PackedDevice = record e { taken = e.given; next = e.used; running = e2.running; doing = step.Resting } in
-    let is_after : device_after v op.Rest (Load p) r ≡ record v { done = Rest ∷ s; armed = None; seen = seen_to v r } = ap (λ t. device_after_at t v op.Rest (Load p) r) n.0 in
+    let is_after : device_after v op.Rest (Load p) r ≡ record v { done = Rest ∷ s; armed = None; seen = later v.seen (seen_to v r) } = ap (λ t. device_after_at t v op.Rest (Load p) r) n.0 in
     record {
       next = subst (λ t. DeviceNextAt t v op.Rest (Load p)) (sym n.0) record { whole = n.1; place = second_at e.next f.size (tpos f s) st.counts.next_at };
       stands = subst (λ t. DeviceStands e' t) (sym is_after) record {

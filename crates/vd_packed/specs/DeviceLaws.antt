@@ -18,7 +18,9 @@ use Rattle.vd_ring.proofs.Counts.{one_below, one_small, occurs_from, Contains_fr
 use Rattle.vd_packed_ring.specs.PackedWords.{commands_from, acks_from}
 use Rattle.vd_packed_ring.specs.PackedPositions.{tpos, base_of}
 use Rattle.vd_packed_ring.specs.PackedDevice.{DeviceNextAt, device_after_at}
+use Rattle.vd_packed_ring.proofs.ControlFacts.{device_controls}
 use Rattle.vd_packed_ring.proofs.DeviceViews.{device_frame}
+use Rattle.vd_layout.proofs.InTable.{runs_in_table}
 use Rattle.vd_layout.specs.Begun.{DeviceOp}
 use Rattle.vd_layout.specs.Device.{IsStill, IsLawfulDevice}
 use Rattle.vd_packed.specs.declared.device.PackedDevice.{PackedDevice}
@@ -233,6 +235,9 @@ device_laws = record {
   unused = fresh_unused;
   control = λ e v a r st n. control_at v.doing e v a r st n;
   framed = λ v o a r. device_frame v o a r;
+  unarmed = λ e v st still. st.silent.unarmed;
+  runs = λ e v st. runs_in_table e.running.items v.frame v.done st.holds.once.each st.holds.once.count st.holds.once.as_many st.holds.places st.holds.kept;
+  controls = device_controls;
 }
 
 -- ---- what a look through the table tells

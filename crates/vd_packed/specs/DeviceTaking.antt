@@ -19,7 +19,7 @@ use Rattle.vd_ring.proofs.Counts.{one, one_same, one_other, one_more, one_above,
 use Rattle.vd_ring.proofs.ListSteps.{number_in}
 use Rattle.vd_packed_ring.specs.PackedWords.{addr_word, second_word, put, words_of, id_of, goes_on, is_available}
 use Rattle.vd_packed_ring.specs.PackedChains.{direct, reading, piece_of, pieces_in, ends, following, is_whole, chain_of, cursor, loaded_head}
-use Rattle.vd_packed_ring.specs.PackedPositions.{tpos, upos}
+use Rattle.vd_packed_ring.specs.PackedPositions.{tpos, upos, later}
 use Rattle.vd_packed_ring.specs.PackedDevice.{DeviceNextAt, DeviceNext, DeviceTells, DeviceTellsAt, IsNewHead, BeginsChain, device_after, device_after_at, device_takes, device_act_at}
 use Rattle.vd_packed_ring.proofs.Areas.{second_low}
 use Rattle.vd_packed_ring.proofs.Positions.{sum_entries}
@@ -83,8 +83,8 @@ nothing_goes e v w is st off =
     let n = look_next e v is st in
     let none : is_available f.size (tpos f s) w ≡ false = sym (shows_available_at e.next f.size (tpos f s) w st.counts.next_at) ∙ off in
     let e' : PackedDevice = record e { doing = step.Idle } in
-    let v2 : DeviceView = record v { seen = tpos f s; shown = false } in
-    let is_after : device_after v op.Take (Load p) w ≡ v2 = ap (λ t. device_after_at t v op.Take (Load p) w) n.0 ∙ ap (λ (b : Bool). if b then record v { seen = tpos f s + 1; shown = true; doing = now.Taking (w ∷ []) } else v2) none in
+    let v2 : DeviceView = record v { seen = later v.seen (tpos f s); shown = false } in
+    let is_after : device_after v op.Take (Load p) w ≡ v2 = ap (λ t. device_after_at t v op.Take (Load p) w) n.0 ∙ ap (λ (b : Bool). if b then record v { seen = later v.seen (tpos f s + 1); shown = true; doing = now.Taking (w ∷ []) } else v2) none in
     record {
       next = n.1;
       stands = subst (λ t. DeviceStands e' t) (sym is_after) record {
@@ -112,8 +112,8 @@ look_goes e e2 v w is st on empty told =
     let tells = t.0 shows in
     let head : IsNewHead f s (id_of w) = tells.1.head in
     let e' : PackedDevice = record e { pieces = e2.pieces; second = w; at = e.next; doing = step.Address (id_of w) } in
-    let v2 : DeviceView = record v { seen = tpos f s + 1; shown = true; doing = now.Taking (w ∷ []) } in
-    let is_after : device_after v op.Take (Load p) w ≡ v2 = ap (λ t. device_after_at t v op.Take (Load p) w) n.0 ∙ ap (λ (b : Bool). if b then v2 else record v { seen = tpos f s; shown = false }) shows in
+    let v2 : DeviceView = record v { seen = later v.seen (tpos f s + 1); shown = true; doing = now.Taking (w ∷ []) } in
+    let is_after : device_after v op.Take (Load p) w ≡ v2 = ap (λ t. device_after_at t v op.Take (Load p) w) n.0 ∙ ap (λ (b : Bool). if b then v2 else record v { seen = later v.seen (tpos f s); shown = false }) shows in
     record {
       next = n.1;
       stands = subst (λ t. DeviceStands e' t) (sym is_after) record {

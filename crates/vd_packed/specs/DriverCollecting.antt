@@ -18,10 +18,11 @@ use Rattle.vd_ring.proofs.Counts.{occurs_from, Contains_from, occurs_without, wi
 use Rattle.vd_ring.proofs.HeldPlaces.{open_below, same_head, collect_places, head_inside}
 use Rattle.vd_ring.proofs.ListSteps.{batch_one}
 use Rattle.vd_packed_ring.specs.PackedWords.{IsLawful, id_of, len_of, is_used}
-use Rattle.vd_packed_ring.specs.PackedPositions.{cpos}
+use Rattle.vd_packed_ring.specs.PackedPositions.{cpos, later}
 use Rattle.vd_packed_ring.specs.PackedDriver.{NamesOpen, DriverNextAt, DriverNext, DriverTells, DriverTellsAt, driver_after, driver_after_at, driver_act_at, driver_collects, collect_act}
 use Rattle.vd_packed_ring.proofs.Positions.{cpos_collected}
 use Rattle.vd_packed_ring.proofs.Spelled.{lent_one}
+use Rattle.vd_layout.proofs.OnePair.{were_collected}
 use Rattle.vd_layout.specs.Begun.{DriverOp}
 use Rattle.vd_layout.specs.Driver.{DriverSays}
 use Rattle.vd_packed.specs.declared.driver.PackedDriver.{PackedDriver}
@@ -48,7 +49,7 @@ nothing_goes e v w is st off =
     let n = look_next e v is st in
     let none : is_used f.size (cpos f o) w ≡ false = sym (shows_used_at e.used f.size (cpos f o) w st.counts.used_at) ∙ off in
     let e' : PackedDriver = record e { doing = step.Idle } in
-    let w' : DriverView = record v { seen = cpos f o; shown = false } in
+    let w' : DriverView = record v { seen = later v.seen (cpos f o); shown = false } in
     let is_after : driver_after v op.Collect (Load p) w ≡ w' = ap (λ t. driver_after_at t v op.Collect (Load p) w) n.0 ∙ ap (λ (b : Bool). if b then driver_collects v w else w') none in
     record {
       next = n.1;
@@ -140,9 +141,9 @@ collect_goes e v w number count e' is st on hit same sized items capacity =
     let o2 : List DriverDone = Collect (entry k (len_of w) ∷ []) ∷ o in
     let past : cpos f o2 ≡ cpos f o + needs f.features (chain o k) = cpos_collected f o (entry k (len_of w)) in
     let e2 : PackedDriver = record e { collected = e.collected + 1; used = forward e.used count e.size; space = e.space + count; free = e'.free; doing = step.Idle } in
-    let w2 : DriverView = record v { done = o2; seen = cpos f o2; shown = false } in
-    let is_after : driver_after v op.Collect (Load p) w ≡ w2 = ap (λ t. driver_after_at t v op.Collect (Load p) w) n.0 ∙ (ap (λ (b : Bool). if b then driver_collects v w else record v { seen = cpos f o; shown = false }) shows
-    ∙ ap (λ (ys : List Used). record v { done = Collect ys ∷ o; seen = cpos f (Collect ys ∷ o); shown = false }) one) in
+    let w2 : DriverView = record v { done = o2; seen = later v.seen (cpos f o2); shown = false } in
+    let is_after : driver_after v op.Collect (Load p) w ≡ w2 = ap (λ t. driver_after_at t v op.Collect (Load p) w) n.0 ∙ (ap (λ (b : Bool). if b then driver_collects v w else record v { seen = later v.seen (cpos f o); shown = false }) shows
+    ∙ ap (λ (ys : List Used). record v { done = Collect ys ∷ o; seen = later v.seen (cpos f (Collect ys ∷ o)); shown = false }) one) in
     record {
       next = n.1;
       stands = subst (λ t. DriverStands e2 t) (sym is_after) record {
@@ -165,5 +166,5 @@ collect_goes e v w number count e' is st on hit same sized items capacity =
       left = subst (λ t. 0 < driver_left t e.pieces.items) (sym is) (let z : 0 < 1 = omega arith in z);
       says = subst (λ t. DriverSays (act.Collected number (len_of w) (id_of w)) (driver_begun t e.pieces.items) DriverOp.idle f o (driver_after v op.Collect (Load p) w).done) (sym is)
           (subst (λ j. DriverSays (act.Collected j (len_of w) (id_of w)) DriverOp.collect DriverOp.idle f o (driver_after v op.Collect (Load p) w).done) (sym same)
-          (refl, refl, ap (λ (y : DriverView). y.done) is_after, Contains_from k (open_at o) hit.is_open, sym hit.is_head, hit.in_order));
+          (entry k (len_of w) ∷ [], refl, refl, ap (λ (y : DriverView). y.done) is_after, were_collected f o k (len_of w) (Contains_from k (open_at o) hit.is_open) hit.in_order, sym hit.is_head));
     }

@@ -16,6 +16,7 @@ use Rattle.vd_ring.specs.Places.{Places}
 use Rattle.vd_packed_ring.specs.PackedWords.{commands_from}
 use Rattle.vd_packed_ring.specs.PackedPositions.{opos}
 use Rattle.vd_packed_ring.specs.PackedDriver.{CanOffer, DriverNextAt, driver_after_at}
+use Rattle.vd_packed_ring.proofs.ControlFacts.{driver_controls}
 use Rattle.vd_packed_ring.proofs.DriverViews.{driver_frame}
 use Rattle.vd_packed_ring.proofs.Positions.{driver_span}
 use Rattle.vd_packed_ring.proofs.Spelled.{needs_pieces}
@@ -127,4 +128,6 @@ driver_laws = record {
   ends = λ e none. ends_at e.doing e.pieces.items none;
   control = λ e v a r st n. control_at v.doing e v a r st n;
   framed = λ v o a r. driver_frame v o a r;
+  places = λ e v st. st.holds.held;
+  controls = driver_controls;
 }
