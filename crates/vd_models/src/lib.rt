@@ -10,6 +10,7 @@ mod refusal;
 mod script;
 mod serving;
 mod single;
+mod turn_guest;
 
 pub use device::ModelDevice;
 pub use faulty::FaultyDevice;
@@ -17,3 +18,4 @@ pub use guest::ModelGuest;
 pub use refusal::Refusal;
 pub use serving::{Held, Stage, Turn};
 pub use single::SingleDevice;
+pub use turn_guest::TurnGuest;
