@@ -27,5 +27,6 @@ pub mod DriverAnswers
 pub mod DeviceAnswers
 pub mod DeviceBagSteps
 pub mod Seen
+pub mod Signalling
 mod Examples
 pub mod ControlFacts

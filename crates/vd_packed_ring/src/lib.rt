@@ -5,6 +5,7 @@ mod control_laws;
 mod device_laws;
 mod driver_laws;
 mod laws;
+mod signal_laws;
 
 pub use control_laws::{control_law, control_words_law};
 pub use device_laws::{
@@ -18,3 +19,4 @@ pub use driver_laws::{
 pub use laws::{
     agreement_law, base_law, fresh_law, looks_law, position_law, seen_law, spelling_law,
 };
+pub use signal_laws::{signals_law, unarmed_law};

@@ -23,5 +23,6 @@ pub mod DeviceKeeping
 pub mod DeviceBagSteps
 pub mod DeviceAnswers
 pub mod Seen
+pub mod Signalling
 mod Examples
 pub mod ControlFacts
