@@ -12,3 +12,4 @@ pub mod DeviceTaking
 pub mod DeviceLaws
 pub mod Opening
 pub mod PackedLayout
+pub mod Rig

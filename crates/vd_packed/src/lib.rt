@@ -10,3 +10,6 @@ mod words;
 pub use device::PackedDevice;
 pub use driver::PackedDriver;
 pub use layout::Packed;
+
+#[cfg(test)]
+mod tests;

@@ -1,5 +1,5 @@
 //! The second words of descriptors: length, buffer id, flags (VIRTIO 1.2, 2.8.13).
-ghost use Rattle.std.specs.Prelude.{◌≡◌, ◌+◌, ◌*◌, ◌/◌, ◌<◌, ◌≤◌, ℕ, if◌then◌else◌, nat_lt, length, slice_index_or};
+ghost use Rattle.std.specs.Prelude.{◌≡◌, ◌↔◌, ◌⊎◌, IsTrue, ◌+◌, ◌*◌, ◌/◌, ◌%◌, ◌<◌, ◌≤◌, ℕ, if◌then◌else◌, nat_lt, length, slice_index_or};
 ghost use Rattle.vd_model.specs.Chains.{blank};
 ghost use Rattle.vd_packed_ring.specs.PackedWords.{packed_word, flags_of, goes_on, put};
 ghost use Rattle.vd_packed_ring.specs.PackedChains.{piece_of, direct, staged};
@@ -88,6 +88,14 @@ pub fn used_word(len: u32, id: u32, wrap: bool) -> u64
     packed(len, id, write + 0x80 * bit(wrap) + 0x8000 * bit(wrap))
 }
 
+/// Whether store number `at` of an offer is an address: the first is, and each odd one.
+#[inline]
+fn stores_address(at: u32) -> bool
+    ensures { IsTrue result ↔ ((at ≡ 0) ⊎ (at % 2 ≡ 1)) }
+{
+    at == 0 || at % 2 == 1
+}
+
 /// Where store number `at` of an offer goes, and what it stores, where `spot` is that of its descriptor. The first
 /// descriptor's second word is none of these: it is stored last.
 pub fn descriptor_word(pieces: &[Piece], id: u32, spot: Spot, at: u32) -> (u32, u64)
@@ -96,7 +104,7 @@ pub fn descriptor_word(pieces: &[Piece], id: u32, spot: Spot, at: u32) -> (u32, 
     ensures word { (n q : ℕ) → IsAt spot n (q + (at + 1) / 2) → result.1 ≡ (slice_index_or (staged n q (direct id pieces.now)) at (put 0 0)).word }
 {
     let i = ((at + 1) / 2) as usize;
-    if at == 0 || at % 2 == 1 {
+    if stores_address(at) {
         return (2 * spot.place, pieces[i].addr);
     }
     let word = available_word(pieces, i, id, spot.wrap);
