@@ -3,11 +3,15 @@
 
 mod command;
 mod epochs;
+#[cfg(test)]
+mod journal_tests;
 mod line;
 mod playing;
 mod read;
 mod reporting;
 mod status;
+#[cfg(test)]
+mod tests;
 mod top;
 mod writing;
 
