@@ -8,3 +8,4 @@ pub mod Returns
 pub mod Ending
 pub mod Begin
 pub mod Cut
+pub mod Making
