@@ -1,7 +1,6 @@
 -- While a used entry returns one chain: what a collect and a give say of it.
-use Rattle.std.proofs.Common.{◌≡◌, ℕ, lit≤, true, List, [], ◌∷◌, ◌++◌, length, refl, sym, ap, ◌∙◌, subst, arith}
+use Rattle.std.proofs.Common.{◌≡◌, ℕ, lit≤, true, List, [], ◌∷◌, length, refl, sym, ap, ◌∙◌, subst, arith}
 use Rattle.std.specs.List.{All, Contains}
-use Rattle.std.proofs.lemmas.List.{length_push}
 use Rattle.std.proofs.lemmas.List.Elements.{All-cons, All-nil}
 use Rattle.vd_ring.specs.declared.act.DriverAct.TheVariants.{Collected}
 use Rattle.vd_ring.specs.declared.act.DeviceAct.TheVariants.{Given}
@@ -11,23 +10,24 @@ use Rattle.vd_ring.specs.declared.device.DeviceDone.{DeviceDone}
 use Rattle.vd_ring.specs.declared.device.DeviceDone.TheVariants.{Give}
 use Rattle.vd_ring.specs.declared.frame.Frame.{Frame}
 use Rattle.vd_ring.specs.declared.frame.Used.{Used}
-use Rattle.vd_ring.specs.History.{entry, chain, chain_at, collects, open_at, takes, gives, running, head}
-use Rattle.vd_ring.proofs.ListSteps.{batch_one}
+use Rattle.vd_ring.specs.History.{entry, chain, chain_at, collects, open_at, takes, gives, running, head, last_used}
+use Rattle.vd_ring.proofs.ListSteps.{single_entry, entry_next}
 use Rattle.vd_layout.specs.Begun.{DriverOp, DeviceOp, DevicePublished}
 use Rattle.vd_layout.specs.Control.{ControlWords}
 use Rattle.vd_layout.specs.Driver.{DriverSays}
 use Rattle.vd_layout.specs.Device.{DeviceSays, MayGive}
 use Rattle.vd_layout.specs.Pairs.{WereCollected, WereGiven}
 
-alone : (xs us : List Used) (u : Used) → us ≡ xs ++ u ∷ [] → length us ≡ 1 → us ≡ u ∷ []
-alone [] us u is one = is
-alone (x ∷ xs) us u is one = absurd (omega (arith, one, ap (λ (ys : List Used). length ys) is, length_push xs u))
+alone : (us : List Used) (u : Used) → length us ≡ 1 → last_used us ≡ u → us ≡ u ∷ []
+alone [] u one is = absurd (omega (arith, one))
+alone (v ∷ []) u one is = ap (λ (x : Used). x ∷ []) is
+alone (v ∷ w ∷ us) u one is = absurd (omega (arith, one))
 
 pub collected_one : (f : Frame) (o : List DriverDone) (us : List Used) (k n : ℕ) → WereCollected f o us k n → us ≡ entry k n ∷ []
-collected_one f o us k n c = alone _ us (entry k n) c.is_batch c.one
+collected_one f o us k n c = alone us (entry k n) c.is_entry.one c.last
 
 pub given_one : (f : Frame) (s : List DeviceDone) (us : List Used) (k n : ℕ) → WereGiven f s us k n → us ≡ entry k n ∷ []
-given_one f s us k n g = alone _ us (entry k n) g.is_batch g.one
+given_one f s us k n g = alone us (entry k n) g.is_entry.one g.last
 
 -- ---- one chain alone
 
@@ -36,18 +36,16 @@ alone_of P u h = All-cons P u [] h (All-nil P)
 
 pub were_collected : (f : Frame) (o : List DriverDone) (k n : ℕ) → Contains (open_at o) k → (f.features.in_order ≡ true → k ≡ length (collects o)) → WereCollected f o (entry k n ∷ []) k n
 were_collected f o k n was_open ordered = record {
-  is_batch = sym (batch_one f (chain o) (length (collects o)) k n ordered);
+  is_entry = single_entry f (chain o) (length (collects o)) (entry k n) ordered;
+  last = refl;
   were_open = alone_of (λ u. Contains (open_at o) u.number) (entry k n) was_open;
-  in_order = λ on. omega (arith, ordered on);
-  one = refl;
 }
 
 pub were_given : (f : Frame) (s : List DeviceDone) (k n : ℕ) → Contains (running s) k → (f.features.in_order ≡ true → k ≡ length (gives s)) → WereGiven f s (entry k n ∷ []) k n
 were_given f s k n runs ordered = record {
-  is_batch = sym (batch_one f (chain_at (takes s)) (length (gives s)) k n ordered);
+  is_entry = single_entry f (chain_at (takes s)) (length (gives s)) (entry k n) ordered;
+  last = refl;
   were_running = alone_of (λ u. Contains (running s) u.number) (entry k n) runs;
-  in_order = λ on. omega (arith, ordered on);
-  one = refl;
 }
 
 -- ---- what an answer says
@@ -70,7 +68,7 @@ says_collected k n h b b' f o o' s =
       done = s.3 ∙ ap (λ (ys : List Used). Collect ys ∷ o) one;
       was_open = subst (λ (ys : List Used). All (λ u. Contains (open_at o) u.number) ys) one s.4.were_open 0 (entry k n) (lit≤ tt);
       is_head = s.5;
-      in_order = λ on. omega (arith, s.4.in_order on, s.4.one);
+      in_order = λ on. ap (λ (u : Used). u.number) (sym s.4.last) ∙ entry_next f (chain o) (length (collects o)) us s.4.is_entry on;
     }
 
 -- what Given says
@@ -89,6 +87,6 @@ says_given words k b b' f s s' h =
       done = h.4 ∙ ap (λ (ys : List Used). Give ys ∷ s) one;
       may = record {
         runs = subst (λ (ys : List Used). All (λ u. Contains (running s) u.number) ys) one h.5.were_running 0 (entry k h.0) (lit≤ tt);
-        in_order = λ on. omega (arith, h.5.in_order on, h.5.one);
+        in_order = λ on. ap (λ (u : Used). u.number) (sym h.5.last) ∙ entry_next f (chain_at (takes s)) (length (gives s)) us h.5.is_entry on;
       };
     }

@@ -67,7 +67,7 @@ pub record IsFresh {D E : Type 0} (d : DriverModel D) (e : DeviceModel E) (l : L
   pub device_sized : (e.size y ≡ size) × (e.features y ≡ f)
   pub awake : e.resting y ≡ false
   pub unused : e.fresh y ≡ true
-  pub unarmed : (v : DriverView) → d.stands x v → v.armed ≡ None
+  pub driver_unarmed : (v : DriverView) → d.stands x v → v.armed ≡ None
 
 -- what a device's answer is to the bag; the entries are those of the give that Given made
 pub record DeviceBags (in_order : Bool) (answer : DeviceAct) (o : List DriverDone) (s s' : List DeviceDone) (b : List State) : Type 0 where

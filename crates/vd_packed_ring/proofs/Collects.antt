@@ -20,7 +20,7 @@ use Rattle.vd_ring.specs.Lists.{Lists}
 use Rattle.vd_ring.proofs.Counts.{sum_one, Contains_from, with_head_is}
 use Rattle.vd_ring.proofs.HeldPlaces.{open_below, chain_fits, collect_places, same_head}
 use Rattle.vd_ring.proofs.HeldInside.{head_low}
-use Rattle.vd_ring.proofs.ListSteps.{same_used, batch_one, entry_is, next_open, lists_collected}
+use Rattle.vd_ring.proofs.ListSteps.{same_used, batch_one, entry_is, next_open, lists_collected, may_return}
 use Rattle.vd_ring.proofs.ControlSteps.{commands_collected, acks_collected}
 use Rattle.vd_packed_ring.specs.PackedWords.{IsLawful, IsBuilt, command_word, ack_word, second_word, len_of, id_of, is_used, is_available, used_word}
 use Rattle.vd_packed_ring.specs.PackedChains.{Descriptor}
@@ -195,7 +195,7 @@ finds_none ws d e r = record {
 names_open : (f : Frame) (o : List DriverDone) (s : List DeviceDone) (w : ℕ) → Lists f o s → length (collects o) < length (gives s) → Found f o s w → NamesOpen f o (id_of w)
 names_open f o s w l more n =
     let u : Used = used_at (gives s) (length (collects o)) in
-    record { number = u.number; is_open = Contains_from u.number (open_at o) n.here; is_head = sym n.is_id; in_order = λ on. l.in_order on (length (collects o)) more }
+    record { number = u.number; is_open = Contains_from u.number (open_at o) n.here; is_head = sym n.is_id; next = may_return f (chain o) (length (collects o)) u.number (λ on. l.in_order on (length (collects o)) more) }
 
 abbrev pub Tells : DriverView → ℕ → Type 0
 Tells d w = (is_used d.frame.size (cpos d.frame d.done) w ≡ true → NamesOpen d.frame d.done (id_of w)) × (d.shown ≡ true → is_used d.frame.size (cpos d.frame d.done) w ≡ true) × (cpos d.frame d.done < d.seen → is_used d.frame.size (cpos d.frame d.done) w ≡ true)

@@ -14,12 +14,14 @@ use Rattle.vd_ring.specs.declared.frame.Frame.{Frame}
 use Rattle.vd_ring.specs.declared.frame.Put.{Put}
 use Rattle.vd_ring.specs.declared.frame.Used.{Used}
 use Rattle.vd_ring.specs.declared.driver.DriverDone.{DriverDone}
-use Rattle.vd_ring.specs.declared.driver.DriverDone.TheVariants.{Offer}
+use Rattle.vd_ring.specs.declared.driver.DriverDone.TheVariants.{Offer, Collect}
 use Rattle.vd_ring.specs.declared.driver.DriverNow.{DriverNow}
 use Rattle.vd_ring.specs.declared.driver.DriverNow.TheVariants.{Idle, Offering}
 use Rattle.vd_ring.specs.declared.driver.DriverView.{DriverView}
 use Rattle.vd_ring.specs.declared.device.DeviceDone.{DeviceDone}
 use Rattle.vd_ring.specs.declared.device.DeviceView.{DeviceView}
+use Rattle.vd_ring.specs.Lists.{Collects}
+use Rattle.vd_ring.proofs.ListSteps.{collects_next}
 use Rattle.vd_ring.specs.History.{offers, collects, gives, head, next_head, entry, used_at, last_used}
 use Rattle.vd_ring.specs.Bag.{State}
 use Rattle.vd_ring.specs.Steps.{StandsFor, DriverBagStep}
@@ -154,9 +156,7 @@ collects_entry ws d e p k l h r at is more =
     let same : u ≡ entry k l = sym (ap last_used n.is) ∙ ap pair answer in
     let done : (driver_after_at Idle v op.Collect (Load p) w).done ≡ (driver_collects v w).done = ap (λ (b : Bool). (looked v w b).done) n.shows in
     record {
-      more = more;
-      is_entry = same;
-      collected = ap collects done ∙ (ap (λ (us : List Used). collects o ++ us) n.is ∙ ap (λ (z : Used). collects o ++ z ∷ []) same);
+      did = subst (λ (z : Used). Collects f o s (driver_after_at Idle v op.Collect (Load p) w).done z.number z.len) same (collects_next f o s u (driver_after_at Idle v op.Collect (Load p) w).done r.lists more refl (done ∙ ap (λ (us : List Used). Collect us ∷ o) n.is));
       is_head = sym (ap head_in answer) ∙ (n.is_id ∙ ap (λ (z : Used). head f o z.number) same);
     }
 

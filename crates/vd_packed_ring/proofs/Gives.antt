@@ -15,7 +15,7 @@ use Rattle.vd_ring.specs.declared.device.DeviceView.{DeviceView}
 use Rattle.vd_ring.specs.History.{offers, takes, gives, running, running_size, taken_head, with_head, head, chain, chain_at, given, batch, entry, IsWhole}
 use Rattle.vd_ring.proofs.Counts.{occurs_from, with_head_is}
 use Rattle.vd_ring.proofs.HeldPlaces.{chain_fits}
-use Rattle.vd_ring.proofs.ListSteps.{batch_one}
+use Rattle.vd_ring.proofs.ListSteps.{batch_one, returns_next, single_entry}
 use Rattle.vd_ring.proofs.DeviceLists.{running_below, running_head, same_taken_head, lists_given, lists_rested}
 use Rattle.vd_ring.proofs.DeviceAcks.{acks_given, acks_rested, acks_elsewhere}
 use Rattle.vd_packed_ring.specs.PackedWords.{is_available, width, device_event, call_at, ack_word, second_word, len_of, id_of, used_word}
@@ -55,7 +55,7 @@ given_is ws d e p x r n =
     let ord = order f o s r.places r.lists in
     let below = gives_below f s k ord.running_span runs (omega (arith, some, ap (needs f.features) taken)) in
     record {
-      is = ap (λ (i : ℕ). batch f (chain_at (takes s)) (length (gives s)) i (len_of x)) number ∙ (ap (λ (i : ℕ). batch f (chain_at (takes s)) (length (gives s)) k i) len ∙ batch_one f (chain_at (takes s)) (length (gives s)) k n.len n.in_order);
+      is = ap (λ (i : ℕ). batch f (chain_at (takes s)) (length (gives s)) i (len_of x)) number ∙ (ap (λ (i : ℕ). batch f (chain_at (takes s)) (length (gives s)) k i) len ∙ batch_one f (chain_at (takes s)) (length (gives s)) k n.len (returns_next f (chain_at (takes s)) (length (gives s)) k n.next));
       low = low;
       below = omega (arith, below, ord.taken);
       some = some;
@@ -89,7 +89,7 @@ returns ws d e p x r n =
     let inside : q < width f = second_inside f q0 r.lawful.least in
     let at : q0 ≡ length (marks (λ j. needs f.features (chain o j)) s) = upos_is f o s r.lists ∙ sym (length_marks (λ j. needs f.features (chain o j)) s) in
     let word : second_at f o s2 q0 ≡ x = second_here f o s u at g.some ∙ (ap (λ (h : ℕ). used_word f.size q0 h n.len) (sym hd.0) ∙ sym n.word) in
-    let lists2 = lists_given f o s u r.lists runs n.in_order (sym (batch_one f (chain_at (takes s)) (length (gives s)) k n.len n.in_order)) in
+    let lists2 = lists_given f o s u r.lists runs (single_entry f (chain_at (takes s)) (length (gives s)) u (returns_next f (chain_at (takes s)) (length (gives s)) k n.next)) in
     let keep : List ℕ → Type 0 = λ vs. Ring vs d E in
     subst (λ (i : ℕ). Ring (slice_set ws i x) d (device_gives E i x) × (i < width f)) (sym n.place)
     (subst (λ (vs : List Used). Ring us d (record E { done = Give vs ∷ s; stored = st; doing = Idle }) × (q < width f)) (sym g.is) (

@@ -18,7 +18,8 @@ use Rattle.vd_ring.specs.declared.device.DeviceNow.{DeviceNow}
 use Rattle.vd_ring.specs.declared.device.DeviceNow.TheVariants.{Idle, Taking}
 use Rattle.vd_ring.specs.declared.device.DeviceView.{DeviceView}
 use Rattle.vd_ring.specs.Frames.{Fits, limit}
-use Rattle.vd_ring.specs.History.{takes, gives, running, running_size, taken_head, with_head, given, last_used, IsWhole}
+use Rattle.vd_ring.specs.Batches.{MayReturn}
+use Rattle.vd_ring.specs.History.{takes, gives, running, running_size, taken_head, with_head, given, last_used, IsWhole, chain_at}
 use Rattle.vd_ring.specs.Control.{IsControlChain, LoadsCommand, StoresAck}
 use Rattle.vd_packed_ring.specs.PackedWords.{IsDevices, IsDescriptors, commands_from, acks_from, command_word, ack_word, second_word, len_of, id_of, is_available, used_word, words_of}
 use Rattle.vd_packed_ring.specs.PackedChains.{reading, loaded_head, is_whole, chain_of, cursor}
@@ -31,11 +32,11 @@ pub record LoadsChain (f : Frame) (q : ℕ) (ws : List ℕ) (p : ℕ) : Type 0 w
   pub place : p ≡ cursor f q ws
   pub inside : IsDescriptors f p
 
--- the store of a used descriptor: the head of a chain taken and not given, under IN_ORDER of the first of them, and a length
+-- the store of a used descriptor: the head of a chain taken and not given, whose entry may come next, and a length
 pub record Returns (f : Frame) (s : List DeviceDone) (p x : ℕ) : Type 0 where
   pub number : ℕ
   pub runs : Contains (running s) number
-  pub in_order : f.features.in_order ≡ true → number ≡ length (gives s)
+  pub next : MayReturn f (chain_at (takes s)) (length (gives s)) number
   pub len : ℕ
   pub small : len < 4294967296
   pub place : p ≡ second_word f.size (upos f s)

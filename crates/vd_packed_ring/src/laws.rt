@@ -5,6 +5,7 @@ ghost use Rattle.vd_words.specs.declared.access.Op.{Op};
 ghost use Rattle.vd_ring.specs.declared.device.DeviceView.{DeviceView};
 ghost use Rattle.vd_ring.specs.declared.driver.DriverView.{DriverView};
 ghost use Rattle.vd_ring.specs.declared.frame.Frame.{Frame};
+ghost use Rattle.vd_ring.specs.Account.{Accounts};
 ghost use Rattle.vd_ring.specs.History.{offers, takes, head, chain};
 ghost use Rattle.vd_packed_ring.specs.PackedChains.{Spells};
 ghost use Rattle.vd_packed_ring.specs.PackedDevice.{device_after};
@@ -29,6 +30,12 @@ pub fn spelling_law()
 /// span the ring at most once; under IN_ORDER the entries are in order.
 pub fn agreement_law()
     ensures { (ws : List ℕ) (d : DriverView) (e : DeviceView) → Ring ws d e → Agree d.frame d.done e.done }
+{}
+
+/// The account of the ring, read from the two sides' acts, is lawful, ordered under IN_ORDER, and whole where as many entries are
+/// collected as chains were offered.
+pub fn account_law()
+    ensures { (ws : List ℕ) (d : DriverView) (e : DeviceView) → Ring ws d e → Accounts d.frame.features.in_order d.done e.done }
 {}
 
 /// The word that a look loads shows something further exactly where something further is.

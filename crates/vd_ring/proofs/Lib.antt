@@ -8,3 +8,4 @@ pub mod DeviceLists
 pub mod DeviceAcks
 pub mod DeviceBag
 pub mod ControlWordsStand
+pub mod Accounting

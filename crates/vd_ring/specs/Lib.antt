@@ -1,5 +1,6 @@
 pub mod Frames
 pub mod History
+pub mod Batches
 pub mod Control
 pub mod ControlLaws
 pub mod Bag

@@ -22,7 +22,7 @@ use Rattle.vd_ring.specs.declared.device.DeviceView.{DeviceView}
 use Rattle.vd_ring.specs.History.{takes, gives, heads, running, taken_head, given, with_head, batch, chain_at, entry, last_used, numbers, occurs, IsWhole}
 use Rattle.vd_ring.proofs.Counts.{one_same, one_other, one_small, one_below, one_above, occurs_rest, occurs_without, length_without, with_head_is, Contains_from}
 use Rattle.vd_ring.proofs.HeldPlaces.{numbers_push}
-use Rattle.vd_ring.proofs.ListSteps.{batch_one}
+use Rattle.vd_ring.proofs.ListSteps.{batch_one, may_return}
 use Rattle.vd_split_ring.specs.SplitWords.{used_from, lane_word}
 use Rattle.vd_split_ring.specs.SplitDevice.{DeviceNextAt, DeviceNext, device_after_at, device_after, device_act, device_act_at}
 use Rattle.vd_split_ring.proofs.Areas.{areas}
@@ -67,7 +67,7 @@ name_goes e v r number head len x is small st word =
     let value : x ≡ set_lane32 (slice_index v.stored p) 1 (taken_head s number) = word ∙ ap (λ w. set_lane32 w 1 head) (st.area.same i (omega (arith, st.area.as_many))) ∙ ap (set_lane32 (slice_index v.stored p) 1) (sym n.1.is_head) in
     let e' : SplitDevice = record e { area = with_item e.area i x; doing = step.Measure number head len } in
     subst (λ k. Goes e e' v op.Give (Store (used_area k + i) x) r act.Moved) (sym st.made.sized) record {
-      next = subst (λ t. DeviceNextAt t v op.Give (Store p x)) (sym n.0) (st.silent.unarmed, record { number = number; runs = Contains_from number (running s) n.1.runs; in_order = n.1.in_order; place = ap (λ k. used_from f + k) st.counts.used_at; word = value });
+      next = subst (λ t. DeviceNextAt t v op.Give (Store p x)) (sym n.0) (st.silent.unarmed, record { number = number; runs = Contains_from number (running s) n.1.runs; next = may_return f (chain_at (takes s)) (length (gives s)) number n.1.in_order; place = ap (λ k. used_from f + k) st.counts.used_at; word = value });
       stands = subst (λ t. DeviceStands e' t) (sym (ap (λ t. device_after_at t v op.Give (Store p x) r) n.0)) record {
         made = st.made;
         counts = st.counts;

@@ -14,7 +14,8 @@ use Rattle.vd_ring.specs.declared.device.DeviceDone.{DeviceDone}
 use Rattle.vd_ring.specs.declared.device.DeviceNow.{DeviceNow}
 use Rattle.vd_ring.specs.declared.device.DeviceNow.TheVariants as device
 use Rattle.vd_ring.specs.declared.device.DeviceView.{DeviceView}
-use Rattle.vd_ring.specs.History.{offers, collects, takes, gives, taken_head, running, open_at, places, head, next_head, chain}
+use Rattle.vd_ring.specs.Batches.{MayReturn}
+use Rattle.vd_ring.specs.History.{offers, collects, takes, gives, taken_head, running, open_at, places, head, next_head, chain, chain_at}
 use Rattle.vd_ring.specs.Control.{Commands, Acks}
 use Rattle.vd_ring.specs.Places.{Places}
 use Rattle.vd_ring.specs.Lists.{Lists, Rested, entry_at}
@@ -115,7 +116,7 @@ pub record Loads (f : Frame) (o : List DriverDone) (k w : ℕ) (ws : List ℕ) :
 pub record Gives (f : Frame) (s : List DeviceDone) (stored : List ℕ) (a : ℕ) : Type 0 where
   pub number : ℕ
   pub runs : Contains (running s) number
-  pub in_order : f.features.in_order ≡ true → number ≡ length (gives s)
+  pub next : MayReturn f (chain_at (takes s)) (length (gives s)) number
   pub is_id : lane32 a 1 ≡ taken_head s number
   pub stands : used_id f stored (length (gives s)) ≡ lane32 a 1
 

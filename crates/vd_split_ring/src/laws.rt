@@ -7,6 +7,7 @@ ghost use Rattle.vd_words.specs.Step.{answered};
 ghost use Rattle.vd_ring.specs.declared.device.DeviceView.{DeviceView};
 ghost use Rattle.vd_ring.specs.declared.driver.DriverView.{DriverView};
 ghost use Rattle.vd_ring.specs.declared.frame.Frame.{Frame};
+ghost use Rattle.vd_ring.specs.Account.{Accounts};
 ghost use Rattle.vd_ring.specs.History.{open_at, head, chain};
 ghost use Rattle.vd_split_ring.specs.SplitDevice.{DeviceNext, device_after};
 ghost use Rattle.vd_split_ring.specs.SplitDriver.{DriverNext, driver_after};
@@ -27,6 +28,12 @@ pub fn spelling_law()
 /// What was taken is a prefix of what was offered, and collected of given; numbers differ; under IN_ORDER they are in order.
 pub fn agreement_law()
     ensures { (ws : List ℕ) (d : DriverView) (e : DeviceView) → Ring ws d e → Agree d.frame d.done e.done }
+{}
+
+/// The account of the ring, read from the two sides' acts, is lawful, ordered under IN_ORDER, and whole where as many entries are
+/// collected as chains were offered.
+pub fn account_law()
+    ensures { (ws : List ℕ) (d : DriverView) (e : DeviceView) → Ring ws d e → Accounts d.frame.features.in_order d.done e.done }
 {}
 
 /// The index that a look loads shows nothing further exactly where nothing further is.

@@ -16,5 +16,5 @@ pub use driver_laws::{
     driver_alone_law, driver_bag_law, driver_collected_law, driver_law, driver_nothing_law,
     driver_offered_law,
 };
-pub use laws::{agreement_law, fresh_law, looks_law, seen_law, spelling_law};
+pub use laws::{account_law, agreement_law, fresh_law, looks_law, seen_law, spelling_law};
 pub use signal_laws::{signals_law, unarmed_law};
