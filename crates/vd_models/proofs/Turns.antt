@@ -26,7 +26,7 @@ use Rattle.vd_models.specs.declared.serving.Stage.TheVariants as stage
 use Rattle.vd_models.specs.declared.serving.Turn.TheVariants.{Worked, Waits}
 use Rattle.vd_models.specs.Serving.{state, Serves, Opens, IsTurn, IsHeld, StageIs, HasWindow, next_held, rest_held, begun_of, held_of, taken_stage, given_stage, is_done, weight, operations, HasMore}
 use Rattle.vd_models.proofs.Lists.{prefix_same, prefix_push, next_is, All-next}
-use Rattle.vd_models.proofs.Holding.{serving_taken, serving_given, serving_rested, held_taken, held_given, held_rested, takes_rested}
+use Rattle.vd_models.proofs.Holding.{lens_begun, serving_taken, serving_given, serving_rested, held_taken, held_given, held_rested, takes_rested}
 use Rattle.vd_models.proofs.Stages.{at_take, at_give, at_rest, goes_on, some_more, weight_goes, weight_published, weight_at, operations_taken, operations_given, not_first, not_second, apart, zero_test, some_test, fewer, fewer_by, as_far}
 
 module _ {P E : Type 0} (port : PortModel P) (e : DeviceModel E) (law : IsLawfulDevice e) (p q : P) (by : Attached) (w : DeviceView) (a b y : E) where
@@ -88,10 +88,12 @@ module _ {P E : Type 0} (port : PortModel P) (e : DeviceModel E) (law : IsLawful
           window = window_taken full (length begun'.items) all (length held'.items) held'.capacity is_full (omega arith) (omega (arith, v.window));
           room = omega (arith, v.room);
           small = v.small;
+          lens = lens_begun begun.items begun'.items c is_begun v.lens;
         };
         grows = record { takes = prefix_push (takes w.done) (takes w'.done) c (ap takes done); gives = prefix_same (gives w.done) (gives w'.done) (ap gives done) };
         begun = prefix_push begun.items begun'.items (begun_of c) is_begun;
         room = omega arith;
+        capacity = c';
         looked = λ z. let t : act.Taken k c ≡ act.Asleep = s.is_answer ∙ z in cc;
         rested = λ z. let t : act.Taken k c ≡ act.Rested = s.is_answer ∙ z in absurd (cc);
         waits = λ z. absurd (cc);
@@ -157,10 +159,12 @@ module _ {P E : Type 0} (port : PortModel P) (e : DeviceModel E) (law : IsLawful
           window = window_given empty (length held'.items) held'.capacity is_empty (omega (arith, v.window)) (omega (arith, v.window));
           room = v.room;
           small = v.small;
+          lens = v.lens;
         };
         grows = record { takes = prefix_same (takes w.done) (takes w'.done) (ap takes done); gives = prefix_push (gives w.done) (gives w'.done) (entry k n) (ap gives done) };
         begun = prefix_same begun.items begun.items refl;
         room = omega arith;
+        capacity = c';
         looked = λ z. let t : act.Given k ≡ act.Asleep = s.is_answer ∙ z in cc;
         rested = λ z. let t : act.Given k ≡ act.Rested = s.is_answer ∙ z in absurd (cc);
         waits = λ z. absurd (cc);
@@ -187,6 +191,7 @@ module _ {P E : Type 0} (port : PortModel P) (e : DeviceModel E) (law : IsLawful
         window = window;
         room = v.room;
         small = v.small;
+        lens = v.lens;
       }
 
   waited : (held : Buffer Held) (begun : Reserved Begun) → Opens e by (state b stage.Taking held begun) w → length begun.items < by.at + by.order.count → IsDeviceStep port e p q w b y act.Nothing → held.items ≡ []
@@ -203,6 +208,7 @@ module _ {P E : Type 0} (port : PortModel P) (e : DeviceModel E) (law : IsLawful
         grows = record { takes = prefix_same (takes w.done) (takes w'.done) (ap takes s.says.2); gives = prefix_same (gives w.done) (gives w'.done) (ap gives s.says.2) };
         begun = prefix_same begun.items begun.items refl;
         room = omega arith;
+        capacity = refl;
         looked = λ z. let t : act.Nothing ≡ act.Asleep = s.is_answer ∙ z in cc;
         rested = λ z. let t : act.Nothing ≡ act.Rested = s.is_answer ∙ z in absurd (cc);
         waits = λ z. (sym s.is_answer, none, more, refl, s.says.1);
@@ -224,6 +230,7 @@ module _ {P E : Type 0} (port : PortModel P) (e : DeviceModel E) (law : IsLawful
         grows = record { takes = prefix_same (takes w.done) (takes w'.done) (ap takes s.says.2); gives = prefix_same (gives w.done) (gives w'.done) (ap gives s.says.2) };
         begun = prefix_same begun.items begun.items refl;
         room = omega arith;
+        capacity = refl;
         looked = λ z. let t : act.Nothing ≡ act.Asleep = s.is_answer ∙ z in cc;
         rested = λ z. let t : act.Nothing ≡ act.Rested = s.is_answer ∙ z in absurd (cc);
         waits = λ z. absurd (cc);
@@ -257,10 +264,12 @@ module _ {P E : Type 0} (port : PortModel P) (e : DeviceModel E) (law : IsLawful
           window = (omega (arith, v.window), omega (arith, v.window));
           room = v.room;
           small = v.small;
+          lens = v.lens;
         };
         grows = record { takes = prefix_same (takes w.done) (takes w'.done) (ap takes done ∙ takes_rested w.done even); gives = prefix_same (gives w.done) (gives w'.done) (ap gives done) };
         begun = prefix_same begun.items begun.items refl;
         room = omega arith;
+        capacity = refl;
         looked = λ z. let t : act.Rested ≡ act.Asleep = s.is_answer ∙ z in cc;
         rested = λ z. refl;
         waits = λ z. absurd (cc);
@@ -291,10 +300,12 @@ module _ {P E : Type 0} (port : PortModel P) (e : DeviceModel E) (law : IsLawful
           window = v.window;
           room = v.room;
           small = v.small;
+          lens = v.lens;
         };
         grows = record { takes = prefix_same (takes w.done) (takes w'.done) (ap takes s.says.1); gives = prefix_same (gives w.done) (gives w'.done) (ap gives s.says.1) };
         begun = prefix_same begun.items begun.items refl;
         room = omega arith;
+        capacity = refl;
         looked = λ z. let t : act.Moved ≡ act.Asleep = s.is_answer ∙ z in cc;
         rested = λ z. let t : act.Moved ≡ act.Rested = s.is_answer ∙ z in absurd (cc);
         waits = λ z. absurd (cc);

@@ -1,0 +1,75 @@
+-- A lane in the course of a play has the beginning of its journal.
+use Rattle.std.proofs.Common.{◌≡◌, ℕ, zero, suc, add-one, ◌+◌, ◌<◌, ◌≤◌, Option, Some, None, Result, Ok, Err, IfErr, IsErrAnd, List, [], ◌∷◌, ◌++◌, length, take, drop, flat_map, map, refl, sym, ◌∙◌, ap, subst, arith}
+use Rattle.std.specs.List.{All}
+use Rattle.std.proofs.lemmas.Grind.{flat_map-append}
+use Rattle.std.proofs.lemmas.List.{append_assoc, take-append-drop}
+use mathlib.Core.List.{IsPrefix}
+use Rattle.vd_model.specs.declared.record.Begun.{Begun}
+use Rattle.vd_ring.specs.declared.driver.DriverView.{DriverView}
+use Rattle.vd_ring.specs.declared.device.DeviceView.{DeviceView}
+use Rattle.vd_layout.specs.Driver.{DriverModel}
+use Rattle.vd_layout.specs.Device.{DeviceModel}
+use Rattle.vd_layout.specs.Layout.{LayoutModel, IsLawfulLayout}
+use Rattle.vd_bus.specs.declared.event.Event.{Event}
+use Rattle.vd_bus.specs.Device.{DeviceParty, IsLawfulDeviceParty, IsRefused, IsBegun, chains_of, lens_of}
+use Rattle.vd_bus.specs.Guest.{GuestParty, IsLawfulGuestParty}
+use Rattle.vd_machine.specs.File.{Plan}
+use Rattle.vd_play.specs.Journal.{queue_script, queue_chains, queue_epochs, epoch_events, attach_event, suspend_event, journal_events, HasLen}
+use Rattle.vd_play.specs.Lane.{IsKept, IsStopped, IsPassing, StoppedWith, InEpochWith, events_before, begun_at}
+use Rattle.vd_play.specs.Played.{IsCut}
+use Rattle.vd_play.proofs.Bounds.{bounded, flat_more}
+use Rattle.vd_play.proofs.Keep.{prefix_of}
+use Rattle.vd_play.proofs.Lists.{prefix_through, prefix_same}
+use Rattle.vd_play.proofs.Returns.{some_returned}
+
+front_of : {A B : Type 0} (f : A → List B) (xs : List A) (k : ℕ) → IsPrefix (flat_map f (take k xs)) (flat_map f xs)
+front_of f xs k = (flat_map f (drop k xs), sym (flat_map-append f (take k xs) (drop k xs)) ∙ ap (flat_map f) (take-append-drop k xs))
+
+module _ {D E G X C : Type 0} (d : DriverModel D) (e : DeviceModel E) (l : LayoutModel) (g : GuestParty G) (m : DeviceParty X C) (lay : IsLawfulLayout d e l) (gue : IsLawfulGuestParty d g) (dev : IsLawfulDeviceParty e m) (plan : Plan) (q k : ℕ) where
+  cut_kept : (words : List ℕ) (guest : G) (device : X) (v : DriverView) (w : DeviceView) → IsKept l g m plan q words guest device v w → IsPrefix (m.events device) (journal_events e l plan q) → IsCut e l g m plan q guest device
+  cut_kept words guest device v w p events =
+      let back = some_returned v.frame v.done w.done (lens_of (m.begun device)) (g.returned guest) (lay.lists words v w p.ring) p.given (gue.returned guest v (queue_script plan q) p.drives p.script p.queue.plain) in
+      record {
+        events = events;
+        chains = subst (λ zs. IsPrefix zs (queue_chains plan q)) (sym p.chains) (prefix_of d e l g m lay gue dev plan q words guest device v w p);
+        each = p.each;
+        once = back.0;
+        returned = back.1;
+      }
+
+  pub cut_stopped : (words : List ℕ) (still : Option E) (guest : G) (device : X) → StoppedWith e l g m plan q k words still guest device → IsCut e l g m plan q guest device
+  cut_stopped words None guest device p = absurd p
+  cut_stopped words (Some end) guest device p = cut_kept words guest device p.view p.device_view p.kept (subst (λ zs. IsPrefix zs (journal_events e l plan q)) (sym p.events) (front_of (epoch_events e l plan q) (queue_epochs plan q) k))
+
+  -- a refused attach has changed nothing of it
+  pub cut_refused : (words : List ℕ) (still : Option E) (guest : G) (device device' : X) → IsRefused m device device' → StoppedWith e l g m plan q k words still guest device → IsCut e l g m plan q guest device'
+  cut_refused words still guest device device' r p =
+      let c : IsCut e l g m plan q guest device = cut_stopped words still guest device p in
+      record {
+        events = subst (λ zs. IsPrefix zs (journal_events e l plan q)) (sym r.events) c.events;
+        chains = subst (λ (bs : List Begun). IsPrefix (chains_of bs) (queue_chains plan q)) (sym r.begun) c.chains;
+        each = subst (λ (bs : List Begun). All IsBegun bs) (sym r.begun) c.each;
+        once = c.once;
+        returned = subst (λ (bs : List Begun). All (HasLen (lens_of bs)) (g.returned guest)) (sym r.begun) c.returned;
+      }
+
+attach_front : {A : Type 0} (xs : List A) (a b : A) → IsPrefix (xs ++ a ∷ []) (xs ++ a ∷ b ∷ [])
+attach_front xs a b = (b ∷ [], append_assoc xs (a ∷ []) (b ∷ []))
+
+pub cut_epoch : {D E G X C : Type 0} (d : DriverModel D) (e : DeviceModel E) (l : LayoutModel) (g : GuestParty G) (m : DeviceParty X C) (lay : IsLawfulLayout d e l) (gue : IsLawfulGuestParty d g) (dev : IsLawfulDeviceParty e m) (plan : Plan) (q k r : ℕ) (words : List ℕ) (still : Option E) (guest : G) (device : X)
+    → InEpochWith e l g m plan q k r words still guest device → IsCut e l g m plan q guest device
+cut_epoch d e l g m lay gue dev plan q k r words (Some end) guest device p = cut_stopped d e l g m lay gue dev plan q (k + 1) words (Some end) guest device p
+cut_epoch d e l g m lay gue dev plan q k r words None guest device p =
+    let b = bounded (length (queue_chains plan q)) (queue_epochs plan q) k p.kept.queue.chained p.epoch in
+    let whole : epoch_events e l plan q b.epoch ≡ attach_event e l plan q (begun_at plan q k) ∷ suspend_event e l plan q b.epoch.end ∷ [] = ap (λ n. attach_event e l plan q n ∷ suspend_event e l plan q b.epoch.end ∷ []) b.first in
+    let more : events_before e l plan q (k + 1) ≡ events_before e l plan q k ++ attach_event e l plan q (begun_at plan q k) ∷ suspend_event e l plan q b.epoch.end ∷ [] = flat_more (epoch_events e l plan q) (queue_epochs plan q) k b.epoch b.is ∙ ap (λ zs. events_before e l plan q k ++ zs) whole in
+    let front : IsPrefix (events_before e l plan q k ++ attach_event e l plan q (begun_at plan q k) ∷ []) (journal_events e l plan q) = prefix_through _ (events_before e l plan q (k + 1)) _ (subst (λ zs. IsPrefix (events_before e l plan q k ++ attach_event e l plan q (begun_at plan q k) ∷ []) zs) (sym more) (attach_front (events_before e l plan q k) (attach_event e l plan q (begun_at plan q k)) (suspend_event e l plan q b.epoch.end))) (front_of (epoch_events e l plan q) (queue_epochs plan q) (k + 1)) in
+    cut_kept d e l g m lay gue dev plan q k words guest device p.view p.device_view p.kept (subst (λ zs. IsPrefix zs (journal_events e l plan q)) (sym p.events) front)
+
+pub if_err_by : {T F : Type 0} (r : Result T F) (P Q : F → Type 0) → IsErrAnd r P → ((f : F) → P f → Q f) → IfErr r Q
+if_err_by (Ok x) P Q is h = tt
+if_err_by (Err f) P Q is h = h f is
+
+pub if_err_any : {T F : Type 0} (r : Result T F) (P : F → Type 0) → ((f : F) → P f) → IfErr r P
+if_err_any (Ok x) P h = tt
+if_err_any (Err f) P h = h f

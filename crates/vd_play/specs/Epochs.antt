@@ -1,0 +1,55 @@
+-- The epochs that a machine orders for a queue.
+use Rattle.std.specs.Prelude.{◌≡◌, ℕ, zero, suc, ◌≤◌, min, Bool, true, false, List, [], ◌∷◌, ◌++◌, length, slice_get, Option, Some, None}
+use Rattle.std.specs.Option.{option_map_or}
+use Rattle.vd_model.specs.declared.base.Mode.{Mode}
+use Rattle.vd_model.specs.declared.base.Mode.TheVariants as mode
+use Rattle.vd_machine.specs.File.{Plan}
+use Rattle.vd_machine.specs.declared.machine.Switch.{Switch}
+use Rattle.vd_machine.specs.declared.machine.To.{To}
+use Rattle.vd_machine.specs.declared.machine.To.TheVariants as to
+
+-- how the queue is served, whether the epoch begins with a renewal, and which chains are begun in it: from the one number to the
+-- other, which isn't included
+pub record Epoch : Type 0 where
+  pub mode : Mode
+  pub renewed : Bool
+  pub first : ℕ
+  pub end : ℕ
+
+-- a renewal keeps the mode before
+abbrev pub mode_after : Mode → To → Mode
+mode_after m to.Pass = mode.Pass
+mode_after m to.Shadow = mode.Shadow
+mode_after m to.Renew = m
+
+abbrev pub is_renewal : To → Bool
+is_renewal to.Renew = true
+is_renewal _ = false
+
+-- the epochs of a queue of n chains from chain number `first` on: each switch ends one, where `after` chains are begun or none is
+-- left
+abbrev pub epochs_from : List Switch → Mode → Bool → ℕ → ℕ → List Epoch
+epochs_from [] m renewed first n = record { mode = m; renewed = renewed; first = first; end = n } ∷ []
+epochs_from (s ∷ ss) m renewed first n = record { mode = m; renewed = renewed; first = first; end = min s.after n } ∷ epochs_from ss (mode_after m s.to) (is_renewal s.to) (min s.after n) n
+
+-- the epochs in which the n chains of a queue are begun
+abbrev pub working_epochs : Plan → ℕ → List Epoch
+working_epochs plan n = epochs_from plan.switches plan.start false 0 n
+
+-- the closing epoch: it serves the guest's ring, and has no chains
+abbrev pub closing : ℕ → Epoch
+closing n = record { mode = mode.Pass; renewed = false; first = n; end = n }
+
+-- all epochs, the closing one last
+abbrev pub epochs : Plan → ℕ → List Epoch
+epochs plan n = working_epochs plan n ++ closing n ∷ []
+
+-- how many chains are begun before epoch k
+abbrev pub begun_before : List Epoch → ℕ → ℕ
+begun_before es zero = 0
+begun_before es (suc k) = option_map_or (λ ep. ep.end) (slice_get es k) 0
+
+-- each epoch begins where the one before it ends, and all n chains are begun in them
+pub record AreChained (n : ℕ) (es : List Epoch) : Type 0 where
+  pub at : (k : ℕ) (ep : Epoch) → slice_get es k ≡ Some ep → (ep.first ≡ begun_before es k) × (ep.first ≤ ep.end) × (ep.end ≤ n)
+  pub whole : begun_before es (length es) ≡ n

@@ -1,0 +1,81 @@
+-- What a machine orders of each queue's device, and what comes back to its guest.
+use Rattle.std.specs.Prelude.{◌≡◌, ℕ, Bool, true, false, List, [], ◌∷◌, length, map, take, flat_map, slice_get, slice_index_or, Some, if◌then◌else◌, nat_lt}
+use Rattle.std.specs.List.{All}
+use Rattle.vd_model.specs.declared.base.Base.{Base}
+use Rattle.vd_model.specs.declared.base.Mode.TheVariants.{Pass}
+use Rattle.vd_model.specs.declared.chain.Piece.{Piece}
+use Rattle.vd_model.specs.declared.map.Mapping.{Mapping}
+use Rattle.vd_model.specs.declared.record.Return.{Return}
+use Rattle.vd_model.specs.declared.record.Script.{Script}
+use Rattle.vd_control.specs.Settings.{default}
+use Rattle.vd_ring.specs.declared.frame.Frame.{Frame}
+use Rattle.vd_ring.specs.History.{occurs, upto}
+use Rattle.vd_layout.specs.Both.{plain_frame}
+use Rattle.vd_layout.specs.Device.{DeviceModel}
+use Rattle.vd_layout.specs.Layout.{LayoutModel}
+use Rattle.vd_bus.specs.declared.event.Event.{Event}
+use Rattle.vd_bus.specs.declared.event.Event.TheVariants.{Attach, Suspend}
+use Rattle.vd_bus.specs.Scripts.{chains}
+use Rattle.vd_machine.specs.File.{Plan}
+use Rattle.vd_machine.specs.Queues.{script}
+use Rattle.vd_machine.specs.declared.regions.Region.{Region}
+use Rattle.vd_play.specs.Epochs.{Epoch, epochs}
+
+-- what the guest of a queue offers
+abbrev pub queue_script : Plan → ℕ → Script
+queue_script plan q = slice_index_or plan.queues q (script [])
+
+abbrev pub queue_chains : Plan → ℕ → List (List Piece)
+queue_chains plan q = chains (queue_script plan q)
+
+-- the guest's ring of a data queue has the queue's number, and no bounds
+abbrev pub guest_frame : LayoutModel → Plan → ℕ → Frame
+guest_frame l plan q = plain_frame l q plan.size plan.features false
+
+-- the base of the guest's ring after the first k chains
+abbrev pub base_at : {E : Type 0} → DeviceModel E → LayoutModel → Plan → ℕ → ℕ → Base
+base_at e l plan q k = record { 0 = e.base_of (guest_frame l plan q) (take k (queue_chains plan q)) }
+
+-- in the mode pass a device finds each region at its own address, in file order
+abbrev pub own_address : Region → Mapping
+own_address r = record { iova = r.addr; size = r.size; guest = r.addr }
+
+abbrev pub pass_map : Plan → List Mapping
+pass_map plan = map own_address plan.regions
+
+-- the device is attached to the guest's ring after k chains, with the default settings
+abbrev pub attach_event : {E : Type 0} → DeviceModel E → LayoutModel → Plan → ℕ → ℕ → Event
+attach_event e l plan q k = Attach k q (base_at e l plan q k) Pass default (pass_map plan)
+
+-- it is suspended after k chains
+abbrev pub suspend_event : {E : Type 0} → DeviceModel E → LayoutModel → Plan → ℕ → ℕ → Event
+suspend_event e l plan q k = Suspend k (base_at e l plan q k)
+
+-- the device is attached, and suspended once the epoch's chains are begun. No machine has an epoch of the mode shadow yet, nor a
+-- renewal
+abbrev pub epoch_events : {E : Type 0} → DeviceModel E → LayoutModel → Plan → ℕ → Epoch → List Event
+epoch_events e l plan q ep = attach_event e l plan q ep.first ∷ suspend_event e l plan q ep.end ∷ []
+
+abbrev pub queue_epochs : Plan → ℕ → List Epoch
+queue_epochs plan q = epochs plan (length (queue_chains plan q))
+
+-- the events of a queue's device, epoch by epoch
+abbrev pub journal_events : {E : Type 0} → DeviceModel E → LayoutModel → Plan → ℕ → List Event
+journal_events e l plan q = flat_map (epoch_events e l plan q) (queue_epochs plan q)
+
+-- ---- what comes back
+
+abbrev pub returned_numbers : List Return → List ℕ
+returned_numbers rs = map (λ r. r.number) rs
+
+-- a chain that was begun came back with the length that was given for it, and without an acknowledgement
+pub record HasLen (lens : List ℕ) (r : Return) : Type 0 where
+  pub given : slice_get lens r.number ≡ Some r.len
+  pub ack : r.ack ≡ 0
+
+-- each of the chains came back once, with its length; in the order in which they were offered, where that was agreed on
+pub record IsReturned (in_order : Bool) (lens : List ℕ) (list : List Return) : Type 0 where
+  pub as_many : length list ≡ length lens
+  pub once : (k : ℕ) → occurs k (returned_numbers list) ≡ (if nat_lt k (length lens) then 1 else 0)
+  pub each : All (HasLen lens) list
+  pub ordered : in_order ≡ true → returned_numbers list ≡ upto (length lens)

@@ -1,0 +1,26 @@
+-- By what a lane's device is attached.
+use Rattle.std.specs.Prelude.{◌≡◌, ℕ, ◌+◌, ◌<◌, ◌≤◌, ◌^◌, List, length, min, slice_get, Option, Some, None, IsSomeAnd}
+use Rattle.std.specs.Option.{option_map_or}
+use Rattle.vd_layout.specs.Device.{DeviceModel, IsStill}
+use Rattle.vd_bus.specs.Device.{DeviceParty}
+use Rattle.vd_bus.specs.Orders.{Terms}
+use Rattle.vd_machine.specs.File.{Plan}
+use Rattle.vd_machine.specs.declared.machine.Switch.{Switch}
+use Rattle.vd_play.specs.Journal.{pass_map}
+
+-- the guest's ring is served from where its end rests, and `count` chains are begun
+abbrev pub pass_order : {E : Type 0} → DeviceModel E → Plan → ℕ → ℕ → E → Terms
+pass_order e plan q count end = record { queue = q; ring = q; base = record { 0 = e.base end }; count = count; size = plan.size; features = plan.features; map = pass_map plan }
+
+-- where epoch k of a queue of n chains ends
+abbrev pub stop_of : List Switch → ℕ → ℕ → ℕ
+stop_of switches k n = option_map_or (λ s. min s.after n) (slice_get switches k) n
+
+-- the lane of a data queue keeps a still end, and its device can be attached to begin `count` chains
+pub record CanAttach {E X C : Type 0} (e : DeviceModel E) (m : DeviceParty X C) (q count : ℕ) (still : Option E) (device : X) : Type 0 where
+  pub low : q < 8
+  pub still_end : IsSomeAnd still (λ end. IsStill e end)
+  pub free : m.attached device ≡ None
+  pub events : 2 ≤ m.event_room device
+  pub chains : count ≤ m.chain_room device
+  pub few : length (m.begun device) + count < 2 ^ 32

@@ -1,0 +1,81 @@
+//! An epoch's begin: each lane's device is attached to its ring.
+ghost use Rattle.std.specs.Prelude.{◌≡◌, ◌<◌, ◌+◌, None, Some, IfErr, IfOk, OnOk, length};
+ghost use Rattle.vd_bus.specs.Device.{IsAttach, IsRefused};
+ghost use Rattle.vd_machine.specs.File.{view};
+ghost use Rattle.vd_play.specs.Each.{EachLane, HasLanes};
+ghost use Rattle.vd_play.specs.Journal.{queue_epochs};
+ghost use Rattle.vd_play.specs.Lane.{Stopped, InEpoch};
+ghost use Rattle.vd_play.specs.Orders.{pass_order, CanAttach};
+ghost use Rattle.vd_play.specs.Played.{IsCut, KeepsBench, HasNoFault, IsFaultOf, faulty};
+
+use crate::bench::Bench;
+use crate::floor::{Floor, Lane};
+use crate::order::{chain_count, pass_map, stop_of};
+use vd_bus::{Device, Guest, Order};
+use vd_layout::{DeviceEnd, Layout};
+use vd_machine::Machine;
+
+/// How a play is cut off.
+#[derive(Copy, Clone, Debug, PartialEq, Eq)]
+pub enum PlayFault {
+    /// The device of this queue refused an attach.
+    Device(u32),
+}
+
+/// Attaches a lane's device to its ring, to begin `count` chains more. A refusal leaves the end in the lane.
+fn attach<'a, L: Layout, V: Device<L>>(
+    m: &Machine,
+    queue: u32,
+    count: u32,
+    lane: &mut Lane<L::Device>,
+    device: &'a mut V,
+) -> Result<(), PlayFault>
+    requires can { CanAttach L.Device.device V.party queue count lane.old.still device.old }
+    ensures words { lane.new.words ≡ lane.old.words }
+    ensures ok { IfOk result (λ _. (lane.new.still ≡ None) × ((end : _) → lane.old.still ≡ Some end → IsAttach L.Device.device V.party (pass_order L.Device.device (view m.now) queue count end) None end device.old device.new)) }
+    ensures carried { V.party.carried device.new ≡ V.party.carried device.old }
+    ensures faults { OnOk result (V.party.faults device.new ≡ V.party.faults device.old) }
+    ensures err { IfErr result (λ f. (f ≡ PlayFault.Device queue) × (lane.new.still ≡ lane.old.still) × IsRefused V.party device.old device.new) }
+{
+    let Some(end) = lane.still.take() else {
+        unreachable!()
+    };
+    let map = pass_map(m.regions.as_slice());
+    let order = Order::first(queue, queue, end.base(), count, m.size, m.features, map);
+    let control: Option<&'a V> = None;
+    match device.attach(&order, end, control) {
+        Ok(()) => Ok(()),
+        Err(refused) => {
+            lane.still = Some(refused.end);
+            Err(PlayFault::Device(queue))
+        }
+    }
+}
+
+/// Begins an epoch on each lane, in the order of the queues. A refusal ends it, and no further device is attached.
+pub(crate) fn attach_all<L: Layout, G: Guest<L>, V: Device<L>>(
+    m: &Machine,
+    epoch: usize,
+    floor: &mut Floor<L>,
+    bench: &mut Bench<G, V>,
+) -> Result<(), PlayFault>
+    requires many { length floor.old.lanes.items ≡ length m.now.queues }
+    requires parties { HasLanes (length m.now.queues) bench.old }
+    requires epoch { epoch < length m.now.switches + 2 }
+    requires lanes { EachLane (λ q a b x. Stopped L.Device.device L.layout G.party V.party (view m.now) q epoch a b x) floor.old.lanes.items bench.old.guests.items bench.old.devices.items }
+    ensures many { length floor.new.lanes.items ≡ length floor.old.lanes.items }
+    ensures keeps { KeepsBench V.party (length m.now.queues) bench.old bench.new }
+    ensures lanes { IfOk result (λ _. EachLane (λ q a b x. InEpoch L.Device.device L.layout G.party V.party (view m.now) q epoch 0 a b x) floor.new.lanes.items bench.new.guests.items bench.new.devices.items) }
+    ensures faults { IfOk result (λ _. HasNoFault V.party bench.old bench.new) }
+    ensures cut { IfErr result (λ f. EachLane (λ q a b x. IsCut L.Device.device L.layout G.party V.party (view m.now) q b x) floor.new.lanes.items bench.new.guests.items bench.new.devices.items) }
+    ensures fault { IfErr result (λ f. IsFaultOf V.party (length m.now.queues) (faulty f) bench.old bench.new) }
+{
+    for i in 0..floor.lanes.len() {
+        let runs = m.queues.as_slice()[i].runs.as_slice();
+        let stop = stop_of(m.switches.as_slice(), epoch, chain_count(runs));
+        let device = &mut bench.devices[i];
+        let count = stop - device.journal().begun.len() as u32;
+        attach::<L, V>(m, i as u32, count, &mut floor.lanes[i], device)?;
+    }
+    Ok(())
+}

@@ -1,0 +1,16 @@
+//! Plays a machine over the guests and devices of a bench.
+#![tactic(auto)]
+
+mod bench;
+mod epoch;
+mod floor;
+mod lane;
+mod order;
+mod playing;
+mod preparing;
+
+pub use bench::Bench;
+pub use epoch::PlayFault;
+pub use floor::{Floor, Lane};
+pub use playing::play_machine;
+pub use preparing::prepare;

@@ -1,0 +1,82 @@
+//! Makes what a play needs, so that the play takes no memory.
+ghost use Rattle.std.specs.Prelude.{◌≡◌, ◌<◌, None, [], IfOk, length};
+ghost use Rattle.std.specs.List.{All};
+ghost use Rattle.vd_model.specs.Chains.{IsChain};
+ghost use Rattle.vd_bus.specs.Device.{IsUnchanged};
+ghost use Rattle.vd_machine.specs.File.{view};
+ghost use Rattle.vd_play.specs.Each.{HasLanes};
+ghost use Rattle.vd_play.specs.Lane.{Stopped};
+ghost use Rattle.vd_play.specs.Played.{KeepsBench};
+ghost use Rattle.vd_play.specs.Prepared.{IsOfLayout, IsEmptyDevice, IsEmptyBench, IsUntouched, IsPrepared};
+
+use crate::bench::Bench;
+use crate::floor::{Floor, Lane};
+use crate::order::chain_count;
+use std::alloc::{AllocError, Global};
+use vd_bus::{Device, Guest};
+use vd_layout::Layout;
+use vd_machine::Machine;
+use vd_model::Run;
+use vd_words::PlainWords;
+
+/// Tells what each run's chain is by its type.
+fn tell_chains(runs: &[Run])
+    ensures { All (λ r. IsChain r.chain) runs.now }
+{
+    for run in runs {
+        let _ = run.chain.pieces();
+    }
+}
+
+/// Makes the ring of a queue, loads its guest, makes room in its device's journal, and boots the guest.
+fn make_lane<L: Layout, G: Guest<L>, V: Device<L>>(
+    alloc: Global,
+    m: &Machine,
+    queue: usize,
+    guest: &mut G,
+    device: &mut V,
+) -> Result<Lane<L::Device>, AllocError>
+    requires layout { IsOfLayout L.layout (view m.now) }
+    requires queue { queue < length m.now.queues }
+    requires guest { G.party.script guest.old ≡ None }
+    requires device { IsEmptyDevice V.party device.old }
+    ensures ok { IfOk result (λ lane. Stopped L.Device.device L.layout G.party V.party (view m.now) queue 0 lane guest.new device.new) }
+    ensures guest { (G.party.offered guest.new ≡ 0) × (G.party.returned guest.new ≡ []) }
+    ensures device { IsUnchanged V.party device.old device.new }
+{
+    let script = &m.queues.as_slice()[queue];
+    tell_chains(script.runs.as_slice());
+    let words = L::words(m.size, m.features, false);
+    let words = PlainWords::new(alloc, queue as u32, words)?;
+    let (driver, end) = L::make(alloc, m.size, m.features, false)?;
+    let events = 2 * (m.switches.len() as u32 + 2);
+    device.reserve(alloc, m.window, events, chain_count(script.runs.as_slice()))?;
+    guest.load(alloc, script)?;
+    guest.boot(driver);
+    Ok(Lane {
+        words,
+        still: Some(end),
+    })
+}
+
+/// Makes the ring of every queue, loads and boots every guest, and makes room in every journal. Where no memory is left
+/// some guests may be loaded, and no device is attached.
+pub fn prepare<L: Layout, G: Guest<L>, V: Device<L>>(
+    alloc: Global,
+    m: &Machine,
+    bench: &mut Bench<G, V>,
+) -> Result<Floor<L>, AllocError>
+    requires layout { IsOfLayout L.layout (view m.now) }
+    requires parties { HasLanes (length m.now.queues) bench.old }
+    requires empty { IsEmptyBench G.party V.party bench.old }
+    ensures ok { IfOk result (λ floor. IsPrepared L.Device.device L.layout G.party V.party (view m.now) floor.lanes.items bench.new) }
+    ensures keeps { KeepsBench V.party (length m.now.queues) bench.old bench.new }
+    ensures untouched { IsUntouched G.party V.party bench.old bench.new }
+{
+    let mut lanes = Vec::with_capacity(alloc, m.queues.len())?;
+    for i in 0..m.queues.len() {
+        let lane = make_lane::<L, G, V>(alloc, m, i, &mut bench.guests[i], &mut bench.devices[i])?;
+        lanes.push(lane)?;
+    }
+    Ok(Floor { lanes })
+}
