@@ -20,7 +20,7 @@ use Rattle.vd_ring.specs.declared.device.DeviceView.{DeviceView}
 use Rattle.vd_ring.specs.History.{takes, gives, heads, running, running_size, taken_head, given, with_head, batch, chain_at, entry, last_used, numbers, used_at, occurs, IsWhole}
 use Rattle.vd_ring.proofs.Counts.{one_same, one_other, one_small, one_below, one_above, occurs_rest, occurs_without, length_without, with_head_is, Contains_from}
 use Rattle.vd_ring.proofs.HeldPlaces.{numbers_push}
-use Rattle.vd_ring.proofs.ListSteps.{batch_one, number_in}
+use Rattle.vd_ring.proofs.ListSteps.{batch_one, may_return, number_in}
 use Rattle.vd_packed_ring.specs.PackedWords.{second_word, used_word, id_of, len_of}
 use Rattle.vd_packed_ring.specs.PackedPositions.{tpos, upos, later}
 use Rattle.vd_packed_ring.specs.PackedDevice.{DeviceNextAt, DeviceNext, device_after_at, device_after, device_act, device_act_at, seen_to}
@@ -161,7 +161,7 @@ give_goes e v r number head len x count is st word sized =
     ap (λ t. device_after_at t v op.Give (Store p x) r) facts.4 ∙ ap (λ (ys : List Used). record v { done = Give ys ∷ s; stored = slice_set v.stored p x; doing = now.Idle }) one in
     record {
       next = subst (λ t. DeviceNextAt t v op.Give (Store p x)) (sym facts.4)
-          (st.silent.unarmed, record { number = number; runs = Contains_from number (running s) n.runs; in_order = n.in_order; len = len; small = n.small; place = place; word = value ∙ ap (λ (h : ℕ). used_word f.size q h len) (sym n.is_head) });
+          (st.silent.unarmed, record { number = number; runs = Contains_from number (running s) n.runs; next = may_return f (chain_at (takes s)) (length (gives s)) number n.in_order; len = len; small = n.small; place = place; word = value ∙ ap (λ (h : ℕ). used_word f.size q h len) (sym n.is_head) });
       stands = subst (λ t. DeviceStands e' t) (sym is_after) record {
         made = st.made;
         counts = record {

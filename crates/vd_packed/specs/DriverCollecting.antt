@@ -16,7 +16,7 @@ use Rattle.vd_ring.specs.History.{collects, open_at, open_size, free, places, he
 use Rattle.vd_ring.specs.Places.{Places}
 use Rattle.vd_ring.proofs.Counts.{occurs_from, Contains_from, occurs_without, with_head_is, sum_one, sum_without}
 use Rattle.vd_ring.proofs.HeldPlaces.{open_below, same_head, collect_places, head_inside}
-use Rattle.vd_ring.proofs.ListSteps.{batch_one}
+use Rattle.vd_ring.proofs.ListSteps.{batch_one, returns_next}
 use Rattle.vd_packed_ring.specs.PackedWords.{IsLawful, id_of, len_of, is_used}
 use Rattle.vd_packed_ring.specs.PackedPositions.{cpos, later}
 use Rattle.vd_packed_ring.specs.PackedDriver.{NamesOpen, DriverNextAt, DriverNext, DriverTells, DriverTellsAt, driver_after, driver_after_at, driver_act_at, driver_collects, collect_act}
@@ -85,7 +85,7 @@ found e v id st n =
       number = k;
       is_open = here;
       is_head = n.is_head;
-      in_order = n.in_order;
+      in_order = returns_next f (chain o) (length (collects o)) k n.next;
       inside = omega (arith, head_inside f o k h.held here, n.is_head, h.as_many);
       kept = λ d. subst (λ i. ((slice_index_or e.slots.items i d).number ≡ k) × ((slice_index_or e.slots.items i d).count ≡ needs f.features (chain o k))) n.is_head (h.open_chains k d here);
       room = omega (arith, h.held.sizes, sum_one (λ j. lent f (chain o j)) k (open_at o) here, lent_one f (chain o k) st.made.lawful, h.room, ap (λ (l : List ℕ). length l) h.queued);

@@ -157,5 +157,5 @@ fresh_ends n f c x y can drives serves idle still = record {
   device_sized = (still.1, still.2);
   awake = ap is_resting still.0;
   unused = ap (λ t. is_idle t && ((y.taken == 0) && (y.given == 0))) still.0 ∙ (ap (λ k. (k == 0) && (y.given == 0)) still.3 ∙ ap (λ k. k == 0) still.4);
-  unarmed = λ v st. st.silent.unarmed;
+  driver_unarmed = λ v st. st.silent.unarmed;
 }
