@@ -20,7 +20,7 @@ use Rattle.vd_ring.specs.declared.device.DeviceView.{DeviceView}
 use Rattle.vd_ring.specs.History.{takes, gives, heads, running, running_size, taken_head, given, with_head, batch, chain_at, entry, last_used, numbers, used_at, occurs, IsWhole}
 use Rattle.vd_ring.proofs.Counts.{one_same, one_other, one_small, one_below, one_above, occurs_rest, occurs_without, length_without, with_head_is, Contains_from}
 use Rattle.vd_ring.proofs.HeldPlaces.{numbers_push}
-use Rattle.vd_ring.proofs.ListSteps.{batch_one, number_in, may_return}
+use Rattle.vd_ring.proofs.ListSteps.{batch_one, may_return, number_in}
 use Rattle.vd_packed_ring.specs.PackedWords.{second_word, used_word, id_of, len_of}
 use Rattle.vd_packed_ring.specs.PackedPositions.{tpos, upos, later}
 use Rattle.vd_packed_ring.specs.PackedDevice.{DeviceNextAt, DeviceNext, device_after_at, device_after, device_act, device_act_at, seen_to}

@@ -60,9 +60,9 @@ module _ {D E G X C : Type 0} (d : DriverModel D) (e : DeviceModel E) (l : Layou
       let other : q ≡ 15 → ⊥ = λ h. omega (arith, h, p.kept.queue.low) in
       let base = base_of d e l g m lay gue dev plan q words end guest device p.view p.device_view (begun_at plan q k) p.kept p.stands p.still p.taken in
       let last : Attach (length (m.begun device)) q (record { 0 = e.base end }) (mode_of q) default (pass_map plan) ≡ attach_event e l plan q (begun_at plan q k) =
-          ap (λ z. Attach z q (record { 0 = e.base end }) (mode_of q) default (pass_map plan)) many
-          ∙ ap (λ z. Attach (begun_at plan q k) q z (mode_of q) default (pass_map plan)) base
-          ∙ ap (λ z. Attach (begun_at plan q k) q (base_at e l plan q (begun_at plan q k)) z default (pass_map plan)) (passes q p.kept.queue.low) in
+      ap (λ z. Attach z q (record { 0 = e.base end }) (mode_of q) default (pass_map plan)) many
+      ∙ ap (λ z. Attach (begun_at plan q k) q z (mode_of q) default (pass_map plan)) base
+      ∙ ap (λ z. Attach (begun_at plan q k) q (base_at e l plan q (begun_at plan q k)) z default (pass_map plan)) (passes q p.kept.queue.low) in
       record {
         view = p.view;
         device_view = p.device_view;

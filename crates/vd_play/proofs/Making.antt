@@ -56,12 +56,12 @@ queue_is l plan q k below are =
       few = omega (arith, chains_count (queue_script plan q).runs, queue_is_short plan.queues d q k.counted below);
       chained = chained plan (length (queue_chains plan q)) k.unswitched;
       fits = runs_fit f (queue_script plan q).runs (λ j e within.
-        let r = run_at (most_pieces plan.features plan.size) plan.regions plan.queues d e q j k.fitted k.inside below within in record {
-          chain = are j e within;
-          size = needs_within plan.features plan.packed plan.size (slice_index_or (queue_script plan q).runs j e).chain k.sized r.within;
-          length = r.bytes;
-          bounds = tt;
-        });
+          let r = run_at (most_pieces plan.features plan.size) plan.regions plan.queues d e q j k.fitted k.inside below within in record {
+            chain = are j e within;
+            size = needs_within plan.features plan.packed plan.size (slice_index_or (queue_script plan q).runs j e).chain k.sized r.within;
+            length = r.bytes;
+            bounds = tt;
+          });
     }
 
 module _ {D E G X C : Type 0} (d : DriverModel D) (e : DeviceModel E) (l : LayoutModel) (g : GuestParty G) (m : DeviceParty X C) (lay : IsLawfulLayout d e l) (plan : Plan) (q : ℕ) where

@@ -24,7 +24,7 @@ returns-in_err-attach_all-clause-fault g c =
 pub returns-in_err-attach_all-clause-cut : goal.returns-in_err-attach_all-clause-cut
 returns-in_err-attach_all-clause-cut g c =
     if_err_any c.from_residual.result (λ (z : PlayFault). AllCut g.L.Device.DeviceEnd.device g.L.Layout.layout g.G.Guest.party g.V.Device.party (view c.args.m.now) c.attach_all.new.bench)
-      (λ z. each_queue (IsCut g.L.Device.DeviceEnd.device g.L.Layout.layout g.G.Guest.party g.V.Device.party (view c.args.m.now)) (length c.args.m.now.queues) _ _ _ (c.attach_all.ensures.many ∙ c.loop-epoch.invariant.many) c.in_err-attach_all.ensures.cut)
+    (λ z. each_queue (IsCut g.L.Device.DeviceEnd.device g.L.Layout.layout g.G.Guest.party g.V.Device.party (view c.args.m.now)) (length c.args.m.now.queues) _ _ _ (c.attach_all.ensures.many ∙ c.loop-epoch.invariant.many) c.in_err-attach_all.ensures.cut)
 
 pub run_epoch-requires-clause-parties : goal.run_epoch-requires-clause-parties
 run_epoch-requires-clause-parties g c κs within =

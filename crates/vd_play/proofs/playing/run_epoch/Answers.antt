@@ -11,8 +11,8 @@ returns-then-is_still-clause-lanes g c = λ plan k start.
     let all = sym c.is_still.ensures ∙ c.if-is_still.true in
     record {
       at = λ q l b x hl hb hx.
-        let still : is_some l.still ≡ true = all_at (λ (z : _). is_some z.still) c.loop-turn.floor.lanes.items q l all hl in
-        stopped_some _ _ _ _ (g.met.V.Device g.world.𝓛 g.world.𝓜 g.world.𝓡 ((λ s x. x), (λ x. x), (λ x. x), λ x. x)).lawful _ _ _ _ _ _ _ _ still ((c.loop-turn.invariant.each plan k start).at q l b x hl hb hx);
+          let still : is_some l.still ≡ true = all_at (λ (z : _). is_some z.still) c.loop-turn.floor.lanes.items q l all hl in
+          stopped_some _ _ _ _ (g.met.V.Device g.world.𝓛 g.world.𝓜 g.world.𝓡 ((λ s x. x), (λ x. x), (λ x. x), λ x. x)).lawful _ _ _ _ _ _ _ _ still ((c.loop-turn.invariant.each plan k start).at q l b x hl hb hx);
     }
 
 pub round-requires-clause-lanes : goal.round-requires-clause-lanes
