@@ -1,11 +1,16 @@
 //! The program `vdpa`: reads a machine file from standard input, plays it and writes its report to standard output.
 #![tactic(auto)]
 
+mod bench;
+
+use bench::model_bench;
 use std::alloc::{AllocError, Global};
 use std::process::ExitCode;
 use std::{env, io};
 use vd_machine::MachineFault;
-use vd_runner::{FirstBench, Status, vdpa};
+use vd_packed::Packed;
+use vd_runner::{Status, vdpa};
+use vd_split::Split;
 use vd_stream::{ReadSource, WriteSink};
 
 /// The status with which the process ends.
@@ -16,7 +21,9 @@ fn number(status: Status) -> u8 {
         Status::Machine(_) => 2,
         Status::ReadFault => 3,
         Status::WriteFault => 4,
+        Status::DeviceFault(_) => 5,
         Status::TooLarge(_) => 6,
+        Status::TooFewParties { .. } => 7,
         Status::Memory => 8,
     }
 }
@@ -52,7 +59,13 @@ fn explain(rt: &HostRuntime, status: Status) -> io::Result<()> {
         Status::Machine(fault) => eprintln!(rt; "vdpa: machine file breaks rule M{}", rule(fault)),
         Status::ReadFault => eprintln!(rt; "vdpa: read fault"),
         Status::WriteFault => eprintln!(rt; "vdpa: write fault"),
+        Status::DeviceFault(queue) => eprintln!(rt; "vdpa: device fault on queue {queue}"),
         Status::TooLarge(_) => eprintln!(rt; "vdpa: machine file is larger than 1048576 bytes"),
+        Status::TooFewParties {
+            need,
+            guests,
+            devices,
+        } => eprintln!(rt; "vdpa: too few parties: need {need}, guests {guests}, devices {devices}"),
         Status::Memory => eprintln!(rt; "vdpa: out of memory"),
     }
 }
@@ -70,14 +83,18 @@ fn run(rt: &HostRuntime, alloc: Global) -> Result<Status, AllocError> {
     for text in &texts {
         words.push(text.as_str())?;
     }
-    let mut bench = FirstBench {
-        events: Vec::new(alloc),
-        begun: Vec::new(alloc),
-        returned: Vec::new(alloc),
-    };
+    let mut split = model_bench::<Split>(alloc)?;
+    let mut packed = model_bench::<Packed>(alloc)?;
     let mut source = ReadSource::new(rt.stdin());
     let mut sink = WriteSink::new(rt.stdout());
-    Ok(vdpa(alloc, &words, &mut source, &mut sink, &mut bench))
+    Ok(vdpa(
+        alloc,
+        &words,
+        &mut source,
+        &mut sink,
+        &mut split,
+        &mut packed,
+    ))
 }
 
 fn main(rt: HostRuntime) -> ExitCode {
