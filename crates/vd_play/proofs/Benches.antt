@@ -1,6 +1,5 @@
 -- What stays the same of a bench when the parties of one queue are written.
-use Rattle.std.proofs.Common.{◌≡◌, ◌≢◌, ℕ, ◌+◌, ◌<◌, ◌≤◌, Some, List, length, map, set, slice_get, refl, sym, ◌∙◌, ap, arith}
-use Rattle.std.proofs.lemmas.Bool.{cases_eq}
+use Rattle.std.proofs.Common.{◌≡◌, ℕ, ◌<◌, ◌≤◌, Some, length, map, set, slice_get, refl, sym, ◌∙◌, ap, arith}
 use Rattle.std.proofs.lemmas.List.{length-set, length-map}
 use Rattle.vd_bus.specs.Device.{DeviceParty, Rose}
 use Rattle.vd_play.specs.declared.bench.Bench.{Bench}

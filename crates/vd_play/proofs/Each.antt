@@ -1,10 +1,8 @@
 -- One lane of many is read and written.
-use Rattle.std.proofs.Common.{◌≡◌, ◌≢◌, ℕ, zero, suc, ◌+◌, ◌<◌, ◌≤◌, inl, inr, Option, Some, None, List, [], ◌∷◌, length, map, set, slice_get, refl, sym, ◌∙◌, ap, subst, arith}
+use Rattle.std.proofs.Common.{◌≡◌, ℕ, zero, suc, ◌+◌, ◌<◌, ◌≤◌, inl, inr, Some, List, [], ◌∷◌, length, map, set, slice_get, refl, sym, ◌∙◌, ap, subst, arith}
 use Rattle.std.proofs.lemmas.Bool.{cases_lt, cases_eq}
-use Rattle.std.proofs.lemmas.List.{length-set, length-map}
+use Rattle.std.proofs.lemmas.List.{length-set}
 use Rattle.std.proofs.lemmas.Option.{slice_get_within}
-use Rattle.vd_bus.specs.Device.{DeviceParty}
-use Rattle.vd_play.specs.declared.bench.Bench.{Bench}
 use Rattle.vd_play.specs.Each.{EachLane, Stage}
 use Rattle.vd_play.proofs.Bounds.{at_index}
 use Rattle.vd_play.proofs.Lists.{some_same}

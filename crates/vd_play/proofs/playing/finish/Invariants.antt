@@ -1,4 +1,4 @@
-use Rattle.std.proofs.Common.{◌≡◌, ◌+◌, ℕ, List, length}
+use Rattle.std.proofs.Common.{◌≡◌, length}
 use Rattle.vd_machine.specs.File.{Plan}
 use Rattle.vd_play.specs.Each.{EachLane, Stage, HasLanes}
 use Rattle.vd_play.specs.Journal.{queue_epochs}

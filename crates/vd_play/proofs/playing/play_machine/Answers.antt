@@ -1,10 +1,7 @@
-use Rattle.std.proofs.Common.{◌≡◌, ◌<◌, ◌≤◌, ◌+◌, ℕ, length, arith, sym, refl, ap, subst, ◌∙◌, map}
-use Rattle.std.proofs.lemmas.List.{length-map}
+use Rattle.std.proofs.Common.{◌≡◌, ◌+◌, ℕ, length, arith, sym, subst, ◌∙◌}
 use Rattle.vd_machine.specs.File.{view}
 use Rattle.vd_play.specs.declared.epoch.PlayFault.{PlayFault}
-use Rattle.vd_play.specs.Journal.{queue_chains, queue_epochs}
-use Rattle.vd_play.specs.Lane.{Stopped}
-use Rattle.vd_play.specs.Played.{KeepsBench, HasNoFault, IsFaultOf, IsPlayed, IsCut, AllCut, faulty}
+use Rattle.vd_play.specs.Played.{KeepsBench, IsFaultOf, IsPlayed, IsCut, AllCut, faulty}
 use Rattle.vd_play.specs.Each.{HasLanes}
 use Rattle.vd_play.proofs.Benches.{keeps_through, lanes_kept, fault_later, same_many}
 use Rattle.vd_play.proofs.Cut.{if_err_by, if_err_any}

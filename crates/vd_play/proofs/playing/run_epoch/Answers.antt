@@ -1,8 +1,6 @@
-use Rattle.std.proofs.Common.{rules, ◌≡◌, ◌<◌, ◌≤◌, ◌+◌, ◌∙◌, ℕ, length, arith, sym, ap, refl, true, is_some, subst}
-use Rattle.std.specs.List.{list_all}
+use Rattle.std.proofs.Common.{◌≡◌, ◌∙◌, ℕ, length, arith, sym, true, is_some, subst}
 use Rattle.vd_play.specs.Played.{KeepsBench}
-use Rattle.vd_play.specs.Each.{HasLanes}
-use Rattle.vd_play.proofs.Benches.{keeps_none, keeps_through, lanes_kept}
+use Rattle.vd_play.proofs.Benches.{keeps_through, lanes_kept}
 use Rattle.vd_play.proofs.Rounds.{all_at, stopped_some, stopped_late}
 use Rattle.vd_play.proofs.playing.run_epoch.Goals as goal
 

@@ -1,4 +1,4 @@
-use Rattle.std.proofs.Common.{◌≡◌, ◌+◌, ℕ, List, length}
+use Rattle.std.proofs.Common.{◌≡◌, ℕ, length}
 use Rattle.vd_machine.specs.File.{Plan}
 use Rattle.vd_play.specs.Each.{EachLane, HasLanes}
 use Rattle.vd_play.specs.Lane.{InEpoch}

@@ -1,4 +1,4 @@
-use Rattle.std.proofs.Common.{◌≡◌, ◌≤◌, ◌∙◌, ℕ, List, subst, ap, refl, sym, replicate, false, arith, inr, rules, length}
+use Rattle.std.proofs.Common.{◌≤◌, ◌∙◌, ℕ, List, subst, ap, refl, sym, replicate, false, arith, inr, rules, length}
 use Rattle.vd_model.specs.Chains.{IsChain, readable, writable}
 use Rattle.vd_ring.specs.declared.frame.Frame.{Frame}
 use Rattle.vd_layout.specs.Layout.{IsMadeWith}
