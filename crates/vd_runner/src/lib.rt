@@ -5,6 +5,8 @@ mod command;
 mod epochs;
 #[cfg(test)]
 mod journal_tests;
+#[cfg(test)]
+mod parties_tests;
 mod line;
 mod playing;
 mod read;
