@@ -5,9 +5,9 @@ mod command;
 mod epochs;
 #[cfg(test)]
 mod journal_tests;
+mod line;
 #[cfg(test)]
 mod parties_tests;
-mod line;
 mod playing;
 mod read;
 mod reporting;

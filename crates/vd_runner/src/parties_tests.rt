@@ -31,7 +31,8 @@ fn bench_with<L: Layout, G: Guest<L>, V: Device<L>>(
     Ok(Bench { guests, devices })
 }
 
-const PACKED: &str = "layout = \"packed\"\nsize = 3\nregions = [{ addr = 4096, size = 8192 }]\nqueues = [[\"2*r4096+10 w8192+64\"]]\n";
+const PACKED: &str =
+    "layout = \"packed\"\nsize = 3\nregions = [{ addr = 4096, size = 8192 }]\nqueues = [[\"2*r4096+10 w8192+64\"]]\n";
 
 const REPORT: &str =
     "queue 0 chains 2 bytes 20\nchain 0 0 10\nchain 0 1 10\nepoch 0 0 pass 0 2\ndrained 2\n";
@@ -39,8 +40,14 @@ const REPORT: &str =
 /// The base of an attach or of a suspension.
 fn base_of(event: &Event) -> u32 {
     match event {
-        Event::Attach { base: Base(word), .. } => *word,
-        Event::Suspend { base: Base(word), .. } => *word,
+        Event::Attach {
+            base: Base(word),
+            ..
+        } => *word,
+        Event::Suspend {
+            base: Base(word),
+            ..
+        } => *word,
         Event::Reset { .. } => 0,
     }
 }
@@ -50,8 +57,11 @@ fn a_packed_machine_is_played_on_the_packed_bench(rt: HostRuntime) -> Result<(),
     let alloc = rt.alloc();
     let mut source = MemorySource::new(alloc, PACKED.as_bytes(), &[])?;
     let mut sink = MemorySink::new(alloc, 200, &[])?;
-    let mut bench =
-        bench_with::<Packed, _, _>(alloc, ModelGuest::new(alloc), ModelDevice::new(alloc, 1))?;
+    let mut bench = bench_with::<Packed, _, _>(
+        alloc,
+        ModelGuest::new(alloc),
+        ModelDevice::new(alloc, 1),
+    )?;
     let status = vdpa(
         alloc,
         &["play"],
@@ -65,7 +75,10 @@ fn a_packed_machine_is_played_on_the_packed_bench(rt: HostRuntime) -> Result<(),
     let events = bench.devices[0].journal().events.as_slice();
     assert_eq!(rt; events.len(), 4);
     // place and wrap of a fresh ring, and after four descriptors in a ring of three
-    for (event, base) in events.iter().zip([0x8000_8000u32, 0x0001_0001, 0x0001_0001, 0x0001_0001]) {
+    for (event, base) in events
+        .iter()
+        .zip([0x8000_8000u32, 0x0001_0001, 0x0001_0001, 0x0001_0001])
+    {
         assert_eq!(rt; base_of(event), base);
     }
     Ok(())
@@ -76,8 +89,11 @@ fn a_machine_wants_the_parties_of_its_own_layout(rt: HostRuntime) -> Result<(), 
     let alloc = rt.alloc();
     let mut source = MemorySource::new(alloc, PACKED.as_bytes(), &[])?;
     let mut sink = MemorySink::new(alloc, 200, &[])?;
-    let mut bench =
-        bench_with::<Split, _, _>(alloc, ModelGuest::new(alloc), ModelDevice::new(alloc, 1))?;
+    let mut bench = bench_with::<Split, _, _>(
+        alloc,
+        ModelGuest::new(alloc),
+        ModelDevice::new(alloc, 1),
+    )?;
     let status = vdpa(
         alloc,
         &["play"],
@@ -102,11 +118,14 @@ fn six_chains(alloc: Global, layout: &str) -> Result<String, AllocError> {
     file.push_str("layout = \"")?;
     file.push_str(layout)?;
     file.push_str("\"\nsize = 4\nwindow = 3\nregions = [{ addr = 4096, size = 8192 }]\n")?;
-    file.push_str("queues = [[\"2*r4096+10 w8192+64\", \"r4096+9\", \"w8192+64\", \"2*r4096+7 r4103+1 w8192+5\"]]\n")?;
+    file.push_str(
+        "queues = [[\"2*r4096+10 w8192+64\", \"r4096+9\", \"w8192+64\", \"2*r4096+7 r4103+1 w8192+5\"]]\n",
+    )?;
     Ok(file)
 }
 
-const SIX: &str = "queue 0 chains 6 bytes 30\nchain 0 0 10\nchain 0 1 10\nchain 0 2 0\nchain 0 3 0\nchain 0 4 5\nchain 0 5 5\nepoch 0 0 pass 0 6\ndrained 6\n";
+const SIX: &str =
+    "queue 0 chains 6 bytes 30\nchain 0 0 10\nchain 0 1 10\nchain 0 2 0\nchain 0 3 0\nchain 0 4 5\nchain 0 5 5\nepoch 0 0 pass 0 6\ndrained 6\n";
 
 #[test]
 fn other_parties_than_the_models_play_too(rt: HostRuntime) -> Result<(), Fail> {
@@ -114,8 +133,11 @@ fn other_parties_than_the_models_play_too(rt: HostRuntime) -> Result<(), Fail> {
     let file = six_chains(alloc, "split")?;
     let mut source = MemorySource::new(alloc, file.as_bytes(), &[])?;
     let mut sink = MemorySink::new(alloc, 300, &[])?;
-    let mut bench =
-        bench_with::<Split, _, _>(alloc, TurnGuest::new(alloc), SingleDevice::new(alloc))?;
+    let mut bench = bench_with::<Split, _, _>(
+        alloc,
+        TurnGuest::new(alloc),
+        SingleDevice::new(alloc),
+    )?;
     let status = vdpa(
         alloc,
         &["play"],
@@ -128,7 +150,12 @@ fn other_parties_than_the_models_play_too(rt: HostRuntime) -> Result<(), Fail> {
     assert!(rt; sink.held() == SIX.as_bytes());
     let returned = bench.guests[0].returned();
     assert_eq!(rt; returned.len(), 6);
-    assert!(rt; returned.iter().zip(0u32..6).all(|(entry, number)| entry.number == number));
+    assert!(rt;
+        returned
+            .iter()
+            .zip(0u32..6)
+            .all(|(entry, number)| entry.number == number)
+    );
     Ok(())
 }
 
@@ -138,8 +165,11 @@ fn other_parties_play_on_a_packed_ring(rt: HostRuntime) -> Result<(), Fail> {
     let file = six_chains(alloc, "packed")?;
     let mut source = MemorySource::new(alloc, file.as_bytes(), &[])?;
     let mut sink = MemorySink::new(alloc, 300, &[])?;
-    let mut bench =
-        bench_with::<Packed, _, _>(alloc, TurnGuest::new(alloc), SingleDevice::new(alloc))?;
+    let mut bench = bench_with::<Packed, _, _>(
+        alloc,
+        TurnGuest::new(alloc),
+        SingleDevice::new(alloc),
+    )?;
     let status = vdpa(
         alloc,
         &["play"],

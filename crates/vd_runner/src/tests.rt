@@ -235,13 +235,13 @@ fn a_refused_attach_is_the_fault_of_its_queue(rt: HostRuntime) -> Result<(), Fai
         let device = FaultyDevice::new(ModelDevice::new(alloc, 1), *fails);
         let mut bench = bench_of(alloc, device)?;
         let status = vdpa(
-        alloc,
-        &["play"],
-        &mut source,
-        &mut sink,
-        &mut bench,
-        &mut no_parties::<Packed>(alloc),
-    );
+            alloc,
+            &["play"],
+            &mut source,
+            &mut sink,
+            &mut bench,
+            &mut no_parties::<Packed>(alloc),
+        );
         assert!(rt; status == *wanted);
         assert_eq!(rt; sink.held().is_empty(), status != Status::Ok);
         let journal = bench.devices[0].journal();

@@ -65,14 +65,14 @@ pub fn vdpa<
     // What was played and written.
     ensures done { result ≡ Status.Ok → OfMachine (S.left source.old) (S.left source.new) (λ plan. OfLayout plan.packed
         (IsWellPlayed split_device split_layout GS.party VS.party plan split.old split.new × (packed.new ≡ packed.old)
-            × Appends (K.held sink.old) (K.held sink.new) (report plan false (all_lens VS.party plan split.new)))
+        × Appends (K.held sink.old) (K.held sink.new) (report plan false (all_lens VS.party plan split.new)))
         (IsWellPlayed packed_device packed_layout GP.party VP.party plan packed.old packed.new × (split.new ≡ split.old)
-            × Appends (K.held sink.old) (K.held sink.new) (report plan false (all_lens VP.party plan packed.new)))) }
+        × Appends (K.held sink.old) (K.held sink.new) (report plan false (all_lens VP.party plan packed.new)))) }
     ensures part { result ≡ Status.WriteFault → OfMachine (S.left source.old) (S.left source.new) (λ plan. OfLayout plan.packed
         (IsWellPlayed split_device split_layout GS.party VS.party plan split.old split.new × (packed.new ≡ packed.old)
-            × AppendsFront (K.held sink.old) (K.held sink.new) (report plan false (all_lens VS.party plan split.new)))
+        × AppendsFront (K.held sink.old) (K.held sink.new) (report plan false (all_lens VS.party plan split.new)))
         (IsWellPlayed packed_device packed_layout GP.party VP.party plan packed.old packed.new × (split.new ≡ split.old)
-            × AppendsFront (K.held sink.old) (K.held sink.new) (report plan false (all_lens VP.party plan packed.new)))) }
+        × AppendsFront (K.held sink.old) (K.held sink.new) (report plan false (all_lens VP.party plan packed.new)))) }
     // What every other answer leaves.
     ensures unwritten { has_written result ≡ false → K.held sink.new ≡ K.held sink.old }
     ensures nothing { has_played result ≡ false → IsUntouched GS.party VS.party split.old split.new × IsUntouched GP.party VP.party packed.old packed.new }
