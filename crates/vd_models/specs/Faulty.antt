@@ -1,5 +1,5 @@
 -- When a device has refused the attach of its number.
-use Rattle.std.specs.Prelude.{◌≡◌, ℕ, ◌+◌, ◌<◌, ◌≤◌, Bool, true, false, List, [], ◌∷◌, drop, nat_lt, if◌then◌else◌}
+use Rattle.std.specs.Prelude.{ℕ, ◌+◌, List, [], ◌∷◌, drop, nat_lt, if◌then◌else◌}
 use Rattle.vd_bus.specs.declared.event.Event.{Event}
 use Rattle.vd_bus.specs.declared.event.Event.TheVariants.{Attach, Suspend, Reset}
 use Rattle.vd_models.specs.declared.refusal.Refusal.{Refusal}

@@ -1,5 +1,5 @@
 //! What a model guest does with the end that it holds.
-ghost use Rattle.std.specs.Prelude.{◌≡◌, ◌<◌, ◌≤◌, ◌++◌, ◌∷◌, [], List, ℕ, length, vec_len, vec_capacity, true, false};
+ghost use Rattle.std.specs.Prelude.{◌≡◌, ◌<◌, ◌≤◌, ◌++◌, ◌∷◌, [], List, ℕ, length, vec_len, vec_capacity, true, false, IsTrue};
 ghost use Rattle.vd_model.specs.declared.record.Return.{Return};
 ghost use Rattle.vd_words.specs.Own.{IsOwn};
 ghost use Rattle.vd_ring.specs.declared.device.DeviceView.{DeviceView};
@@ -32,6 +32,7 @@ pub(crate) trait Driving<L: Layout> {
         requires { (offered : ℕ) × (returned : List Return) × (capacity : ℕ) × (v : DriverView) × DriveOpens L.Driver.driver script.now (drive end.old at offered returned capacity false turn) v }
         ensures busy { ¬ (L.Driver.driver.begun end.new ≡ DriverOp.idle) }
         ensures drives { (offered : ℕ) (returned : List Return) (capacity : ℕ) (v : DriverView) → DriveOpens L.Driver.driver script.now (drive end.old at offered returned capacity false turn) v → DriveOpens L.Driver.driver script.now (drive end.new at offered returned capacity false turn) v }
+        ensures turn { IsTrue turn → L.Driver.driver.begun end.old ≡ DriverOp.idle → L.Driver.driver.begun end.new ≡ DriverOp.collect }
         ensures nearer { drive_weight (L.Driver.driver.begun end.new) (L.Driver.driver.left end.new) ≤ drive_weight (L.Driver.driver.begun end.old) (L.Driver.driver.left end.old) };
 
     /// Makes one access. With `turns` an offer is followed by a turn to collect, until nothing is shown.

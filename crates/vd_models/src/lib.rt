@@ -19,3 +19,6 @@ pub use refusal::Refusal;
 pub use serving::{Held, Stage, Turn};
 pub use single::SingleDevice;
 pub use turn_guest::TurnGuest;
+
+#[cfg(test)]
+mod tests;

@@ -5,14 +5,11 @@ use Rattle.std.proofs.lemmas.Option.{get_or_from_slice_get}
 use Rattle.vd_model.specs.declared.record.Script.{Script}
 use Rattle.vd_bus.specs.Scripts.{run_count, run_chains}
 use Rattle.vd_machine.specs.Queues.{script}
-use Rattle.vd_model.specs.declared.base.Mode.{Mode}
-use Rattle.vd_model.specs.declared.base.Mode.TheVariants.{Pass, Shadow}
+use Rattle.vd_model.specs.declared.base.Mode.TheVariants.{Pass}
 use Rattle.vd_control.specs.Settings.{default}
-use Rattle.vd_ring.specs.declared.device.DeviceView.{DeviceView}
 use Rattle.vd_layout.specs.Driver.{DriverModel}
-use Rattle.vd_layout.specs.Device.{DeviceModel, IsStill}
+use Rattle.vd_layout.specs.Device.{DeviceModel}
 use Rattle.vd_layout.specs.Layout.{LayoutModel, IsLawfulLayout}
-use Rattle.vd_bus.specs.declared.event.Event.{Event}
 use Rattle.vd_bus.specs.declared.event.Event.TheVariants.{Attach}
 use Rattle.vd_bus.specs.Device.{DeviceParty, IsLawfulDeviceParty, IsAttach}
 use Rattle.vd_bus.specs.Guest.{GuestParty, IsLawfulGuestParty}
@@ -20,7 +17,7 @@ use Rattle.vd_bus.specs.Orders.{Terms, FitsQueue, mode_of}
 use Rattle.vd_machine.specs.File.{Plan}
 use Rattle.vd_ring.specs.declared.frame.Frame.{Frame}
 use Rattle.vd_play.specs.Journal.{queue_script, queue_chains, queue_epochs, guest_frame, attach_event, base_at, pass_map}
-use Rattle.vd_play.specs.Lane.{IsKept, IsStopped, IsPassing, StoppedWith, InEpochWith, events_before, begun_at}
+use Rattle.vd_play.specs.Lane.{IsStopped, IsPassing, StoppedWith, InEpochWith, events_before, begun_at}
 use Rattle.vd_play.specs.Orders.{pass_order, stop_of, CanAttach}
 use Rattle.vd_play.proofs.Bounds.{bounded, stops_at, many_epochs, chains_count}
 use Rattle.vd_play.proofs.Keep.{kept_still, begun_of, base_of}
@@ -60,9 +57,9 @@ module _ {D E G X C : Type 0} (d : DriverModel D) (e : DeviceModel E) (l : Layou
       let other : q ≡ 15 → ⊥ = λ h. omega (arith, h, p.kept.queue.low) in
       let base = base_of d e l g m lay gue dev plan q words end guest device p.view p.device_view (begun_at plan q k) p.kept p.stands p.still p.taken in
       let last : Attach (length (m.begun device)) q (record { 0 = e.base end }) (mode_of q) default (pass_map plan) ≡ attach_event e l plan q (begun_at plan q k) =
-          ap (λ z. Attach z q (record { 0 = e.base end }) (mode_of q) default (pass_map plan)) many
-          ∙ ap (λ z. Attach (begun_at plan q k) q z (mode_of q) default (pass_map plan)) base
-          ∙ ap (λ z. Attach (begun_at plan q k) q (base_at e l plan q (begun_at plan q k)) z default (pass_map plan)) (passes q p.kept.queue.low) in
+      ap (λ z. Attach z q (record { 0 = e.base end }) (mode_of q) default (pass_map plan)) many
+      ∙ ap (λ z. Attach (begun_at plan q k) q z (mode_of q) default (pass_map plan)) base
+      ∙ ap (λ z. Attach (begun_at plan q k) q (base_at e l plan q (begun_at plan q k)) z default (pass_map plan)) (passes q p.kept.queue.low) in
       record {
         view = p.view;
         device_view = p.device_view;

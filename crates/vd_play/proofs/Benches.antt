@@ -1,6 +1,5 @@
 -- What stays the same of a bench when the parties of one queue are written.
-use Rattle.std.proofs.Common.{◌≡◌, ◌≢◌, ℕ, ◌+◌, ◌<◌, ◌≤◌, Some, List, length, map, set, slice_get, refl, sym, ◌∙◌, ap, arith}
-use Rattle.std.proofs.lemmas.Bool.{cases_eq}
+use Rattle.std.proofs.Common.{◌≡◌, ℕ, ◌<◌, ◌≤◌, Some, length, map, set, slice_get, refl, sym, ◌∙◌, ap, arith}
 use Rattle.std.proofs.lemmas.List.{length-set, length-map}
 use Rattle.vd_bus.specs.Device.{DeviceParty, Rose}
 use Rattle.vd_play.specs.declared.bench.Bench.{Bench}
@@ -38,6 +37,9 @@ module _ {G X C : Type 0} (m : DeviceParty X C) (n : ℕ) where
   lanes_kept old new j k h =
       record { guests = omega (arith, h.guests, k.guests); devices = omega (arith, h.devices, same_many old new k) }
 
+pub keeps_more : {G X C : Type 0} (m : DeviceParty X C) (j n : ℕ) (old new : Bench G X) → j ≤ n → KeepsBench m j old new → KeepsBench m n old new
+keeps_more m j n old new le k = record { guests = k.guests; carried = k.carried; other_guests = λ i h. k.other_guests i (omega arith); other_devices = λ i h. k.other_devices i (omega arith) }
+
 pub faults_set : {G X C : Type 0} (m : DeviceParty X C) (old now new : Bench G X) (i : ℕ) (x y : X) → HasNoFault m old now → new.devices.items ≡ set now.devices.items i y → slice_get now.devices.items i ≡ Some x → m.faults y ≡ m.faults x → HasNoFault m old new
 faults_set m old now new i x y none xs at same = ap (map m.faults) xs ∙ map_set m.faults now.devices.items i x y at same ∙ none
 
@@ -46,9 +48,9 @@ pub fault_set : {G X C : Type 0} (m : DeviceParty X C) (n : ℕ) (old now new : 
 fault_set m n old now new i x y below none xs at rose = record {
   queue = below;
   rose = λ a b ha hb.
-    let same : b ≡ y = some_same b y (slice_get (set now.devices.items i y) i) (sym (ap (λ zs. slice_get zs i) xs) ∙ hb) (get_set_same now.devices.items i y (Rattle.std.proofs.lemmas.Option.slice_get_within now.devices.items i x at)) in
-    let before : m.faults x ≡ m.faults a = map_at m.faults old.devices.items now.devices.items i a x none ha at in
-    omega (arith, rose, before, ap m.faults same);
+      let same : b ≡ y = some_same b y (slice_get (set now.devices.items i y) i) (sym (ap (λ zs. slice_get zs i) xs) ∙ hb) (get_set_same now.devices.items i y (Rattle.std.proofs.lemmas.Option.slice_get_within now.devices.items i x at)) in
+      let before : m.faults x ≡ m.faults a = map_at m.faults old.devices.items now.devices.items i a x none ha at in
+      omega (arith, rose, before, ap m.faults same);
   others = λ k a b ne ha hb. map_at m.faults old.devices.items now.devices.items k a b none ha (sym (get_set_other now.devices.items i k y ne) ∙ sym (ap (λ zs. slice_get zs k) xs) ∙ hb);
 }
 
@@ -57,10 +59,10 @@ pub fault_later : {G X C : Type 0} (m : DeviceParty X C) (n q : ℕ) (old mid ne
 fault_later m n q old mid new many none f = record {
   queue = f.queue;
   rose = λ a b ha hb.
-    let x = Rattle.vd_play.proofs.Bounds.at_index mid.devices.items q (omega (arith, many, Rattle.std.proofs.lemmas.Option.slice_get_within old.devices.items q a ha)) in
-    let before : m.faults x.0 ≡ m.faults a = map_at m.faults old.devices.items mid.devices.items q a x.0 none ha x.1 in
-    omega (arith, f.rose x.0 b x.1 hb, before);
+      let x = Rattle.vd_play.proofs.Bounds.at_index mid.devices.items q (omega (arith, many, Rattle.std.proofs.lemmas.Option.slice_get_within old.devices.items q a ha)) in
+      let before : m.faults x.0 ≡ m.faults a = map_at m.faults old.devices.items mid.devices.items q a x.0 none ha x.1 in
+      omega (arith, f.rose x.0 b x.1 hb, before);
   others = λ k a b ne ha hb.
-    let x = Rattle.vd_play.proofs.Bounds.at_index mid.devices.items k (omega (arith, many, Rattle.std.proofs.lemmas.Option.slice_get_within old.devices.items k a ha)) in
-    f.others k x.0 b ne x.1 hb ∙ map_at m.faults old.devices.items mid.devices.items k a x.0 none ha x.1;
+      let x = Rattle.vd_play.proofs.Bounds.at_index mid.devices.items k (omega (arith, many, Rattle.std.proofs.lemmas.Option.slice_get_within old.devices.items k a ha)) in
+      f.others k x.0 b ne x.1 hb ∙ map_at m.faults old.devices.items mid.devices.items k a x.0 none ha x.1;
 }

@@ -1,5 +1,5 @@
 -- A lane in the course of a play has the beginning of its journal.
-use Rattle.std.proofs.Common.{◌≡◌, ℕ, zero, suc, add-one, ◌+◌, ◌<◌, ◌≤◌, Option, Some, None, Result, Ok, Err, IfErr, IsErrAnd, List, [], ◌∷◌, ◌++◌, length, take, drop, flat_map, map, refl, sym, ◌∙◌, ap, subst, arith}
+use Rattle.std.proofs.Common.{◌≡◌, ℕ, ◌+◌, Option, Some, None, Result, Ok, Err, IfErr, IsErrAnd, List, [], ◌∷◌, ◌++◌, length, take, drop, flat_map, sym, ◌∙◌, ap, subst}
 use Rattle.std.specs.List.{All}
 use Rattle.std.proofs.lemmas.Grind.{flat_map-append}
 use Rattle.std.proofs.lemmas.List.{append_assoc, take-append-drop}
@@ -10,16 +10,15 @@ use Rattle.vd_ring.specs.declared.device.DeviceView.{DeviceView}
 use Rattle.vd_layout.specs.Driver.{DriverModel}
 use Rattle.vd_layout.specs.Device.{DeviceModel}
 use Rattle.vd_layout.specs.Layout.{LayoutModel, IsLawfulLayout}
-use Rattle.vd_bus.specs.declared.event.Event.{Event}
 use Rattle.vd_bus.specs.Device.{DeviceParty, IsLawfulDeviceParty, IsRefused, IsBegun, chains_of, lens_of}
 use Rattle.vd_bus.specs.Guest.{GuestParty, IsLawfulGuestParty}
 use Rattle.vd_machine.specs.File.{Plan}
 use Rattle.vd_play.specs.Journal.{queue_script, queue_chains, queue_epochs, epoch_events, attach_event, suspend_event, journal_events, HasLen}
-use Rattle.vd_play.specs.Lane.{IsKept, IsStopped, IsPassing, StoppedWith, InEpochWith, events_before, begun_at}
+use Rattle.vd_play.specs.Lane.{IsKept, StoppedWith, InEpochWith, events_before, begun_at}
 use Rattle.vd_play.specs.Played.{IsCut}
 use Rattle.vd_play.proofs.Bounds.{bounded, flat_more}
 use Rattle.vd_play.proofs.Keep.{prefix_of}
-use Rattle.vd_play.proofs.Lists.{prefix_through, prefix_same}
+use Rattle.vd_play.proofs.Lists.{prefix_through}
 use Rattle.vd_play.proofs.Returns.{some_returned}
 
 front_of : {A B : Type 0} (f : A → List B) (xs : List A) (k : ℕ) → IsPrefix (flat_map f (take k xs)) (flat_map f xs)

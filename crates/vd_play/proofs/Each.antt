@@ -1,10 +1,8 @@
 -- One lane of many is read and written.
-use Rattle.std.proofs.Common.{◌≡◌, ◌≢◌, ℕ, zero, suc, ◌+◌, ◌<◌, ◌≤◌, inl, inr, Option, Some, None, List, [], ◌∷◌, length, map, set, slice_get, refl, sym, ◌∙◌, ap, subst, arith}
+use Rattle.std.proofs.Common.{◌≡◌, ℕ, zero, suc, ◌+◌, ◌<◌, ◌≤◌, inl, inr, Some, List, [], ◌∷◌, length, map, set, slice_get, refl, sym, ◌∙◌, ap, subst, arith}
 use Rattle.std.proofs.lemmas.Bool.{cases_lt, cases_eq}
-use Rattle.std.proofs.lemmas.List.{length-set, length-map}
+use Rattle.std.proofs.lemmas.List.{length-set}
 use Rattle.std.proofs.lemmas.Option.{slice_get_within}
-use Rattle.vd_bus.specs.Device.{DeviceParty}
-use Rattle.vd_play.specs.declared.bench.Bench.{Bench}
 use Rattle.vd_play.specs.Each.{EachLane, Stage}
 use Rattle.vd_play.proofs.Bounds.{at_index}
 use Rattle.vd_play.proofs.Lists.{some_same}
@@ -57,16 +55,16 @@ module _ {A B C : Type 0} (P Q : ℕ → A → B → C → Type 0) where
   pub stage_write : (i : ℕ) (ls : List A) (bs : List B) (xs : List C) (l : A) (g : B) (x : C) → EachLane (Stage i P Q) ls bs xs → P i l g x → EachLane (Stage (i + 1) P Q) (set ls i l) (set bs i g) (set xs i x)
   stage_write i ls bs xs l g x e new = record {
     at = λ q l' g' x' hl hg hx.
-      get_set ls i q l l' hl (λ same el.
+        get_set ls i q l l' hl (λ same el.
         get_set bs i q g g' hg (λ same2 eg.
-          get_set xs i q x x' hx (λ same3 ex. record {
-            before = λ below. subst (λ k. P k l' g' x') (sym same) (subst (λ k. P i k g' x') el (subst (λ k. P i l k x') eg (subst (λ k. P i l g k) ex new)));
-            from = λ from. absurd (omega (arith, same));
-          }) (λ n hx'. absurd (n same)))
+        get_set xs i q x x' hx (λ same3 ex. record {
+          before = λ below. subst (λ k. P k l' g' x') (sym same) (subst (λ k. P i k g' x') el (subst (λ k. P i l k x') eg (subst (λ k. P i l g k) ex new)));
+          from = λ from. absurd (omega (arith, same));
+        }) (λ n hx'. absurd (n same)))
         (λ n hg'. absurd (n same)))
-      (λ n hl'.
+        (λ n hl'.
         let old = e.at q l' g' x' hl' (sym (get_set_other bs i q g n) ∙ hg) (sym (get_set_other xs i q x n) ∙ hx) in record {
-          before = λ below. elim (cases_lt q i) [ | inl less ↦ old.before less | inr more ↦ absurd (n (omega arith)) ];
+          before = λ below. elim (cases_lt q i) [ inl less ↦ old.before less | inr more ↦ absurd (n (omega arith)) ];
           from = λ from. old.from (omega arith);
         });
   }
@@ -90,7 +88,7 @@ pub all_but_one : {A B C : Type 0} (P Q R : ℕ → A → B → C → Type 0) (i
 all_but_one P Q R i ls bs xs l g x hg e p q new =
     let both : EachLane (Stage i R R) ls bs xs = record { at = λ k a b c ha hb hc. record { before = λ below. p k a b c ((e.at k a b c ha hb hc).before below); from = λ from. q k a b c ((e.at k a b c ha hb hc).from from) } } in
     let after : EachLane (Stage (i + 1) R R) (set ls i l) bs (set xs i x) = stage_device R R i ls bs xs l g x hg both new in
-    record { at = λ k a b c ha hb hc. elim (cases_lt k (i + 1)) [ | inl h ↦ (after.at k a b c ha hb hc).before h | inr h ↦ (after.at k a b c ha hb hc).from h ] }
+    record { at = λ k a b c ha hb hc. elim (cases_lt k (i + 1)) [ inl h ↦ (after.at k a b c ha hb hc).before h | inr h ↦ (after.at k a b c ha hb hc).from h ] }
 
 -- of each lane's parties
 pub each_queue : {A G X : Type 0} (P : ℕ → G → X → Type 0) (n : ℕ) (lanes : List A) (gs : List G) (xs : List X) → length lanes ≡ n → EachLane (λ q a g x. P q g x) lanes gs xs → (q : ℕ) (g : G) (x : X) → q < n → slice_get gs q ≡ Some g → slice_get xs q ≡ Some x → P q g x

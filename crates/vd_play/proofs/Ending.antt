@@ -1,23 +1,19 @@
 -- What a still lane is after the last epoch, once its guest has collected.
-use Rattle.std.proofs.Common.{◌≡◌, ℕ, ◌+◌, ◌<◌, ◌≤◌, inl, inr, Option, Some, None, List, [], length, map, take, flat_map, refl, sym, ◌∙◌, ap, subst, arith}
-use Rattle.std.specs.List.{All}
+use Rattle.std.proofs.Common.{◌≡◌, ℕ, ◌+◌, inl, inr, Option, Some, None, List, length, map, flat_map, sym, ◌∙◌, ap, subst, arith}
 use Rattle.std.proofs.Math.Seq.{take-length}
-use Rattle.std.proofs.lemmas.List.{length-map, take_all}
-use Rattle.vd_model.specs.declared.chain.Piece.{Piece}
-use Rattle.vd_model.specs.declared.record.Return.{Return}
+use Rattle.std.proofs.lemmas.List.{length-map}
 use Rattle.vd_ring.specs.declared.driver.DriverView.{DriverView}
 use Rattle.vd_ring.specs.declared.device.DeviceView.{DeviceView}
 use Rattle.vd_ring.specs.declared.frame.Frame.{Frame}
-use Rattle.vd_ring.specs.declared.frame.Used.{Used}
 use Rattle.vd_ring.specs.History.{offers, collects, takes, gives}
 use Rattle.vd_ring.specs.Lists.{Lists}
 use Rattle.vd_layout.specs.Driver.{DriverModel}
 use Rattle.vd_layout.specs.Device.{DeviceModel}
 use Rattle.vd_layout.specs.Layout.{LayoutModel, IsLawfulLayout}
-use Rattle.vd_bus.specs.Device.{DeviceParty, IsLawfulDeviceParty, chains_of, lens_of}
+use Rattle.vd_bus.specs.Device.{DeviceParty, IsLawfulDeviceParty, lens_of}
 use Rattle.vd_bus.specs.Guest.{GuestParty, IsLawfulGuestParty, IsHalt, as_return}
 use Rattle.vd_machine.specs.File.{Plan}
-use Rattle.vd_play.specs.Journal.{queue_script, queue_chains, queue_epochs, guest_frame, epoch_events, IsReturned}
+use Rattle.vd_play.specs.Journal.{queue_script, queue_chains, queue_epochs, epoch_events, IsReturned}
 use Rattle.vd_play.specs.declared.floor.Lane.{Lane}
 use Rattle.vd_play.specs.Each.{EachLane}
 use Rattle.vd_play.specs.Lane.{IsKept, IsStopped, StoppedWith, Stopped}

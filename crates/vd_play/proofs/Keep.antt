@@ -12,22 +12,19 @@ use Rattle.vd_ring.specs.declared.driver.DriverView.{DriverView}
 use Rattle.vd_ring.specs.declared.driver.DriverDone.{DriverDone}
 use Rattle.vd_ring.specs.declared.device.DeviceView.{DeviceView}
 use Rattle.vd_ring.specs.declared.frame.Frame.{Frame}
-use Rattle.vd_ring.specs.declared.frame.Used.{Used}
 use Rattle.vd_ring.specs.Frames.{Fits}
-use Rattle.vd_ring.specs.History.{offers, collects, takes, gives, open_at, chain}
+use Rattle.vd_ring.specs.History.{offers, takes, gives, open_at, chain}
 use Rattle.vd_ring.specs.Places.{Places}
 use Rattle.vd_layout.specs.Driver.{DriverModel, HasRoom}
 use Rattle.vd_layout.specs.Device.{DeviceModel}
 use Rattle.vd_layout.specs.Layout.{LayoutModel, IsLawfulLayout}
 use Rattle.vd_bus.specs.declared.device.Attached.{Attached}
 use Rattle.vd_bus.specs.declared.event.Event.{Event}
-use Rattle.vd_bus.specs.declared.event.Event.TheVariants.{Attach, Suspend}
+use Rattle.vd_bus.specs.declared.event.Event.TheVariants.{Suspend}
 use Rattle.vd_bus.specs.Device.{DeviceParty, IsLawfulDeviceParty, IsServing, IsBegun, IsSuspend, IsJournalled, chains_of, lens_of}
 use Rattle.vd_bus.specs.Guest.{GuestParty, IsLawfulGuestParty}
 use Rattle.vd_bus.specs.Orders.{IsData}
 use Rattle.vd_machine.specs.File.{Plan}
-use Rattle.vd_play.specs.declared.floor.Lane.{Lane}
-use Rattle.vd_play.specs.Epochs.{begun_before}
 use Rattle.vd_play.specs.Journal.{queue_script, queue_chains, queue_epochs, guest_frame, base_at, epoch_events, attach_event, suspend_event}
 use Rattle.vd_play.specs.Turns.{IsGuestTurn, IsDeviceTurn}
 use Rattle.vd_play.specs.Lane.{IsKept, IsStopped, IsPassing, InEpochWith, HasGiven, events_before, begun_at}

@@ -9,3 +9,4 @@ pub mod Ending
 pub mod Begin
 pub mod Cut
 pub mod Making
+pub mod Untouched

@@ -1,16 +1,12 @@
 -- A lane that was just made is still.
-use Rattle.std.proofs.Common.{◌≡◌, ℕ, ◌+◌, ◌*◌, ◌<◌, ◌≤◌, true, false, Option, Some, None, List, [], ◌∷◌, length, replicate, slice_get, slice_index_or, refl, sym, ◌∙◌, ap, subst, arith, inl, inr}
+use Rattle.std.proofs.Common.{◌≡◌, ℕ, ◌+◌, ◌*◌, ◌<◌, ◌≤◌, true, false, Some, List, [], ◌∷◌, length, replicate, slice_index_or, refl, sym, ◌∙◌, ap, subst, arith, inr}
 use Rattle.std.specs.List.{All}
-use Rattle.std.proofs.lemmas.List.Elements.{All-nil, All-same, All-head, All-tail, All-append, All-replicate}
-use Rattle.std.proofs.lemmas.Option.{get_or_from_slice_get}
-use Rattle.vd_model.specs.Chains.{IsChain, needs, total}
-use Rattle.vd_model.specs.declared.chain.Piece.{Piece}
-use Rattle.vd_model.specs.declared.features.Features.{Features}
+use Rattle.std.proofs.lemmas.List.Elements.{All-nil, All-head, All-tail, All-append, All-replicate}
+use Rattle.vd_model.specs.Chains.{IsChain}
 use Rattle.vd_model.specs.declared.record.Begun.{Begun}
 use Rattle.vd_model.specs.declared.record.Run.{Run}
 use Rattle.vd_model.specs.declared.record.Script.{Script}
 use Rattle.vd_ring.specs.declared.frame.Frame.{Frame}
-use Rattle.vd_ring.specs.declared.frame.Used.{Used}
 use Rattle.vd_ring.specs.declared.driver.DriverView.{DriverView}
 use Rattle.vd_ring.specs.declared.device.DeviceView.{DeviceView}
 use Rattle.vd_ring.specs.Fresh.{fresh_driver, fresh_device}
@@ -20,14 +16,13 @@ use Rattle.vd_layout.specs.Device.{DeviceModel}
 use Rattle.vd_layout.specs.Layout.{LayoutModel, IsLawfulLayout, IsMadeWith, CanMake, IsFresh}
 use Rattle.vd_bus.specs.Device.{DeviceParty, IsUnchanged, IsBegun, chains_of, lens_of}
 use Rattle.vd_bus.specs.Guest.{GuestParty, IsBoot, CanBoot}
-use Rattle.vd_bus.specs.Scripts.{chains, run_chains, run_count}
+use Rattle.vd_bus.specs.Scripts.{run_chains}
 use Rattle.vd_machine.specs.File.{Plan}
 use Rattle.vd_machine.specs.Queues.{script, most_pieces, are_scripts, all_lie, few}
-use Rattle.vd_machine.specs.Regions.{are_regions}
 use Rattle.vd_machine.specs.Rings.{is_lawful_size}
 use Rattle.vd_machine.proofs.Facts.{one_queue, queue_is_short, queue_has_no_commands, run_at, needs_within}
-use Rattle.vd_play.specs.Journal.{queue_script, queue_chains, queue_epochs, guest_frame}
-use Rattle.vd_play.specs.Lane.{IsQueue, IsKept, IsStopped, HasGiven}
+use Rattle.vd_play.specs.Journal.{queue_script, queue_chains, guest_frame}
+use Rattle.vd_play.specs.Lane.{IsQueue, IsStopped, HasGiven}
 use Rattle.vd_play.specs.Prepared.{IsEmptyDevice}
 use Rattle.vd_play.proofs.Bounds.{chained, chains_count, many_epochs}
 
@@ -56,12 +51,12 @@ queue_is l plan q k below are =
       few = omega (arith, chains_count (queue_script plan q).runs, queue_is_short plan.queues d q k.counted below);
       chained = chained plan (length (queue_chains plan q)) k.unswitched;
       fits = runs_fit f (queue_script plan q).runs (λ j e within.
-        let r = run_at (most_pieces plan.features plan.size) plan.regions plan.queues d e q j k.fitted k.inside below within in record {
-          chain = are j e within;
-          size = needs_within plan.features plan.packed plan.size (slice_index_or (queue_script plan q).runs j e).chain k.sized r.within;
-          length = r.bytes;
-          bounds = tt;
-        });
+          let r = run_at (most_pieces plan.features plan.size) plan.regions plan.queues d e q j k.fitted k.inside below within in record {
+            chain = are j e within;
+            size = needs_within plan.features plan.packed plan.size (slice_index_or (queue_script plan q).runs j e).chain k.sized r.within;
+            length = r.bytes;
+            bounds = tt;
+          });
     }
 
 module _ {D E G X C : Type 0} (d : DriverModel D) (e : DeviceModel E) (l : LayoutModel) (g : GuestParty G) (m : DeviceParty X C) (lay : IsLawfulLayout d e l) (plan : Plan) (q : ℕ) where

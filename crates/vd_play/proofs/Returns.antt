@@ -1,5 +1,5 @@
 -- What came back to a guest, by what was given on its ring.
-use Rattle.std.proofs.Common.{◌≡◌, ℕ, zero, suc, add-one, ◌+◌, ◌<◌, ◌≤◌, Bool, true, Option, Some, None, List, [], ◌∷◌, ◌++◌, length, map, take, drop, slice_get, slice_index, slice_index_or, if◌then◌else◌, nat_lt, refl, sym, ◌∙◌, ap, subst, arith}
+use Rattle.std.proofs.Common.{◌≡◌, ℕ, zero, suc, add-one, ◌+◌, ◌<◌, ◌≤◌, List, [], ◌∷◌, ◌++◌, length, map, take, drop, slice_index, slice_index_or, if◌then◌else◌, nat_lt, refl, sym, ◌∙◌, ap, arith}
 use Rattle.std.specs.List.{All}
 use Rattle.std.proofs.lemmas.List.{length-map, take-append-drop, map_push, length_push}
 use Rattle.std.proofs.lemmas.List.Elements.{All-map, All-same, All-take}
@@ -10,7 +10,7 @@ use Rattle.vd_ring.specs.declared.frame.Frame.{Frame}
 use Rattle.vd_ring.specs.declared.frame.Used.{Used}
 use Rattle.vd_ring.specs.History.{collects, takes, gives, running, numbers, occurs, upto, used_at}
 use Rattle.vd_ring.specs.Lists.{Lists}
-use Rattle.vd_ring.proofs.Counts.{one_small, one_below, one_above, occurs-append}
+use Rattle.vd_ring.proofs.Counts.{one_small, occurs-append}
 use Rattle.vd_bus.specs.Guest.{as_return}
 use Rattle.vd_play.specs.Journal.{returned_numbers, HasLen, IsReturned}
 use Rattle.vd_play.specs.Lane.{HasGiven}

@@ -1,5 +1,5 @@
 -- When the rounds of an epoch end.
-use Rattle.std.proofs.Common.{◌≡◌, ℕ, suc, zero, ◌+◌, ◌<◌, ◌≤◌, Bool, true, false, Option, Some, None, is_some, List, [], ◌∷◌, length, slice_get, refl, sym, ◌∙◌, ap, subst, arith}
+use Rattle.std.proofs.Common.{◌≡◌, ℕ, suc, zero, ◌+◌, ◌<◌, Bool, true, Option, Some, None, is_some, List, [], ◌∷◌, length, slice_get, arith}
 use Rattle.std.specs.List.{list_all}
 use Rattle.vd_layout.specs.Device.{DeviceModel}
 use Rattle.vd_layout.specs.Layout.{LayoutModel}
@@ -7,7 +7,7 @@ use Rattle.vd_bus.specs.Device.{DeviceParty, IsLawfulDeviceParty}
 use Rattle.vd_bus.specs.Guest.{GuestParty}
 use Rattle.vd_machine.specs.File.{Plan}
 use Rattle.vd_play.specs.Journal.{queue_chains, queue_epochs}
-use Rattle.vd_play.specs.Lane.{IsPassing, InEpochWith, StoppedWith}
+use Rattle.vd_play.specs.Lane.{InEpochWith, StoppedWith}
 use Rattle.vd_play.proofs.Bounds.{bounded}
 
 pub all_at : {A : Type 0} (p : A → Bool) (xs : List A) (q : ℕ) (x : A) → list_all p xs ≡ true → slice_get xs q ≡ Some x → p x ≡ true

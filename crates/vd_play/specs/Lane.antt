@@ -1,8 +1,6 @@
 -- What holds of one queue's lane while a machine is played.
 use Rattle.std.specs.Prelude.{◌≡◌, ℕ, ◌<◌, ◌≤◌, ◌+◌, Option, Some, None, List, [], ◌∷◌, ◌++◌, length, take, flat_map, slice_get}
 use Rattle.std.specs.List.{All}
-use Rattle.vd_model.specs.declared.base.Mode.TheVariants.{Pass}
-use Rattle.vd_control.specs.Settings.{default}
 use Rattle.vd_ring.specs.declared.driver.DriverView.{DriverView}
 use Rattle.vd_ring.specs.declared.device.DeviceView.{DeviceView}
 use Rattle.vd_ring.specs.declared.frame.Used.{Used}
@@ -12,7 +10,6 @@ use Rattle.vd_layout.specs.Device.{DeviceModel, IsStill}
 use Rattle.vd_layout.specs.Layout.{LayoutModel}
 use Rattle.vd_bus.specs.declared.device.Attached.{Attached}
 use Rattle.vd_bus.specs.declared.event.Event.{Event}
-use Rattle.vd_bus.specs.declared.event.Event.TheVariants.{Attach}
 use Rattle.vd_bus.specs.Device.{DeviceParty, IsBegun, chains_of, lens_of}
 use Rattle.vd_bus.specs.Guest.{GuestParty}
 use Rattle.vd_bus.specs.Orders.{IsData}

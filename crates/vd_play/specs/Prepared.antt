@@ -1,8 +1,8 @@
 -- Parties as they are handed in, and what prepare leaves.
-use Rattle.std.specs.Prelude.{◌≡◌, ℕ, true, false, List, [], length, slice_get, Some, None}
+use Rattle.std.specs.Prelude.{◌≡◌, ℕ, true, List, [], length, slice_get, Some, None}
 use Rattle.std.specs.List.{All}
 use Rattle.vd_layout.specs.Device.{DeviceModel}
-use Rattle.vd_layout.specs.Layout.{LayoutModel, CanMake}
+use Rattle.vd_layout.specs.Layout.{LayoutModel}
 use Rattle.vd_bus.specs.Device.{DeviceParty, IsUnchanged}
 use Rattle.vd_bus.specs.Guest.{GuestParty}
 use Rattle.vd_machine.specs.File.{Plan}

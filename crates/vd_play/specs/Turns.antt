@@ -1,5 +1,5 @@
 -- What one party's turn leaves of a ring of plain words.
-use Rattle.std.specs.Prelude.{◌≡◌, ◌⊎◌, ℕ, ◌+◌, ◌<◌, Option, Some, List, [], length, slice_get}
+use Rattle.std.specs.Prelude.{◌≡◌, ◌⊎◌, ℕ, ◌+◌, ◌<◌, Some, List, [], length, slice_get}
 use Rattle.vd_model.specs.declared.chain.Piece.{Piece}
 use Rattle.vd_model.specs.declared.record.Script.{Script}
 use Rattle.vd_ring.specs.declared.driver.DriverView.{DriverView}

@@ -76,7 +76,7 @@ pub fn prepare<L: Layout, G: Guest<L>, V: Device<L>>(
     let mut lanes = Vec::with_capacity(alloc, m.queues.len())?;
     for i in 0..m.queues.len() {
         let lane = make_lane::<L, G, V>(alloc, m, i, &mut bench.guests[i], &mut bench.devices[i])?;
-        lanes.push(lane)?;
+        lanes.push_reserved(lane);
     }
     Ok(Floor { lanes })
 }

@@ -1,4 +1,4 @@
-use Rattle.std.proofs.Common.{◌≡◌, ◌<◌, ◌-◌, ℕ, None, Some, length, arith, sym, refl, ap, subst, ◌∙◌}
+use Rattle.std.proofs.Common.{◌≡◌, ◌<◌, ◌-◌, ℕ, None, length, arith, sym, refl, ap, subst, ◌∙◌}
 use Rattle.std.specs.Vec.{with_item}
 use Rattle.std.proofs.lemmas.Option.{slice_get_read}
 use Rattle.std.proofs.lemmas.List.{length-set}
@@ -69,9 +69,9 @@ returns-in_err-attach-clause-cut g c =
     let hg = at_index c.loop-i.bench.guests.items i (omega (arith, f.guests)) in
     let hl = slice_get_read c.loop-i.floor.lanes.items _ i c.index_mut.result.now refl (omega arith) c.index_mut.ensures.value in
     if_err_any _ _ (λ z. all_but_one _ _ _ i _ _ _ c.attach.new.lane hg.0 c.attach.new.device hg.1 c.loop-i.invariant.each
-      (λ q a b x p. cut_epoch g.L.Driver.DriverEnd.driver g.L.Device.DeviceEnd.device g.L.Layout.layout g.G.Guest.party g.V.Device.party g.met.L.Layout.lawful (g.met.G.Guest g.world.𝓛 g.world.𝓜 g.world.𝓡 ((λ s x. x), (λ x. x), (λ x. x), λ x. x)).lawful (g.met.V.Device g.world.𝓛 g.world.𝓜 g.world.𝓡 ((λ s x. x), (λ x. x), (λ x. x), λ x. x)).lawful (view c.args.m.now) q c.args.epoch 0 a.words.words a.still b x p)
-      (λ q a b x p. cut_stopped g.L.Driver.DriverEnd.driver g.L.Device.DeviceEnd.device g.L.Layout.layout g.G.Guest.party g.V.Device.party g.met.L.Layout.lawful (g.met.G.Guest g.world.𝓛 g.world.𝓜 g.world.𝓡 ((λ s x. x), (λ x. x), (λ x. x), λ x. x)).lawful (g.met.V.Device g.world.𝓛 g.world.𝓜 g.world.𝓡 ((λ s x. x), (λ x. x), (λ x. x), λ x. x)).lawful (view c.args.m.now) q c.args.epoch a.words.words a.still b x p)
-      (cut_refused g.L.Driver.DriverEnd.driver g.L.Device.DeviceEnd.device g.L.Layout.layout g.G.Guest.party g.V.Device.party g.met.L.Layout.lawful (g.met.G.Guest g.world.𝓛 g.world.𝓜 g.world.𝓡 ((λ s x. x), (λ x. x), (λ x. x), λ x. x)).lawful (g.met.V.Device g.world.𝓛 g.world.𝓜 g.world.𝓡 ((λ s x. x), (λ x. x), (λ x. x), λ x. x)).lawful (view c.args.m.now) i c.args.epoch _ _ hg.0 _ c.attach.new.device c.in_err-attach.ensures.err.2 (stage_read _ _ i _ _ _ _ _ _ c.loop-i.invariant.each hl hg.1 hx)))
+    (λ q a b x p. cut_epoch g.L.Driver.DriverEnd.driver g.L.Device.DeviceEnd.device g.L.Layout.layout g.G.Guest.party g.V.Device.party g.met.L.Layout.lawful (g.met.G.Guest g.world.𝓛 g.world.𝓜 g.world.𝓡 ((λ s x. x), (λ x. x), (λ x. x), λ x. x)).lawful (g.met.V.Device g.world.𝓛 g.world.𝓜 g.world.𝓡 ((λ s x. x), (λ x. x), (λ x. x), λ x. x)).lawful (view c.args.m.now) q c.args.epoch 0 a.words.words a.still b x p)
+    (λ q a b x p. cut_stopped g.L.Driver.DriverEnd.driver g.L.Device.DeviceEnd.device g.L.Layout.layout g.G.Guest.party g.V.Device.party g.met.L.Layout.lawful (g.met.G.Guest g.world.𝓛 g.world.𝓜 g.world.𝓡 ((λ s x. x), (λ x. x), (λ x. x), λ x. x)).lawful (g.met.V.Device g.world.𝓛 g.world.𝓜 g.world.𝓡 ((λ s x. x), (λ x. x), (λ x. x), λ x. x)).lawful (view c.args.m.now) q c.args.epoch a.words.words a.still b x p)
+    (cut_refused g.L.Driver.DriverEnd.driver g.L.Device.DeviceEnd.device g.L.Layout.layout g.G.Guest.party g.V.Device.party g.met.L.Layout.lawful (g.met.G.Guest g.world.𝓛 g.world.𝓜 g.world.𝓡 ((λ s x. x), (λ x. x), (λ x. x), λ x. x)).lawful (g.met.V.Device g.world.𝓛 g.world.𝓜 g.world.𝓡 ((λ s x. x), (λ x. x), (λ x. x), λ x. x)).lawful (view c.args.m.now) i c.args.epoch _ _ hg.0 _ c.attach.new.device c.in_err-attach.ensures.err.2 (stage_read _ _ i _ _ _ _ _ _ c.loop-i.invariant.each hl hg.1 hx)))
 
 pub returns-in_err-attach-clause-fault : goal.returns-in_err-attach-clause-fault
 returns-in_err-attach-clause-fault g c =
@@ -108,7 +108,7 @@ loop-i-preserved g c =
       keeps = keeps;
       faults = faults_set m c.args.bench.now c.loop-i.bench new i _ c.attach.new.device c.loop-i.invariant.faults refl hx c.in_ok-attach.ensures.faults;
       each = stage_device _ _ i _ _ _ c.attach.new.lane hg.0 c.attach.new.device hg.1 c.loop-i.invariant.each
-        (begins g.L.Driver.DriverEnd.driver g.L.Device.DeviceEnd.device g.L.Layout.layout g.G.Guest.party g.V.Device.party g.met.L.Layout.lawful (g.met.G.Guest g.world.𝓛 g.world.𝓜 g.world.𝓡 ((λ s x. x), (λ x. x), (λ x. x), λ x. x)).lawful (g.met.V.Device g.world.𝓛 g.world.𝓜 g.world.𝓡 ((λ s x. x), (λ x. x), (λ x. x), λ x. x)).lawful (view c.args.m.now) i c.args.epoch c.stop_of-stop.result _ _ _ _ hg.0 _ c.attach.new.device to.0 to.1 (ap (λ w. w.words) c.attach.ensures.words) ok.0
+          (begins g.L.Driver.DriverEnd.driver g.L.Device.DeviceEnd.device g.L.Layout.layout g.G.Guest.party g.V.Device.party g.met.L.Layout.lawful (g.met.G.Guest g.world.𝓛 g.world.𝓜 g.world.𝓡 ((λ s x. x), (λ x. x), (λ x. x), λ x. x)).lawful (g.met.V.Device g.world.𝓛 g.world.𝓜 g.world.𝓡 ((λ s x. x), (λ x. x), (λ x. x), λ x. x)).lawful (view c.args.m.now) i c.args.epoch c.stop_of-stop.result _ _ _ _ hg.0 _ c.attach.new.device to.0 to.1 (ap (λ w. w.words) c.attach.ensures.words) ok.0
           (λ end at. subst (λ k. IsAttach g.L.Device.DeviceEnd.device m (pass_order g.L.Device.DeviceEnd.device (view c.args.m.now) i (c.stop_of-stop.result - k) end) None end c.index_mut-device.result.now c.attach.new.device) (sym begun) (ok.1 end at))
           (stage_read _ _ i _ _ _ _ _ _ c.loop-i.invariant.each hl hg.1 hx));
     }

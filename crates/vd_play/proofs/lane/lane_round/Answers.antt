@@ -1,5 +1,5 @@
 use Rattle.std.proofs.Common.{rules, ◌≡◌, is_none, true, false}
-use Rattle.vd_play.proofs.Keep.{stops, goes_on, passing_of, in_epoch_none, guest_owes, waits_with}
+use Rattle.vd_play.proofs.Keep.{stops, goes_on, passing_of, in_epoch_none, waits_with}
 use Rattle.vd_play.proofs.lane.lane_round.Goals as goal
 
 pub suspend-requires-clause-held : goal.suspend-requires-clause-held

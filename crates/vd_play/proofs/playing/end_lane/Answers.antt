@@ -1,5 +1,4 @@
-use Rattle.std.proofs.Common.{rules, ◌≡◌}
-use Rattle.vd_play.proofs.Ending.{ended, halts, owes}
+use Rattle.vd_play.proofs.Ending.{ended, halts}
 use Rattle.vd_play.proofs.playing.end_lane.Goals as goal
 
 pub returns : goal.returns

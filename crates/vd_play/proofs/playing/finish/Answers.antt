@@ -1,4 +1,4 @@
-use Rattle.std.proofs.Common.{◌≡◌, ◌<◌, ℕ, length, arith, sym, refl, ap, ◌∙◌}
+use Rattle.std.proofs.Common.{◌<◌, ℕ, length, arith, sym, refl, ◌∙◌}
 use Rattle.std.specs.Vec.{with_item}
 use Rattle.std.proofs.lemmas.Option.{slice_get_read}
 use Rattle.std.proofs.lemmas.List.{length-set}
@@ -40,6 +40,6 @@ loop-i-preserved g c =
       keeps = keeps;
       devices = c.loop-i.invariant.devices;
       each = λ plan start.
-        let e = c.loop-i.invariant.each plan start in
-        stage_guest _ _ i _ _ _ c.end_lane.new.lane c.end_lane.new.guest c.index.result.now hx e (c.end_lane.ensures plan i (stage_read _ _ i _ _ _ _ _ _ e hl hg hx));
+          let e = c.loop-i.invariant.each plan start in
+          stage_guest _ _ i _ _ _ c.end_lane.new.lane c.end_lane.new.guest c.index.result.now hx e (c.end_lane.ensures plan i (stage_read _ _ i _ _ _ _ _ _ e hl hg hx));
     }

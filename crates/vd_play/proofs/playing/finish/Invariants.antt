@@ -1,4 +1,4 @@
-use Rattle.std.proofs.Common.{◌≡◌, ◌+◌, ℕ, List, length}
+use Rattle.std.proofs.Common.{◌≡◌, length}
 use Rattle.vd_machine.specs.File.{Plan}
 use Rattle.vd_play.specs.Each.{EachLane, Stage, HasLanes}
 use Rattle.vd_play.specs.Journal.{queue_epochs}
@@ -13,5 +13,5 @@ invariant-loop-i g l = record {
   keeps : KeepsBench g.V.Device.party (length l.initial.floor.lanes.items) l.initial.bench l.bench;
   devices : l.bench.devices ≡ l.initial.bench.devices;
   each : (plan : Plan) → EachLane (λ q a b x. Stopped g.L.Device.DeviceEnd.device g.L.Layout.layout g.G.Guest.party g.V.Device.party plan q (length (queue_epochs plan q)) a b x) l.initial.floor.lanes.items l.initial.bench.guests.items l.initial.bench.devices.items
-    → EachLane (Stage l.i (λ q a b x. IsPlayed g.L.Device.DeviceEnd.device g.L.Layout.layout g.G.Guest.party g.V.Device.party plan q b x) (λ q a b x. Stopped g.L.Device.DeviceEnd.device g.L.Layout.layout g.G.Guest.party g.V.Device.party plan q (length (queue_epochs plan q)) a b x)) l.floor.lanes.items l.bench.guests.items l.bench.devices.items;
+      → EachLane (Stage l.i (λ q a b x. IsPlayed g.L.Device.DeviceEnd.device g.L.Layout.layout g.G.Guest.party g.V.Device.party plan q b x) (λ q a b x. Stopped g.L.Device.DeviceEnd.device g.L.Layout.layout g.G.Guest.party g.V.Device.party plan q (length (queue_epochs plan q)) a b x)) l.floor.lanes.items l.bench.guests.items l.bench.devices.items;
 }

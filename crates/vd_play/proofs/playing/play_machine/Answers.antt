@@ -1,10 +1,7 @@
-use Rattle.std.proofs.Common.{◌≡◌, ◌<◌, ◌≤◌, ◌+◌, ℕ, length, arith, sym, refl, ap, subst, ◌∙◌, map}
-use Rattle.std.proofs.lemmas.List.{length-map}
+use Rattle.std.proofs.Common.{◌≡◌, ◌+◌, ℕ, length, arith, sym, subst, ◌∙◌}
 use Rattle.vd_machine.specs.File.{view}
 use Rattle.vd_play.specs.declared.epoch.PlayFault.{PlayFault}
-use Rattle.vd_play.specs.Journal.{queue_chains, queue_epochs}
-use Rattle.vd_play.specs.Lane.{Stopped}
-use Rattle.vd_play.specs.Played.{KeepsBench, HasNoFault, IsFaultOf, IsPlayed, IsCut, AllCut, faulty}
+use Rattle.vd_play.specs.Played.{KeepsBench, IsFaultOf, IsPlayed, IsCut, AllCut, faulty}
 use Rattle.vd_play.specs.Each.{HasLanes}
 use Rattle.vd_play.proofs.Benches.{keeps_through, lanes_kept, fault_later, same_many}
 use Rattle.vd_play.proofs.Cut.{if_err_by, if_err_any}
@@ -24,7 +21,7 @@ returns-in_err-attach_all-clause-fault g c =
 pub returns-in_err-attach_all-clause-cut : goal.returns-in_err-attach_all-clause-cut
 returns-in_err-attach_all-clause-cut g c =
     if_err_any c.from_residual.result (λ (z : PlayFault). AllCut g.L.Device.DeviceEnd.device g.L.Layout.layout g.G.Guest.party g.V.Device.party (view c.args.m.now) c.attach_all.new.bench)
-      (λ z. each_queue (IsCut g.L.Device.DeviceEnd.device g.L.Layout.layout g.G.Guest.party g.V.Device.party (view c.args.m.now)) (length c.args.m.now.queues) _ _ _ (c.attach_all.ensures.many ∙ c.loop-epoch.invariant.many) c.in_err-attach_all.ensures.cut)
+    (λ z. each_queue (IsCut g.L.Device.DeviceEnd.device g.L.Layout.layout g.G.Guest.party g.V.Device.party (view c.args.m.now)) (length c.args.m.now.queues) _ _ _ (c.attach_all.ensures.many ∙ c.loop-epoch.invariant.many) c.in_err-attach_all.ensures.cut)
 
 pub run_epoch-requires-clause-parties : goal.run_epoch-requires-clause-parties
 run_epoch-requires-clause-parties g c κs within =

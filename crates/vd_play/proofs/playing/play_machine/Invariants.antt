@@ -1,4 +1,4 @@
-use Rattle.std.proofs.Common.{◌≡◌, ◌+◌, ℕ, List, length}
+use Rattle.std.proofs.Common.{◌≡◌, length}
 use Rattle.vd_machine.specs.File.{view}
 use Rattle.vd_play.specs.Each.{EachLane, HasLanes}
 use Rattle.vd_play.specs.Lane.{Stopped}

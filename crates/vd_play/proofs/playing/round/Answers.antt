@@ -1,4 +1,4 @@
-use Rattle.std.proofs.Common.{◌≡◌, ◌<◌, ℕ, length, arith, sym, refl, ◌∙◌}
+use Rattle.std.proofs.Common.{◌<◌, ℕ, length, arith, refl, ◌∙◌}
 use Rattle.std.proofs.lemmas.Option.{slice_get_read}
 use Rattle.std.proofs.lemmas.List.{length-set}
 use Rattle.std.specs.Vec.{with_item}
@@ -36,8 +36,8 @@ loop-i-preserved g c =
       keeps = keeps;
       faults = faults_set m c.args.bench.now c.loop-i.bench new i _ c.lane_round.new.device c.loop-i.invariant.faults refl hx c.lane_round.ensures.faults;
       each = λ plan k r start.
-        let e = c.loop-i.invariant.each plan k r start in
-        stage_write _ _ i _ _ _ c.lane_round.new.lane c.lane_round.new.guest c.lane_round.new.device e (c.lane_round.ensures.rounds plan i k r (stage_read _ _ i _ _ _ _ _ _ e hl hg hx));
+          let e = c.loop-i.invariant.each plan k r start in
+          stage_write _ _ i _ _ _ c.lane_round.new.lane c.lane_round.new.guest c.lane_round.new.device e (c.lane_round.ensures.rounds plan i k r (stage_read _ _ i _ _ _ _ _ _ e hl hg hx));
     }
 
 pub returns-clause-lanes : goal.returns-clause-lanes

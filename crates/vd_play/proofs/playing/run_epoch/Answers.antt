@@ -1,8 +1,6 @@
-use Rattle.std.proofs.Common.{rules, ◌≡◌, ◌<◌, ◌≤◌, ◌+◌, ◌∙◌, ℕ, length, arith, sym, ap, refl, true, is_some, subst}
-use Rattle.std.specs.List.{list_all}
+use Rattle.std.proofs.Common.{◌≡◌, ◌∙◌, ℕ, length, arith, sym, true, is_some, subst}
 use Rattle.vd_play.specs.Played.{KeepsBench}
-use Rattle.vd_play.specs.Each.{HasLanes}
-use Rattle.vd_play.proofs.Benches.{keeps_none, keeps_through, lanes_kept}
+use Rattle.vd_play.proofs.Benches.{keeps_through, lanes_kept}
 use Rattle.vd_play.proofs.Rounds.{all_at, stopped_some, stopped_late}
 use Rattle.vd_play.proofs.playing.run_epoch.Goals as goal
 
@@ -11,8 +9,8 @@ returns-then-is_still-clause-lanes g c = λ plan k start.
     let all = sym c.is_still.ensures ∙ c.if-is_still.true in
     record {
       at = λ q l b x hl hb hx.
-        let still : is_some l.still ≡ true = all_at (λ (z : _). is_some z.still) c.loop-turn.floor.lanes.items q l all hl in
-        stopped_some _ _ _ _ (g.met.V.Device g.world.𝓛 g.world.𝓜 g.world.𝓡 ((λ s x. x), (λ x. x), (λ x. x), λ x. x)).lawful _ _ _ _ _ _ _ _ still ((c.loop-turn.invariant.each plan k start).at q l b x hl hb hx);
+          let still : is_some l.still ≡ true = all_at (λ (z : _). is_some z.still) c.loop-turn.floor.lanes.items q l all hl in
+          stopped_some _ _ _ _ (g.met.V.Device g.world.𝓛 g.world.𝓜 g.world.𝓡 ((λ s x. x), (λ x. x), (λ x. x), λ x. x)).lawful _ _ _ _ _ _ _ _ still ((c.loop-turn.invariant.each plan k start).at q l b x hl hb hx);
     }
 
 pub round-requires-clause-lanes : goal.round-requires-clause-lanes

@@ -1,4 +1,4 @@
-use Rattle.std.proofs.Common.{arith, ap}
+use Rattle.std.proofs.Common.{arith}
 use Rattle.vd_models.proofs.Parties.{running_within}
 use Rattle.vd_models.proofs.device.ModelDevice.window.Goals as goal
 

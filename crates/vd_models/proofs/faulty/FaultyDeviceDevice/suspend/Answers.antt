@@ -1,5 +1,5 @@
-use Rattle.std.proofs.Common.{arith, refl, sym, ap, ◌∙◌, ◌-◌}
-use Rattle.vd_models.specs.Faulty.{asked, was_refused}
+use Rattle.std.proofs.Common.{arith}
+use Rattle.vd_models.specs.Faulty.{was_refused}
 use Rattle.vd_models.proofs.Faults.{asked_push, after_push}
 use Rattle.vd_models.proofs.faulty.FaultyDeviceDevice.suspend.Goals as goal
 
