@@ -8,7 +8,10 @@ pub mod DriverSteps
 pub mod DriverCollecting
 pub mod DriverLaws
 pub mod DeviceGiving
+pub mod Loads
+pub mod DeviceLooking
 pub mod DeviceTaking
+pub mod DeviceTaken
 pub mod DeviceLaws
 pub mod Opening
 pub mod PackedLayout

@@ -20,23 +20,10 @@ fn empty_table(alloc: Global, size: u32) -> Result<Vec<Option<u32>>, AllocError>
 }
 
 /// So many zeros.
-fn zeros(alloc: Global, count: u32) -> Result<Vec<u32>, AllocError>
+fn zeros(alloc: Global, count: usize) -> Result<Vec<u32>, AllocError>
     ensures { IfOk result (λ t. t.items ≡ replicate count 0) }
 {
-    Vec::from_elem(alloc, 0u32, count as usize)
-}
-
-/// A power of two that is `size` at least, where the size is 1,024 at most: so each low bit of a number counts.
-fn guess_count(size: u32) -> u32
-    ensures { 0 < result }
-{
-    let mut count = 2u32;
-    for _ in 0..9u32 {
-        if count < size {
-            count = count.wrapping_mul(2);
-        }
-    }
-    if count == 0 { 1 } else { count }
+    Vec::from_elem(alloc, 0u32, count)
 }
 
 impl PackedDevice {
@@ -51,8 +38,9 @@ impl PackedDevice {
         ensures idle { IfOk result (λ e. (e.doing ≡ DeviceStep.Idle) × (e.size ≡ size) × (e.features ≡ features) × (e.taken ≡ 0) × (e.given ≡ 0)) }
     {
         let running = empty_table(alloc, size)?;
-        let counts = zeros(alloc, size)?;
-        let guesses = zeros(alloc, guess_count(size))?;
+        let counts = zeros(alloc, size as usize)?;
+        // a power of two, so that each low bit of a number counts
+        let guesses = zeros(alloc, (size as usize).next_power_of_two())?;
         Ok(PackedDevice {
             size,
             features,

@@ -17,7 +17,8 @@ use Rattle.vd_packed.specs.declared.device.PackedDevice.{PackedDevice}
 use Rattle.vd_packed.specs.declared.spot.Spot.{Spot}
 use Rattle.vd_packed.specs.DeviceEnd.{DeviceStands}
 use Rattle.vd_packed.specs.DeviceGiving.{Goes, made}
-use Rattle.vd_packed.specs.DeviceTaking.{Loaded, loaded_of, address_next, address_facts, few_pieces, address_more, whole_chain, address_last}
+use Rattle.vd_packed.specs.DeviceTaken.{address_facts, address_last}
+use Rattle.vd_packed.specs.DeviceTaking.{Loaded, loaded_of, address_next, few_pieces, address_more, whole_chain}
 use Rattle.vd_packed.proofs.device.PackedDevice.address.Goals as goal
 
 -- what the load tells, over the port

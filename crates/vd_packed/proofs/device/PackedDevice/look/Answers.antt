@@ -5,7 +5,7 @@ use Rattle.vd_ring.specs.declared.act.DeviceAct.TheVariants as act
 use Rattle.vd_packed.specs.declared.device.DeviceStep.TheVariants as step
 use Rattle.vd_packed.specs.declared.device.PackedDevice.{PackedDevice}
 use Rattle.vd_packed.specs.DeviceGiving.{Goes, made}
-use Rattle.vd_packed.specs.DeviceTaking.{look_next, look_goes}
+use Rattle.vd_packed.specs.DeviceLooking.{look_next, look_goes}
 use Rattle.vd_packed.proofs.device.PackedDevice.look.Goals as goal
 
 pub returns : goal.returns
