@@ -1,11 +1,5 @@
-pub mod Says
-pub mod Carried
-pub mod Lengths
-pub mod Sent
-pub mod Served
-pub mod Events
 pub mod Lines
 pub mod Midway
-pub mod Laid
+pub mod Queues
+pub mod Prepared
 pub mod Outcome
-pub mod Queue

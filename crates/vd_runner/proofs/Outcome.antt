@@ -1,13 +1,23 @@
--- The answer that follows from the bytes of a source, where nothing fails.
-use Rattle.std.proofs.Common.{◌≡◌, ℕ, ◌<◌, ◌≤◌, List, ◌++◌, length, Option, Some, None, Bool, if◌then◌else◌, inl, inr, refl, ap, sym, ◌∙◌, arith, append-nil, length-append}
-use Rattle.std.proofs.lemmas.Bool.{lt-ltb, le-ltb}
+-- The answer that follows from the bytes of a source and from the numbers of parties, where nothing fails.
+use Rattle.std.proofs.Common.{◌≡◌, ℕ, ◌<◌, ◌≤◌, List, ◌++◌, ◌⊎◌, length, get_or, Option, Some, None, Bool, true, false, ◌&&◌, nat_le, if◌then◌else◌, inl, inr, refl, ap, sym, ◌∙◌, arith, append-nil, length-append}
+use Rattle.std.proofs.lemmas.Bool.{lt-ltb, le-ltb, le-leb, lt-leb}
+use Rattle.std.proofs.lemmas.Option.{slice_get-get_or, slice_get_cases}
 use Rattle.std.specs.Io.KnownBytes.{Consumes, IsAtEnd}
+use Rattle.std.specs.Option.{option_map_or}
 use Rattle.vd_stream.specs.Causes.{Rose}
+use Rattle.vd_layout.specs.Device.{DeviceModel}
+use Rattle.vd_layout.specs.Layout.{LayoutModel}
+use Rattle.vd_bus.specs.Device.{DeviceParty}
+use Rattle.vd_bus.specs.Guest.{GuestParty}
 use Rattle.vd_machine.specs.File.{Plan, first}
 use Rattle.vd_machine.specs.declared.machine.MachineFault.{MachineFault}
+use Rattle.vd_play.specs.declared.bench.Bench.{Bench}
 use Rattle.vd_runner.specs.declared.status.Status.{Status}
 use Rattle.vd_runner.specs.declared.status.Status.TheVariants as status
-use Rattle.vd_runner.specs.Answers.{BreaksFirst, ReadsTooMuch, ReadsMachine, RefusesToRead, expected, verdict, IsOrMemory}
+use Rattle.vd_runner.specs.Answers.{expected, verdict, need, IsOrMemory}
+use Rattle.vd_runner.specs.Outcome.{PlaysTo, IsCutOff, SomeRose}
+use Rattle.vd_runner.specs.Reading.{BreaksFirst, ReadsTooMuch, ReadsMachine, RefusesToRead}
+use Rattle.vd_runner.proofs.Prepared.{same_devices}
 
 -- a source that tells its bytes and is read to its end had the bytes that were read
 whole_is : (bytes bs : List ℕ) (rest : Option (List ℕ)) → Consumes (Some bytes) rest bs → IsAtEnd rest → bytes ≡ bs
@@ -18,30 +28,73 @@ front_is : (bytes bs : List ℕ) (rest : Option (List ℕ)) → Consumes (Some b
 front_is bytes bs None taken = absurd taken
 front_is bytes bs (Some ys) taken = omega (arith, ap length taken, length-append bs ys)
 
-small_expected : (bytes : List ℕ) → length bytes ≤ 1048576 → expected bytes ≡ verdict (first bytes)
-small_expected bytes small = ap (λ (b : Bool). if b then status.TooLarge 1048577 else verdict (first bytes)) (le-ltb 1048576 (length bytes) small)
+small_expected : (bytes : List ℕ) (n k : ℕ) → length bytes ≤ 1048576 → expected bytes n k ≡ verdict (first bytes) (need bytes) n k
+small_expected bytes n k small = ap (λ (b : Bool). if b then status.TooLarge 1048577 else verdict (first bytes) (need bytes) n k) (le-ltb 1048576 (length bytes) small)
 
-pub expects_rule : (bytes : List ℕ) (rest : Option (List ℕ)) (rule : MachineFault) → BreaksFirst (Some bytes) rest rule → expected bytes ≡ status.Machine rule
-expects_rule bytes rest rule h =
+expects_rule : (bytes : List ℕ) (n k : ℕ) (rest : Option (List ℕ)) (rule : MachineFault) → BreaksFirst (Some bytes) rest rule → expected bytes n k ≡ status.Machine rule
+expects_rule bytes n k rest rule h =
     let is : bytes ≡ h.bytes = whole_is bytes h.bytes rest h.read.taken h.read.end in
-    ap expected is ∙ small_expected h.bytes h.read.small ∙ ap verdict h.broken
+    ap (λ bs. expected bs n k) is ∙ small_expected h.bytes n k h.read.small ∙ ap (λ r. verdict r (need h.bytes) n k) h.broken
 
-pub expects_large : (bytes : List ℕ) (rest : Option (List ℕ)) → ReadsTooMuch (Some bytes) rest → expected bytes ≡ status.TooLarge 1048577
-expects_large bytes rest h =
+expects_large : (bytes : List ℕ) (n k : ℕ) (rest : Option (List ℕ)) → ReadsTooMuch (Some bytes) rest → expected bytes n k ≡ status.TooLarge 1048577
+expects_large bytes n k rest h =
     let long : 1048576 < length bytes = omega (arith, front_is bytes h.bytes rest h.taken, h.large) in
-    ap (λ (b : Bool). if b then status.TooLarge 1048577 else verdict (first bytes)) (lt-ltb 1048576 (length bytes) long)
+    ap (λ (b : Bool). if b then status.TooLarge 1048577 else verdict (first bytes) (need bytes) n k) (lt-ltb 1048576 (length bytes) long)
 
-pub expects_ok : (bytes : List ℕ) (rest : Option (List ℕ)) (plan : Plan) → ReadsMachine (Some bytes) rest plan → expected bytes ≡ status.Ok
-expects_ok bytes rest plan h =
+expects_parties : (bytes : List ℕ) (n k : ℕ) (rest : Option (List ℕ)) (plan : Plan) → ReadsMachine (Some bytes) rest plan → expected bytes n k ≡ verdict None (length plan.queues) n k
+expects_parties bytes n k rest plan h =
     let is : bytes ≡ h.bytes = whole_is bytes h.bytes rest h.read.taken h.read.end in
-    ap expected is ∙ small_expected h.bytes h.read.small ∙ ap verdict h.unbroken
+    ap (λ bs. expected bs n k) is ∙ small_expected h.bytes n k h.read.small ∙ ap (λ r. verdict r (need h.bytes) n k) h.unbroken
+    ∙ ap (λ (p : Option Plan). verdict None (option_map_or (λ (m : Plan). length m.queues) p 0) n k) h.means
 
 -- a refusal to read is the expected one, where no fault came
-pub refusal_expected : (bytes : List ℕ) (rest : Option (List ℕ)) (before now : ℕ) (s : Status) → (Rose before now → ⊥) → RefusesToRead (Some bytes) rest before now s → IsOrMemory (expected bytes) s
-refusal_expected bytes rest before now (status.Machine rule) calm h = inl (sym (expects_rule bytes rest rule h))
-refusal_expected bytes rest before now (status.TooLarge n) calm h = inl (ap status.TooLarge h.0 ∙ sym (expects_large bytes rest h.1))
-refusal_expected bytes rest before now status.ReadFault calm h = absurd (calm h)
-refusal_expected bytes rest before now status.Memory calm h = inr refl
-refusal_expected bytes rest before now status.Ok calm h = absurd h
-refusal_expected bytes rest before now status.Usage calm h = absurd h
-refusal_expected bytes rest before now status.WriteFault calm h = absurd h
+pub refusal_expected : (bytes : List ℕ) (n k : ℕ) (rest : Option (List ℕ)) (before now : ℕ) (s : Status) → (Rose before now → ⊥) → RefusesToRead (Some bytes) rest before now s → IsOrMemory (expected bytes n k) s
+refusal_expected bytes n k rest before now (status.Machine rule) calm h = inl (sym (expects_rule bytes n k rest rule h))
+refusal_expected bytes n k rest before now (status.TooLarge m) calm h = inl (ap status.TooLarge h.0 ∙ sym (expects_large bytes n k rest h.1))
+refusal_expected bytes n k rest before now status.ReadFault calm h = absurd (calm h)
+refusal_expected bytes n k rest before now status.Memory calm h = inr refl
+refusal_expected bytes n k rest before now status.Ok calm h = absurd h
+refusal_expected bytes n k rest before now status.Usage calm h = absurd h
+refusal_expected bytes n k rest before now status.WriteFault calm h = absurd h
+refusal_expected bytes n k rest before now (status.DeviceFault q) calm h = absurd h
+refusal_expected bytes n k rest before now (status.TooFewParties a b c) calm h = absurd h
+
+enough : (q n k : ℕ) → q ≤ n → q ≤ k → verdict None q n k ≡ status.Ok
+enough q n k h i = ap (λ (b : Bool). if b && nat_le q k then status.Ok else status.TooFewParties q n k) (le-leb q n h) ∙ ap (λ (b : Bool). if b then status.Ok else status.TooFewParties q n k) (le-leb q k i)
+
+no_other : (b : Bool) → (b && false) ≡ false
+no_other true = refl
+no_other false = refl
+
+-- fewer of the one or of the other
+too_few : (q n k : ℕ) → (n < q) ⊎ (k < q) → verdict None q n k ≡ status.TooFewParties q n k
+too_few q n k (inl h) = ap (λ (b : Bool). if b && nat_le q k then status.Ok else status.TooFewParties q n k) (lt-leb q n h)
+too_few q n k (inr h) = ap (λ (b : Bool). if nat_le q n && b then status.Ok else status.TooFewParties q n k) (lt-leb q k h) ∙ ap (λ (b : Bool). if b then status.Ok else status.TooFewParties q n k) (no_other (nat_le q n))
+
+-- a cut shows whose count rose
+cut_rose : {E G X C : Type 0} (e : DeviceModel E) (l : LayoutModel) (g : GuestParty G) (m : DeviceParty X C) (plan : Plan) (q : ℕ) (old new : Bench G X) → IsCutOff e l g m plan q old new → SomeRose m old new
+cut_rose e l g m plan q old new h = elim (slice_get_cases old.devices.items q).1 [
+  | inl (x, below, at, is) ↦
+      let there = slice_get-get_or new.devices.items q x (omega (arith, below, same_devices m (length plan.queues) old new h.keeps)) in
+      record { queue = q; before = x; after = get_or new.devices.items q x; was = at; is = there; rose = h.fault.rose x (get_or new.devices.items q x) at there }
+  | inr (past, _) ↦ absurd (none past)
+]
+  where
+    none : length old.devices.items ≤ q → ⊥
+    none past = omega (arith, past, h.fault.queue, h.parties.devices)
+
+-- what the play of a machine comes to is the expected answer, where no count rose
+pub play_expected : {E G X C : Type 0} (e : DeviceModel E) (l : LayoutModel) (g : GuestParty G) (m : DeviceParty X C) (bytes : List ℕ) (rest : Option (List ℕ)) (plan : Plan) (brief : Bool) (old new : Bench G X) (held now : Option (List ℕ)) (before after : ℕ) (s : Status) → (Rose before after → ⊥) → (SomeRose m old new → ⊥) → ReadsMachine (Some bytes) rest plan → PlaysTo e l g m plan brief old new held now before after s → IsOrMemory (expected bytes (length old.guests.items) (length old.devices.items)) s
+play_expected e l g m bytes rest plan brief old new held now before after status.Ok calm still h p =
+    inl (sym (expects_parties bytes (length old.guests.items) (length old.devices.items) rest plan h ∙ enough (length plan.queues) (length old.guests.items) (length old.devices.items) p.0.parties.guests p.0.parties.devices))
+play_expected e l g m bytes rest plan brief old new held now before after status.WriteFault calm still h p = absurd (calm p.2)
+play_expected e l g m bytes rest plan brief old new held now before after (status.DeviceFault q) calm still h p = absurd (still (cut_rose e l g m plan q old new p.0))
+play_expected e l g m bytes rest plan brief old new held now before after (status.TooFewParties q n k) calm still h p =
+    let t = p.0 in
+    inl (ap (λ i. status.TooFewParties i n k) t.need_is ∙ ap (λ i. status.TooFewParties (length plan.queues) i k) t.guests_are ∙ ap (λ i. status.TooFewParties (length plan.queues) (length old.guests.items) i) t.devices_are
+    ∙ sym (expects_parties bytes (length old.guests.items) (length old.devices.items) rest plan h ∙ too_few (length plan.queues) (length old.guests.items) (length old.devices.items) (rw (t.need_is, t.guests_are, t.devices_are) at t.few)))
+play_expected e l g m bytes rest plan brief old new held now before after status.Memory calm still h p = inr refl
+play_expected e l g m bytes rest plan brief old new held now before after status.Usage calm still h p = absurd p
+play_expected e l g m bytes rest plan brief old new held now before after (status.Machine rule) calm still h p = absurd p
+play_expected e l g m bytes rest plan brief old new held now before after status.ReadFault calm still h p = absurd p
+play_expected e l g m bytes rest plan brief old new held now before after (status.TooLarge n) calm still h p = absurd p

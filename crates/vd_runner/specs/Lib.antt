@@ -1,7 +1,5 @@
-pub mod Lane
-pub mod Journal
-pub mod Bench
-pub mod Floor
 pub mod Report
 pub mod Command
+pub mod Reading
+pub mod Outcome
 pub mod Answers

@@ -1,20 +1,21 @@
-//! The whole of a command: words, a source, a sink and a bench.
+//! The whole of a command: words, a source, a sink and the parties of a bench.
 #![tactic(auto)]
 
-mod bench;
 mod command;
-mod floor;
-mod lane;
+mod epochs;
+#[cfg(test)]
+mod journal_tests;
 mod line;
-mod order;
-mod play;
-mod serve;
+mod playing;
+mod read;
+mod reporting;
 mod status;
 #[cfg(test)]
 mod tests;
 mod top;
 mod writing;
 
-pub use bench::{FirstBench, FirstEvent};
+pub use reporting::report;
 pub use status::Status;
 pub use top::vdpa;
+pub use vd_play::{Bench, Floor, PlayFault, play_machine, prepare};

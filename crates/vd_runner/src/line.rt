@@ -1,10 +1,11 @@
 //! The lines of the report, each made on the stack.
 ghost use Rattle.std.specs.Prelude.{◌≡◌, ◌+◌, ◌≤◌, ◌++◌, length, decimal};
 ghost use Rattle.arrayvec.specs.ArrayString.{array_string_len};
-ghost use Rattle.vd_runner.specs.Report.{queue_line, chain_line, epoch_line, drained_line};
+ghost use Rattle.vd_runner.specs.Report.{queue_line, chain_line, epoch_line, drained_line, mode_word};
 
 use arrayvec::ArrayString;
 use itoa::Buffer;
+use vd_model::Mode;
 
 /// A line of at most 120 bytes.
 pub type Line = ArrayString<120>;
@@ -58,17 +59,30 @@ pub fn chain_line(queue: u64, chain: u64, len: u32) -> Line
     line
 }
 
+fn push_mode(line: &mut Line, mode: Mode)
+    requires { array_string_len line.old + 6 ≤ 120 }
+    ensures bytes { line.new.bytes ≡ line.old.bytes ++ mode_word mode }
+    ensures len { array_string_len line.new ≤ array_string_len line.old + 6 }
+{
+    match mode {
+        Mode::Pass => push_text(line, "pass"),
+        Mode::Shadow => push_text(line, "shadow"),
+    }
+}
+
 /// An epoch of a queue, with its first chain and the one after its last.
 #[tactic(auto, unfolding(crate::specs::Report::epoch_line))]
-pub fn epoch_line(queue: u64, epoch: u64, from: u64, to: u64) -> Line
-    ensures { result.bytes ≡ epoch_line queue epoch from to }
+pub fn epoch_line(queue: u64, epoch: u64, mode: Mode, from: u64, to: u64) -> Line
+    ensures { result.bytes ≡ epoch_line queue epoch mode from to }
 {
     let mut line = Line::new();
     push_text(&mut line, "epoch ");
     push_number(&mut line, queue);
     push_text(&mut line, " ");
     push_number(&mut line, epoch);
-    push_text(&mut line, " pass ");
+    push_text(&mut line, " ");
+    push_mode(&mut line, mode);
+    push_text(&mut line, " ");
     push_number(&mut line, from);
     push_text(&mut line, " ");
     push_number(&mut line, to);

@@ -1,11 +1,14 @@
-ghost use Rattle.std.specs.Prelude.{Some};
-ghost use Rattle.vd_runner.specs.Bench.{IsEmpty};
+//! How commands end, and what they write.
+ghost use Rattle.std.specs.Prelude.{IfOk, Some};
+ghost use Rattle.vd_play.specs.Prepared.{IsEmptyBench, IsEmptyDevice};
 
 use super::*;
 use std::alloc::{AllocError, Global};
 use std::test::*;
+use vd_bus::{Device, Guest};
 use vd_machine::MachineFault;
-use vd_model::Base;
+use vd_models::{FaultyDevice, ModelDevice, ModelGuest};
+use vd_split::Split;
 use vd_stream::{Failed, MemorySink, MemorySource, Sink, Source};
 
 const FILE: &str =
@@ -13,22 +16,28 @@ const FILE: &str =
 
 const REPORT: &str = "queue 0 chains 1 bytes 10\nchain 0 0 10\nepoch 0 0 pass 0 1\ndrained 1\n";
 
-fn empty_bench(alloc: Global) -> FirstBench
-    ensures { IsEmpty result }
+/// A bench of one guest and one device.
+pub fn bench_of<V: Device<Split>>(
+    alloc: Global,
+    device: V,
+) -> Result<Bench<ModelGuest<Split>, V>, AllocError>
+    requires { IsEmptyDevice V.party device }
+    ensures { IfOk result (λ b. IsEmptyBench ⟦<ModelGuest<Split> as Guest<Split>>⟧.party V.party b) }
 {
-    FirstBench {
-        events: Vec::new(alloc),
-        begun: Vec::new(alloc),
-        returned: Vec::new(alloc),
-    }
+    let mut guests = Vec::new(alloc);
+    guests.push(ModelGuest::new(alloc))?;
+    let mut devices = Vec::new(alloc);
+    devices.push(device)?;
+    Ok(Bench { guests, devices })
 }
 
-/// How a command ended, whether the sink holds what it should, and how many events stand on the bench.
+/// How a command ended, whether the sink holds what it should, and how many events and returns there are.
 #[derive(Drop)]
 struct Ending {
     status: Status,
     held: bool,
     events: usize,
+    returned: usize,
 }
 
 fn run_on(
@@ -41,17 +50,71 @@ fn run_on(
 ) -> Result<Ending, AllocError> {
     let mut source = MemorySource::new(alloc, bytes, takes)?;
     let mut sink = MemorySink::new(alloc, 200, puts)?;
-    let mut bench = empty_bench(alloc);
+    let mut bench = bench_of(alloc, ModelDevice::new(alloc, 1))?;
     let status = vdpa(alloc, words, &mut source, &mut sink, &mut bench);
     Ok(Ending {
         status,
         held: sink.held() == held,
-        events: bench.events.len(),
+        events: bench.devices[0].journal().events.len(),
+        returned: bench.guests[0].returned().len(),
     })
+}
+
+#[test]
+fn each_answer_comes_with_its_state(rt: HostRuntime) -> Result<(), Fail> {
+    let alloc = rt.alloc();
+    let file = FILE.as_bytes();
+    let report = REPORT.as_bytes();
+    let play: &[&str] = &["play"];
+    let most: &[&str] = &["play", "--seed", "18446744073709551616"];
+    let no_text = Status::Machine(MachineFault::M1);
+    let no_keys = Status::Machine(MachineFault::M3);
+    let cases: [(&[&str], &[u8], &[u32], &[u32], Status, &[u8], usize); 14] = [
+        (play, file, &[], &[], Status::Ok, report, 4),
+        (&[], file, &[], &[], Status::Usage, b"", 0),
+        (&["play", "play"], file, &[], &[], Status::Usage, b"", 0),
+        (&["play", "run"], file, &[], &[], Status::Usage, b"", 0),
+        (&["play", "--seed"], file, &[], &[], Status::Usage, b"", 0),
+        (&["make"], file, &[], &[], Status::Usage, b"", 0),
+        (
+            &["run", "--seed", "1"],
+            file,
+            &[],
+            &[],
+            Status::Usage,
+            b"",
+            0,
+        ),
+        (most, file, &[], &[], Status::Usage, b"", 0),
+        (play, b"layout = ", &[], &[], no_text, b"", 0),
+        (play, b"layout = \"split\xff\"", &[], &[], no_text, b"", 0),
+        (play, b"", &[], &[], no_keys, b"", 0),
+        (play, file, &[1], &[], Status::ReadFault, b"", 0),
+        (play, file, &[2], &[], Status::ReadFault, b"", 0),
+        (play, file, &[], &[3], Status::WriteFault, &report[..39], 4),
+    ];
+    for (words, bytes, takes, puts, status, held, events) in &cases {
+        let found = run_on(alloc, words, bytes, takes, puts, held)?;
+        assert!(rt; found.status == *status);
+        assert!(rt; found.held);
+        assert_eq!(rt; found.events, *events);
+        assert_eq!(rt; found.returned, *events / 4);
+    }
+    Ok(())
 }
 
 fn spaces(alloc: Global, count: u32) -> Result<Vec<u8>, AllocError> {
     Vec::from_elem(alloc, b' ', count as usize)
+}
+
+#[test]
+fn a_file_of_1048577_bytes_is_too_large(rt: HostRuntime) -> Result<(), Fail> {
+    let alloc = rt.alloc();
+    let found = run_on(alloc, &["play"], &spaces(alloc, 1_048_577)?, &[], &[], b"")?;
+    assert!(rt; found.status == Status::TooLarge(1_048_577));
+    let found = run_on(alloc, &["play"], &spaces(alloc, 1_048_576)?, &[], &[], b"")?;
+    assert!(rt; found.status == Status::Machine(MachineFault::M3));
+    Ok(())
 }
 
 /// A file of one queue, with its size and what its queue offers.
@@ -66,54 +129,17 @@ fn file(alloc: Global, size: &str, queues: &str) -> Result<String, AllocError> {
 }
 
 #[test]
-fn each_answer_comes_with_its_state(rt: HostRuntime) -> Result<(), Fail> {
-    let alloc = rt.alloc();
-    let file = FILE.as_bytes();
-    let report = REPORT.as_bytes();
-    let play: &[&str] = &["play"];
-    let no_text = Status::Machine(MachineFault::M1);
-    let cases: [(&[&str], &[u8], &[u32], &[u32], Status, &[u8], usize); 11] = [
-        (play, file, &[], &[], Status::Ok, report, 4),
-        (&[], file, &[], &[], Status::Usage, b"", 0),
-        (&["play", "play"], file, &[], &[], Status::Usage, b"", 0),
-        (&["play", "--seed"], file, &[], &[], Status::Usage, b"", 0),
-        (&["make"], file, &[], &[], Status::Usage, b"", 0),
-        (play, b"layout = ", &[], &[], no_text, b"", 0),
-        (
-            play,
-            b"",
-            &[],
-            &[],
-            Status::Machine(MachineFault::M3),
-            b"",
-            0,
-        ),
-        (play, b"layout = \"split\xff\"", &[], &[], no_text, b"", 0),
-        (play, file, &[1], &[], Status::ReadFault, b"", 0),
-        (play, file, &[2], &[], Status::ReadFault, b"", 0),
-        (play, file, &[], &[3], Status::WriteFault, &report[..39], 4),
-    ];
-    for (words, bytes, takes, puts, status, held, events) in &cases {
-        let found = run_on(alloc, words, bytes, takes, puts, held)?;
-        assert!(rt; found.status == *status);
-        assert!(rt; found.held);
-        assert_eq!(rt; found.events, *events);
-    }
-    Ok(())
-}
-
-#[test]
 fn a_file_is_played_or_refused_by_its_first_broken_rule(rt: HostRuntime) -> Result<(), Fail> {
     let alloc = rt.alloc();
     let none = "queue 0 chains 0 bytes 0\nepoch 0 0 pass 0 0\ndrained 0\n";
-    let two =
+    let three =
         "queue 0 chains 3 bytes 30\nchain 0 0 10\nchain 0 1 10\nchain 0 2 10\nepoch 0 0 pass 0 3\ndrained 3\n";
     let mixed =
         "queue 0 chains 2 bytes 1\nchain 0 0 0\nchain 0 1 1\nepoch 0 0 pass 0 2\ndrained 2\n";
     let wrong = |rule| (Status::Machine(rule), "");
-    let cases: [(&str, &str, (Status, &str)); 13] = [
+    let cases: [(&str, &str, (Status, &str)); 18] = [
         ("4", "[[]]", (Status::Ok, none)),
-        ("2", "[[\"3*r4096+10 w8192+64\"]]", (Status::Ok, two)),
+        ("2", "[[\"3*r4096+10 w8192+64\"]]", (Status::Ok, three)),
         (
             "2",
             "[[\"r4096+10\", \"r4096+1 w8192+64\"]]",
@@ -121,9 +147,12 @@ fn a_file_is_played_or_refused_by_its_first_broken_rule(rt: HostRuntime) -> Resu
         ),
         ("", "[[]]", wrong(MachineFault::M1)),
         ("4", "[[]]\ncolour = 1", wrong(MachineFault::M2)),
+        ("4", "[[]]\ncommands = []", wrong(MachineFault::M2)),
         ("\"4\"", "[[]]", wrong(MachineFault::M4)),
         ("3", "[[]]", wrong(MachineFault::M6)),
         ("2048", "[[]]", wrong(MachineFault::M6)),
+        ("4", "[[]]\nfeatures = [\"fast\"]", wrong(MachineFault::M7)),
+        ("4", "[[]]\nwindow = 0", wrong(MachineFault::M8)),
         ("4", "[[\"w8192+64 r4096+10\"]]", wrong(MachineFault::M10)),
         (
             "2",
@@ -132,6 +161,8 @@ fn a_file_is_played_or_refused_by_its_first_broken_rule(rt: HostRuntime) -> Resu
         ),
         ("4", "[[\"r12287+2\"]]", wrong(MachineFault::M12)),
         ("4", "[]", wrong(MachineFault::M13)),
+        ("4", "[[], []]", wrong(MachineFault::M13)),
+        ("4", "[[\"200001*r4096+1\"]]", wrong(MachineFault::M13)),
         ("3", "[[\"r12287+2\"], []]", wrong(MachineFault::M6)),
     ];
     for (size, queues, (status, held)) in &cases {
@@ -144,12 +175,46 @@ fn a_file_is_played_or_refused_by_its_first_broken_rule(rt: HostRuntime) -> Resu
 }
 
 #[test]
-fn a_file_of_1048577_bytes_is_too_large(rt: HostRuntime) -> Result<(), Fail> {
+fn a_bench_without_a_device_is_left_as_it_is(rt: HostRuntime) -> Result<(), Fail> {
     let alloc = rt.alloc();
-    let found = run_on(alloc, &["play"], &spaces(alloc, 1_048_577)?, &[], &[], b"")?;
-    assert!(rt; found.status == Status::TooLarge(1_048_577));
-    let found = run_on(alloc, &["play"], &spaces(alloc, 1_048_576)?, &[], &[], b"")?;
-    assert!(rt; found.status == Status::Machine(MachineFault::M3));
+    let mut source = MemorySource::new(alloc, FILE.as_bytes(), &[])?;
+    let mut sink = MemorySink::new(alloc, 200, &[])?;
+    let mut guests = Vec::new(alloc);
+    guests.push(ModelGuest::new(alloc))?;
+    let devices: Vec<ModelDevice<Split>> = Vec::new(alloc);
+    let mut bench = Bench { guests, devices };
+    let status = vdpa(alloc, &["play"], &mut source, &mut sink, &mut bench);
+    let few = Status::TooFewParties {
+        need: 1,
+        guests: 1,
+        devices: 0,
+    };
+    assert!(rt; status == few);
+    assert!(rt; sink.held().is_empty());
+    assert_eq!(rt; bench.guests[0].offered(), 0);
+    Ok(())
+}
+
+#[test]
+fn a_refused_attach_is_the_fault_of_its_queue(rt: HostRuntime) -> Result<(), Fail> {
+    let alloc = rt.alloc();
+    let cases: [(u32, Status, usize, usize); 3] = [
+        (1, Status::DeviceFault(0), 0, 0),
+        (2, Status::DeviceFault(0), 2, 1),
+        (3, Status::Ok, 4, 1),
+    ];
+    for (fails, wanted, events, begun) in &cases {
+        let mut source = MemorySource::new(alloc, FILE.as_bytes(), &[])?;
+        let mut sink = MemorySink::new(alloc, 200, &[])?;
+        let device = FaultyDevice::new(ModelDevice::new(alloc, 1), *fails);
+        let mut bench = bench_of(alloc, device)?;
+        let status = vdpa(alloc, &["play"], &mut source, &mut sink, &mut bench);
+        assert!(rt; status == *wanted);
+        assert_eq!(rt; sink.held().is_empty(), status != Status::Ok);
+        let journal = bench.devices[0].journal();
+        assert_eq!(rt; journal.events.len(), *events);
+        assert_eq!(rt; journal.begun.len(), *begun);
+    }
     Ok(())
 }
 
@@ -194,44 +259,9 @@ fn a_byte_a_call_serves(rt: HostRuntime) -> Result<(), Fail> {
     let mut sink = Narrow {
         inner: MemorySink::new(alloc, 200, &[])?,
     };
-    let mut bench = empty_bench(alloc);
+    let mut bench = bench_of(alloc, ModelDevice::new(alloc, 1))?;
     let status = vdpa(alloc, &["play"], &mut source, &mut sink, &mut bench);
     assert!(rt; status == Status::Ok);
     assert!(rt; sink.inner.held() == REPORT.as_bytes());
-    assert_eq!(rt; bench.begun.len(), 1);
-    let pieces = bench.begun[0].chain.pieces();
-    assert_eq!(rt; pieces.len(), 2);
-    assert!(rt; pieces[0].addr == 4096 && pieces[1].addr == 8192);
-    assert_eq!(rt; bench.begun[0].len, 10);
-    assert_eq!(rt; bench.returned.len(), 1);
-    assert!(rt; bench.returned[0].number == 0 && bench.returned[0].len == 10);
-    Ok(())
-}
-
-#[test]
-fn bases_wrap_at_65536(rt: HostRuntime) -> Result<(), Fail> {
-    let alloc = rt.alloc();
-    let text = file(alloc, "4", "[[\"70000*r4096+10 w8192+64\"]]")?;
-    let mut source = MemorySource::new(alloc, text.as_bytes(), &[])?;
-    let mut sink = MemorySink::new(alloc, 2_000_000, &[])?;
-    let mut bench = empty_bench(alloc);
-    let status = vdpa(alloc, &["play"], &mut source, &mut sink, &mut bench);
-    assert!(rt; status == Status::Ok);
-    let base = Base(4464);
-    let at = 70_000;
-    let first = Base(0);
-    let events = [
-        FirstEvent::Attach {
-            at: 0,
-            ring: 0,
-            base: first,
-        },
-        FirstEvent::Suspend { at, base },
-        FirstEvent::Attach { at, ring: 0, base },
-        FirstEvent::Suspend { at, base },
-    ];
-    assert!(rt; bench.events.as_slice() == &events[..]);
-    assert_eq!(rt; bench.returned.len(), 70_000);
-    assert_eq!(rt; bench.returned[69_999].number, 69_999);
     Ok(())
 }

@@ -1,47 +1,65 @@
 //! The top call.
-ghost use Rattle.std.specs.Prelude.{◌≡◌, ℕ, List, Some, true, false, map};
+ghost use Rattle.std.specs.Prelude.{◌≡◌, ℕ, List, Some, true, false, length, map};
+ghost use Rattle.std.specs.Io.KnownBytes.{Appends};
 ghost use Rattle.vd_machine.specs.declared.machine.MachineFault.{MachineFault};
 ghost use Rattle.vd_stream.specs.Causes.{Rose};
-ghost use Rattle.vd_runner.specs.Bench.{IsEmpty};
+ghost use Rattle.vd_stream.specs.Sinks.{AppendsFront};
+ghost use Rattle.vd_split.specs.DeviceEnd.{split_device};
+ghost use Rattle.vd_split.specs.SplitLayout.{split_layout};
+ghost use Rattle.vd_play.specs.Prepared.{IsEmptyBench, IsUntouched};
+ghost use Rattle.vd_runner.specs.Answers.{has_written, has_played, has_prepared, expected, IsOrMemory};
 ghost use Rattle.vd_runner.specs.Command.{is_play};
-ghost use Rattle.vd_runner.specs.Answers.{BreaksFirst, ReadsTooMuch, EndsWell, BreaksOff, has_played, expected, IsOrMemory};
+ghost use Rattle.vd_runner.specs.Outcome.{IsWellPlayed, IsCutOff, HasTooFew, SomeRose};
+ghost use Rattle.vd_runner.specs.Reading.{BreaksFirst, ReadsTooMuch, OfMachine};
+ghost use Rattle.vd_runner.specs.Report.{report, all_lens};
 
-use crate::bench::FirstBench;
 use crate::command::is_play;
-use crate::floor::prepare;
-use crate::order::{count_of, read_machine, runs_of};
-use crate::play::play;
+use crate::playing::play_on;
+use crate::read::read_machine;
 use crate::status::Status;
-use crate::writing::report;
 use std::alloc::Global;
-use vd_stream::{Failed, Sink, Source};
+use vd_bus::{Device, Guest};
+use vd_play::Bench;
+use vd_split::Split;
+use vd_stream::{Sink, Source};
 
-/// The whole of a command: reads a machine file from the source, plays it and writes the report to the sink. The bench
-/// holds what the device began and what the guest got back.
-pub fn vdpa<S: Source, K: Sink>(
+/// The whole of a command: reads a machine file from the source, plays it with the parties of the bench, and writes the
+/// report to the sink. All memory is taken before the first step of a ring.
+pub fn vdpa<S: Source, K: Sink, GS: Guest<Split>, VS: Device<Split>>(
     alloc: Global,
     words: &[&str],
     source: &mut S,
     sink: &mut K,
-    bench: &mut FirstBench,
+    split: &mut Bench<GS, VS>,
 ) -> Status
-    requires { IsEmpty bench.old }
+    requires { IsEmptyBench GS.party VS.party split.old }
     // Exactly where the words mean no command, and then nothing is read.
     ensures usage { result ≡ Status.Usage → (is_play (map (λ w. w.now) words.now) ≡ false) × (S.left source.new ≡ S.left source.old) }
     ensures no_command { is_play (map (λ w. w.now) words.now) ≡ false → result ≡ Status.Usage }
     // The first rule that the bytes read to the end break.
     ensures machine { (rule : MachineFault) → result ≡ Status.Machine rule → BreaksFirst (S.left source.old) (S.left source.new) rule }
     ensures large { (n : ℕ) → result ≡ Status.TooLarge n → (n ≡ 1048577) × ReadsTooMuch (S.left source.old) (S.left source.new) }
-    // Faults come only where the count of the source or the sink rose in this call.
+    // The machine has more queues than the bench has guests or devices.
+    ensures few { (need : ℕ) (guests : ℕ) (devices : ℕ) → result ≡ Status.TooFewParties need guests devices → OfMachine (S.left source.old) (S.left source.new) (λ plan. HasTooFew plan need guests devices split.old) }
+    // Faults come only where the count of the source, the sink or the device rose in this call.
     ensures read_fault { result ≡ Status.ReadFault → Rose (S.faults source.old) (S.faults source.new) }
     ensures write_fault { result ≡ Status.WriteFault → Rose (K.faults sink.old) (K.faults sink.new) }
+    ensures device_fault { (q : ℕ) → result ≡ Status.DeviceFault q → OfMachine (S.left source.old) (S.left source.new) (λ plan. IsCutOff split_device split_layout GS.party VS.party plan q split.old split.new) }
     // What was played and written.
-    ensures done { result ≡ Status.Ok → EndsWell (S.left source.old) (S.left source.new) (K.held sink.old) (K.held sink.new) bench.new }
-    ensures part { result ≡ Status.WriteFault → BreaksOff (S.left source.old) (S.left source.new) (K.held sink.old) (K.held sink.new) bench.new }
-    ensures nothing { has_played result ≡ false → (K.held sink.new ≡ K.held sink.old) × IsEmpty bench.new }
-    // Where the words mean a command and no count rose, the answer follows from the bytes.
+    ensures done { result ≡ Status.Ok → OfMachine (S.left source.old) (S.left source.new) (λ plan. IsWellPlayed split_device split_layout GS.party VS.party plan split.old split.new
+        × Appends (K.held sink.old) (K.held sink.new) (report plan false (all_lens VS.party plan split.new))) }
+    ensures part { result ≡ Status.WriteFault → OfMachine (S.left source.old) (S.left source.new) (λ plan. IsWellPlayed split_device split_layout GS.party VS.party plan split.old split.new
+        × AppendsFront (K.held sink.old) (K.held sink.new) (report plan false (all_lens VS.party plan split.new))) }
+    // What every other answer leaves.
+    ensures unwritten { has_written result ≡ false → K.held sink.new ≡ K.held sink.old }
+    ensures nothing { has_played result ≡ false → IsUntouched GS.party VS.party split.old split.new }
+    ensures same { has_prepared result ≡ false → split.new ≡ split.old }
+    // No device is moved, nor loses what it carries.
+    ensures carried { map VS.party.carried split.new.devices.items ≡ map VS.party.carried split.old.devices.items }
+    // Where the words mean a command and no count rose, the answer follows from the bytes and the numbers of parties.
     ensures complete { (bytes : List ℕ) → S.left source.old ≡ Some bytes → is_play (map (λ w. w.now) words.now) ≡ true
-        → ¬ (Rose (S.faults source.old) (S.faults source.new)) → ¬ (Rose (K.faults sink.old) (K.faults sink.new)) → IsOrMemory (expected bytes) result }
+        → ¬ (Rose (S.faults source.old) (S.faults source.new)) → ¬ (Rose (K.faults sink.old) (K.faults sink.new)) → ¬ (SomeRose VS.party split.old split.new)
+        → IsOrMemory (expected bytes (length split.old.guests.items) (length split.old.devices.items)) result }
 {
     if !is_play(words) {
         return Status::Usage;
@@ -50,13 +68,5 @@ pub fn vdpa<S: Source, K: Sink>(
         Ok(machine) => machine,
         Err(status) => return status,
     };
-    let runs = runs_of(&machine);
-    let Ok(mut floor) = prepare(alloc, machine.size, machine.features, count_of(runs), bench) else {
-        return Status::Memory;
-    };
-    play(&mut floor, runs, bench);
-    match report(&bench.begun, sink) {
-        Ok(()) => Status::Ok,
-        Err(Failed) => Status::WriteFault,
-    }
+    play_on::<Split, K, GS, VS>(alloc, &machine, false, split, sink)
 }

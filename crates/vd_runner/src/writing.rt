@@ -1,22 +1,28 @@
-//! Writing the report, a line at a time.
-ghost use Rattle.std.specs.Prelude.{◌≡◌, ◌≤◌, length, map, sum, OnOk, OnErr};
+//! Writing the parts of a queue's report, a line at a time.
+ghost use Rattle.std.specs.Prelude.{◌≡◌, ◌<◌, ◌^◌, [], length, sum, OnOk, OnErr, if◌then◌else◌};
 ghost use Rattle.std.specs.Io.KnownBytes.{Appends};
+ghost use Rattle.vd_bus.specs.Device.{lens_of};
 ghost use Rattle.vd_stream.specs.Causes.{HasCause};
 ghost use Rattle.vd_stream.specs.Sinks.{AppendsFront};
-ghost use Rattle.vd_runner.specs.Report.{len_of, chain_lines, queue_lines, report};
+ghost use Rattle.vd_machine.specs.File.{view};
+ghost use Rattle.vd_runner.specs.Report.{chain_lines, queue_lines};
 
-use crate::line::{Line, chain_line, drained_line, epoch_line, queue_line};
+use crate::epochs::put_epochs;
+use crate::line::{Line, chain_line, queue_line};
+use vd_bus::Journal;
+use vd_machine::Machine;
 use vd_model::Begun;
 use vd_stream::{Failed, Sink, put_all};
 
 fn sum_of(begun: &[Begun]) -> u64
-    requires { length begun.now ≤ 200000 }
-    ensures { result ≡ sum (map len_of begun.now) }
+    requires { length begun.now < 2 ^ 32 }
+    ensures { result ≡ sum (lens_of begun.now) }
 {
     begun.iter().map(|entry| entry.len as u64).sum()
 }
 
-fn put_line<K: Sink>(line: Line, sink: &mut K) -> Result<(), Failed>
+/// Writes one line.
+pub fn put_line<K: Sink>(line: Line, sink: &mut K) -> Result<(), Failed>
     ensures ok { OnOk result (Appends (K.held sink.old) (K.held sink.new) line.bytes) }
     ensures err { OnErr result (AppendsFront (K.held sink.old) (K.held sink.new) line.bytes) }
     ensures cause { HasCause (K.faults sink.old) (K.faults sink.new) result }
@@ -25,8 +31,8 @@ fn put_line<K: Sink>(line: Line, sink: &mut K) -> Result<(), Failed>
 }
 
 fn put_chains<K: Sink>(queue: u64, begun: &[Begun], sink: &mut K) -> Result<(), Failed>
-    ensures ok { OnOk result (Appends (K.held sink.old) (K.held sink.new) (chain_lines queue 0 (map len_of begun.now))) }
-    ensures err { OnErr result (AppendsFront (K.held sink.old) (K.held sink.new) (chain_lines queue 0 (map len_of begun.now))) }
+    ensures ok { OnOk result (Appends (K.held sink.old) (K.held sink.new) (chain_lines queue 0 (lens_of begun.now))) }
+    ensures err { OnErr result (AppendsFront (K.held sink.old) (K.held sink.new) (chain_lines queue 0 (lens_of begun.now))) }
     ensures cause { HasCause (K.faults sink.old) (K.faults sink.new) result }
 {
     for chain in 0..begun.len() {
@@ -38,40 +44,46 @@ fn put_chains<K: Sink>(queue: u64, begun: &[Begun], sink: &mut K) -> Result<(), 
     Ok(())
 }
 
-fn put_queue<K: Sink>(queue: u64, begun: &[Begun], sink: &mut K) -> Result<(), Failed>
-    requires { length begun.now ≤ 200000 }
-    ensures ok { OnOk result (Appends (K.held sink.old) (K.held sink.new) (queue_lines queue (map len_of begun.now))) }
-    ensures err { OnErr result (AppendsFront (K.held sink.old) (K.held sink.new) (queue_lines queue (map len_of begun.now))) }
+/// Writes a line for each chain, unless the report is brief.
+fn put_if_long<K: Sink>(
+    brief: bool,
+    queue: u64,
+    begun: &[Begun],
+    sink: &mut K,
+) -> Result<(), Failed>
+    ensures ok { OnOk result (Appends (K.held sink.old) (K.held sink.new) (if brief then [] else chain_lines queue 0 (lens_of begun.now))) }
+    ensures err { OnErr result (AppendsFront (K.held sink.old) (K.held sink.new) (if brief then [] else chain_lines queue 0 (lens_of begun.now))) }
     ensures cause { HasCause (K.faults sink.old) (K.faults sink.new) result }
 {
-    let count = begun.len() as u64;
+    if brief {
+        return Ok(());
+    }
+    put_chains(queue, begun, sink)
+}
+
+/// Writes what the report says of one queue, by the lengths in its device's journal.
+pub fn put_queue<K: Sink>(
+    m: &Machine,
+    brief: bool,
+    queue: u64,
+    journal: &Journal,
+    sink: &mut K,
+) -> Result<(), Failed>
+    ensures ok { OnOk result (Appends (K.held sink.old) (K.held sink.new) (queue_lines (view m.now) brief queue (lens_of journal.now.begun.items))) }
+    ensures err { OnErr result (AppendsFront (K.held sink.old) (K.held sink.new) (queue_lines (view m.now) brief queue (lens_of journal.now.begun.items))) }
+    ensures cause { HasCause (K.faults sink.old) (K.faults sink.new) result }
+{
+    let count = journal.begun.len() as u64;
+    let begun = journal.begun.as_slice();
     match put_line(queue_line(queue, count, sum_of(begun)), sink) {
         Ok(()) => {}
         Err(Failed) => return Err(Failed),
     }
-    match put_chains(queue, begun, sink) {
+    match put_if_long(brief, queue, begun, sink) {
         Ok(()) => {}
         Err(Failed) => return Err(Failed),
     }
-    match put_line(epoch_line(queue, 0, 0, count), sink) {
-        Ok(()) => Ok(()),
-        Err(Failed) => Err(Failed),
-    }
-}
-
-/// Writes the report of a run of one queue, by the lengths in its device's journal. It takes no memory.
-#[tactic(auto, unfolding(crate::specs::Report::report))]
-pub fn report<K: Sink>(begun: &[Begun], sink: &mut K) -> Result<(), Failed>
-    requires { length begun.now ≤ 200000 }
-    ensures ok { OnOk result (Appends (K.held sink.old) (K.held sink.new) (report (map len_of begun.now))) }
-    ensures err { OnErr result (AppendsFront (K.held sink.old) (K.held sink.new) (report (map len_of begun.now))) }
-    ensures cause { HasCause (K.faults sink.old) (K.faults sink.new) result }
-{
-    match put_queue(0, begun, sink) {
-        Ok(()) => {}
-        Err(Failed) => return Err(Failed),
-    }
-    match put_line(drained_line(begun.len() as u64), sink) {
+    match put_epochs(queue, m.start, m.switches.as_slice(), count, sink) {
         Ok(()) => Ok(()),
         Err(Failed) => Err(Failed),
     }

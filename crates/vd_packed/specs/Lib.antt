@@ -1,0 +1,15 @@
+pub mod Spots
+pub mod Seconds
+pub mod DriverEnd
+pub mod DeviceEnd
+pub mod Places
+pub mod Offers
+pub mod DriverSteps
+pub mod DriverCollecting
+pub mod DriverLaws
+pub mod DeviceGiving
+pub mod DeviceTaking
+pub mod DeviceLaws
+pub mod Opening
+pub mod PackedLayout
+pub mod Rig
