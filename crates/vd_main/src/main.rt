@@ -65,7 +65,9 @@ fn explain(rt: &HostRuntime, status: Status) -> io::Result<()> {
             need,
             guests,
             devices,
-        } => eprintln!(rt; "vdpa: too few parties: need {need}, guests {guests}, devices {devices}"),
+        } => eprintln!(rt;
+            "vdpa: too few parties: need {need}, guests {guests}, devices {devices}"
+        ),
         Status::Memory => eprintln!(rt; "vdpa: out of memory"),
     }
 }

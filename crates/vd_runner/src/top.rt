@@ -1,5 +1,5 @@
 //! The top call.
-ghost use Rattle.std.specs.Prelude.{◌≡◌, ℕ, List, Some, true, false, map};
+ghost use Rattle.std.specs.Prelude.{◌≡◌, ℕ, List, Some, true, false, length, map};
 ghost use Rattle.std.specs.Io.KnownBytes.{Appends};
 ghost use Rattle.vd_machine.specs.declared.machine.MachineFault.{MachineFault};
 ghost use Rattle.vd_stream.specs.Causes.{Rose};
@@ -77,7 +77,8 @@ pub fn vdpa<
     ensures unwritten { has_written result ≡ false → K.held sink.new ≡ K.held sink.old }
     ensures nothing { has_played result ≡ false → IsUntouched GS.party VS.party split.old split.new × IsUntouched GP.party VP.party packed.old packed.new }
     ensures same { has_prepared result ≡ false → (split.new ≡ split.old) × (packed.new ≡ packed.old) }
-    // No device is moved, nor loses what it carries.
+    // Whatever it answers, no party is gone, and each device stands at its place with what it carries.
+    ensures kept { (length split.new.guests.items ≡ length split.old.guests.items) × (length packed.new.guests.items ≡ length packed.old.guests.items) }
     ensures carried { (map VS.party.carried split.new.devices.items ≡ map VS.party.carried split.old.devices.items) × (map VP.party.carried packed.new.devices.items ≡ map VP.party.carried packed.old.devices.items) }
     // Where the words mean a command and no count rose, the answer follows from the bytes and the numbers of parties.
     ensures complete { (bytes : List ℕ) → S.left source.old ≡ Some bytes → is_play (map (λ w. w.now) words.now) ≡ true
