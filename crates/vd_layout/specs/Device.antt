@@ -1,5 +1,5 @@
 -- What a device's end is, as one record, and what one step of it is.
-use Rattle.std.specs.Prelude.{◌≡◌, ◌≢◌, ◌⊎◌, ℕ, ◌+◌, ◌<◌, ◌≤◌, Bool, true, false, List, [], ◌∷◌, length}
+use Rattle.std.specs.Prelude.{◌≡◌, ◌≢◌, ◌⊎◌, ℕ, ◌+◌, ◌<◌, ◌≤◌, Bool, true, false, List, [], ◌∷◌, length, None, if◌then◌else◌, nat_lt}
 use Rattle.std.specs.List.{Contains}
 use Rattle.vd_model.specs.declared.chain.Piece.{Piece}
 use Rattle.vd_model.specs.declared.features.Features.{Features}
@@ -15,11 +15,14 @@ use Rattle.vd_ring.specs.declared.device.DeviceDone.TheVariants.{Take, Give, Res
 use Rattle.vd_ring.specs.declared.device.DeviceNow.TheVariants as now
 use Rattle.vd_ring.specs.declared.device.DeviceView.{DeviceView}
 use Rattle.vd_ring.specs.declared.frame.Frame.{Frame}
+use Rattle.vd_ring.specs.declared.frame.Used.{Used}
 use Rattle.vd_model.specs.Chains.{needs}
 use Rattle.vd_ring.specs.Frames.{Fits, limit}
-use Rattle.vd_ring.specs.History.{entry, takes, gives, running, running_size, taken_head, IsWhole}
+use Rattle.vd_ring.specs.History.{takes, gives, heads, running, running_size, taken_head, numbers, occurs, IsWhole}
 use Rattle.vd_ring.specs.Control.{IsControlChain}
+use Rattle.vd_ring.specs.ControlLaws.{DeviceControls, HasOwnHead}
 use Rattle.vd_layout.specs.Control.{ControlWords}
+use Rattle.vd_layout.specs.Pairs.{WereGiven}
 use Rattle.vd_layout.specs.Begun.{DeviceOp, DevicePublished, DeviceGoesOn}
 
 -- the chain runs, and may be given next
@@ -35,6 +38,16 @@ pub record IsTaken (words : ControlWords) (f : Frame) (s : List DeviceDone) (c :
   pub inside : h < f.size
   pub apart : (k : ℕ) → Contains (running s) k → taken_head s k ≢ h
   pub control : f.control ≡ true → IsControlChain (words.command f h) (words.ack f h) c
+
+-- what a device's side knows of its chains
+pub record Runs (f : Frame) (s : List DeviceDone) : Type 0 where
+  -- each chain taken runs or is given, and only once
+  pub each : (k : ℕ) → occurs k (running s) + occurs k (numbers (gives s)) ≡ (if nat_lt k (length (takes s)) then 1 else 0)
+  pub count : length (takes s) ≡ length (gives s) + length (running s)
+  pub as_many : length (heads s) ≡ length (takes s)
+  -- the heads of those that run are the ring's, and differ
+  pub inside : (k : ℕ) → Contains (running s) k → taken_head s k < f.size
+  pub apart : (k : ℕ) → Contains (running s) k → HasOwnHead s k
 
 -- a device's end: what its side may do, what its steps answer, for which views it stands, the operation that it has begun, a
 -- bound of the steps that this still takes, what it was made with, whether it rests or is fresh, where its layout keeps commands
@@ -59,7 +72,7 @@ abbrev pub DeviceSays : ControlWords → DeviceAct → DeviceOp → DeviceOp →
 DeviceSays words act.Moved b b' f s s' = DeviceGoesOn b b' × (s' ≡ s)
 DeviceSays words act.Nothing b b' f s s' = (b ≡ DeviceOp.take) × (b' ≡ DeviceOp.idle) × (s' ≡ s)
 DeviceSays words (act.Taken k c) b b' f s s' = (h : ℕ) × (b ≡ DeviceOp.take) × (b' ≡ DeviceOp.idle) × (k ≡ length (takes s)) × (s' ≡ Take c h ∷ s) × IsTaken words f s c h
-DeviceSays words (act.Given k) b b' f s s' = (n : ℕ) × (b ≡ DeviceOp.give k n) × DevicePublished b' × (s' ≡ Give (entry k n ∷ []) ∷ s) × MayGive f s k
+DeviceSays words (act.Given k) b b' f s s' = (n : ℕ) × (us : List Used) × (b ≡ DeviceOp.give k n) × DevicePublished b' × (s' ≡ Give us ∷ s) × WereGiven f s us k n
 DeviceSays words act.Rested b b' f s s' = (b ≡ DeviceOp.rest) × (b' ≡ DeviceOp.idle) × (s' ≡ Rest ∷ s) × IsWhole s
 DeviceSays words _ b b' f s s' = ⊥
 
@@ -95,9 +108,15 @@ pub record IsLawfulDevice {E : Type 0} (m : DeviceModel E) : Type 0 where
   pub still : (e : E) → IsStill m e → m.begun e ≡ DeviceOp.idle
   pub whole : (e : E) (v : DeviceView) → m.stands e v → IsStill m e → (running v.done ≡ []) × (length (takes v.done) ≡ length (gives v.done)) × IsWhole v.done
   pub based : (e : E) (v : DeviceView) → m.stands e v → IsStill m e → m.base e ≡ m.base_of v.frame (takes v.done)
+  -- it is not armed
+  pub unarmed : (e : E) (v : DeviceView) → m.stands e v → IsStill m e → v.armed ≡ None
   -- from a fresh end nothing was taken
   pub unused : (e : E) (v : DeviceView) → m.stands e v → m.fresh e ≡ true → takes v.done ≡ []
   -- after a control access of its holder the end stands for the view after it
   pub control : (e : E) (v : DeviceView) (a : Access) (r : ℕ) → m.stands e v → m.side.next v Control a → m.stands e (m.side.after v Control a r)
   -- no access changes what the ring was made with
   pub framed : (v : DeviceView) (op : Op) (a : Access) (r : ℕ) → (m.side.after v op a r).frame ≡ v.frame
+  -- each chain taken runs or is given, and only once; the heads of those that run differ
+  pub runs : (e : E) (v : DeviceView) → m.stands e v → Runs v.frame v.done
+  -- when a command word may be loaded, and an ack stored, and the view after it
+  pub controls : DeviceControls m.side m.words.command m.words.ack

@@ -65,7 +65,7 @@ said words act.Moved DeviceOp.idle b' f s s' r w h e = absurd w
 said words act.Moved DeviceOp.signal b' f s s' r w h e = absurd w
 said words act.Nothing b b' f s s' r w h e = inr (λ z. cc, inl (h.1, e), (h.0, refl, h.2))
 said words (act.Taken k c) b b' f s s' r w h e = inr (λ z. cc, inl (h.2, e), (h.0, h.1, refl, h.3, h.4, h.5))
-said words (act.Given k) b b' f s s' r w h e = inr (λ z. cc, elim h.2 as (λ _. DeviceToldStage (act.Given k) b' r) [ inl i ↦ inl (i, e) | inr i ↦ inr (i, refl) ], (h.0, h.1, inl refl, h.3, h.4))
+said words (act.Given k) b b' f s s' r w h e = inr (λ z. cc, elim h.3 as (λ _. DeviceToldStage (act.Given k) b' r) [ inl i ↦ inl (i, e) | inr i ↦ inr (i, refl) ], (h.0, h.1, h.2, inl refl, h.4, h.5))
 said words act.Rested b b' f s s' r w h e = inr (λ z. cc, inl (h.1, e), (h.0, refl, h.2, h.3))
 said words act.Armed b b' f s s' r w h e = absurd h
 said words act.Awake b b' f s s' r w h e = absurd h
@@ -76,7 +76,7 @@ signalled : (words : ControlWords) (x : DeviceAct) (b b' : DeviceOp) (f : Frame)
 signalled words act.Moved b b' f s s' is h = (refl, subst (λ y. DeviceGoesOn y b') is h.0, h.1)
 signalled words act.Nothing b b' f s s' is h = absurd (cc (is, h.0))
 signalled words (act.Taken k c) b b' f s s' is h = absurd (cc (is, h.1))
-signalled words (act.Given k) b b' f s s' is h = absurd (cc (is, h.1))
+signalled words (act.Given k) b b' f s s' is h = absurd (cc (is, h.2))
 signalled words act.Rested b b' f s s' is h = absurd (cc (is, h.0))
 signalled words act.Armed b b' f s s' is h = absurd h
 signalled words act.Awake b b' f s s' is h = absurd h

@@ -1,6 +1,5 @@
 -- What a driver's end is, as one record, and what one step of it is.
-use Rattle.std.specs.Prelude.{◌≡◌, ℕ, ◌+◌, ◌<◌, ◌≤◌, true, List, [], ◌∷◌, length}
-use Rattle.std.specs.List.{Contains}
+use Rattle.std.specs.Prelude.{◌≡◌, ℕ, ◌+◌, ◌<◌, ◌≤◌, true, List, ◌∷◌, length}
 use Rattle.vd_model.specs.declared.chain.Piece.{Piece}
 use Rattle.vd_model.specs.declared.features.Features.{Features}
 use Rattle.vd_words.specs.declared.access.Access.{Access}
@@ -15,11 +14,15 @@ use Rattle.vd_ring.specs.declared.driver.DriverDone.TheVariants.{Offer, Collect}
 use Rattle.vd_ring.specs.declared.driver.DriverNow.TheVariants as now
 use Rattle.vd_ring.specs.declared.driver.DriverView.{DriverView}
 use Rattle.vd_ring.specs.declared.frame.Frame.{Frame}
+use Rattle.vd_ring.specs.declared.frame.Used.{Used}
 use Rattle.vd_model.specs.Chains.{needs}
 use Rattle.vd_ring.specs.Frames.{Fits, limit}
-use Rattle.vd_ring.specs.History.{entry, offers, collects, open_at, open_size, head, next_head}
+use Rattle.vd_ring.specs.History.{offers, open_size, head, next_head}
 use Rattle.vd_ring.specs.Control.{IsControlChain}
+use Rattle.vd_ring.specs.ControlLaws.{DriverControls}
+use Rattle.vd_ring.specs.Places.{Places}
 use Rattle.vd_layout.specs.Control.{ControlWords}
+use Rattle.vd_layout.specs.Pairs.{WereCollected}
 use Rattle.vd_layout.specs.Begun.{DriverOp, DriverPublished, DriverGoesOn}
 
 -- there are as many free places as the chain needs
@@ -50,9 +53,7 @@ abbrev pub DriverSays : DriverAct → DriverOp → DriverOp → Frame → List D
 DriverSays act.Moved b b' f o o' = DriverGoesOn b b' × (o' ≡ o)
 DriverSays act.Nothing b b' f o o' = (b ≡ DriverOp.collect) × (b' ≡ DriverOp.idle) × (o' ≡ o)
 DriverSays (act.Offered k) b b' f o o' = (c : List Piece) × (b ≡ DriverOp.offer c) × DriverPublished b' × (k ≡ length (offers o)) × (o' ≡ Offer c ∷ o)
-DriverSays (act.Collected k n h) b b' f o o' =
-    (b ≡ DriverOp.collect) × (b' ≡ DriverOp.idle) × (o' ≡ Collect (entry k n ∷ []) ∷ o) × Contains (open_at o) k × (h ≡ head f o k)
-    × (f.features.in_order ≡ true → k ≡ length (collects o))
+DriverSays (act.Collected k n h) b b' f o o' = (us : List Used) × (b ≡ DriverOp.collect) × (b' ≡ DriverOp.idle) × (o' ≡ Collect us ∷ o) × WereCollected f o us k n × (h ≡ head f o k)
 DriverSays _ b b' f o o' = ⊥
 
 -- one access of the port was made, which was next in the view; the end stands for the view after it, answers by it, and is
@@ -78,3 +79,7 @@ pub record IsLawfulDriver {E : Type 0} (m : DriverModel E) : Type 0 where
   pub control : (e : E) (v : DriverView) (a : Access) (r : ℕ) → m.stands e v → m.side.next v Control a → m.stands e (m.side.after v Control a r)
   -- no access changes what the ring was made with
   pub framed : (v : DriverView) (op : Op) (a : Access) (r : ℕ) → (m.side.after v op a r).frame ≡ v.frame
+  -- each place is free or held by one open chain; each chain offered is open or collected, and only once
+  pub places : (e : E) (v : DriverView) → m.stands e v → Places v.frame v.done
+  -- when a command word may be stored, and an ack loaded, and the view after it
+  pub controls : DriverControls m.side m.words.command m.words.ack

@@ -57,7 +57,7 @@ said driver_act.Moved DriverOp.idle b' f o o' w s = absurd w
 said driver_act.Moved DriverOp.signal b' f o o' w s = absurd w
 said driver_act.Nothing b b' f o o' w s = inr (λ e. cc, inl s.1, (s.0, refl, s.2))
 said (driver_act.Offered k) b b' f o o' w s = inr (λ e. cc, s.2, (s.0, s.1, inl refl, s.3, s.4))
-said (driver_act.Collected k n h) b b' f o o' w s = inr (λ e. cc, inl s.1, (s.0, refl, s.2, s.3, s.4, s.5))
+said (driver_act.Collected k n h) b b' f o o' w s = inr (λ e. cc, inl s.2, (s.0, s.1, refl, s.3, s.4, s.5))
 said driver_act.Armed b b' f o o' w s = absurd s
 said driver_act.Awake b b' f o o' w s = absurd s
 said driver_act.Asleep b b' f o o' w s = absurd s
@@ -67,7 +67,7 @@ signalled : (x : DriverAct) (b b' : DriverOp) (f : Frame) (o o' : List DriverDon
 signalled driver_act.Moved b b' f o o' is s = (refl, subst (λ y. DriverGoesOn y b') is s.0, s.1)
 signalled driver_act.Nothing b b' f o o' is s = absurd (cc (is, s.0))
 signalled (driver_act.Offered k) b b' f o o' is s = absurd (cc (is, s.1))
-signalled (driver_act.Collected k n h) b b' f o o' is s = absurd (cc (is, s.0))
+signalled (driver_act.Collected k n h) b b' f o o' is s = absurd (cc (is, s.1))
 signalled driver_act.Armed b b' f o o' is s = absurd s
 signalled driver_act.Awake b b' f o o' is s = absurd s
 signalled driver_act.Asleep b b' f o o' is s = absurd s

@@ -1,5 +1,5 @@
 -- What a layout of a ring is, as one record, and its laws.
-use Rattle.std.specs.Prelude.{◌≡◌, ℕ, ◌<◌, ◌≤◌, Bool, true, false, List, [], ◌∷◌, length, replicate}
+use Rattle.std.specs.Prelude.{◌≡◌, ℕ, ◌<◌, ◌≤◌, Bool, true, false, List, [], ◌∷◌, length, replicate, None}
 use Rattle.vd_model.specs.declared.chain.Piece.{Piece}
 use Rattle.vd_model.specs.declared.features.Features.{Features}
 use Rattle.vd_words.specs.declared.access.Access.{Access}
@@ -18,6 +18,7 @@ use Rattle.vd_ring.specs.declared.frame.Used.{Used}
 use Rattle.vd_ring.specs.Bag.{State}
 use Rattle.vd_ring.specs.Fresh.{fresh_driver, fresh_device}
 use Rattle.vd_ring.specs.History.{offers, collects, takes, gives}
+use Rattle.vd_ring.specs.ControlLaws.{ControlStands}
 use Rattle.vd_ring.specs.Lists.{Lists, Rested}
 use Rattle.vd_ring.specs.Places.{Places}
 use Rattle.vd_ring.specs.Steps.{Keeps, StandsFor, DriverBagStep, DeviceBagStep}
@@ -66,6 +67,7 @@ pub record IsFresh {D E : Type 0} (d : DriverModel D) (e : DeviceModel E) (l : L
   pub device_sized : (e.size y ≡ size) × (e.features y ≡ f)
   pub awake : e.resting y ≡ false
   pub unused : e.fresh y ≡ true
+  pub driver_unarmed : (v : DriverView) → d.stands x v → v.armed ≡ None
 
 -- what a device's answer is to the bag; the entries are those of the give that Given made
 pub record DeviceBags (in_order : Bool) (answer : DeviceAct) (o : List DriverDone) (s s' : List DeviceDone) (b : List State) : Type 0 where
@@ -93,6 +95,8 @@ pub record IsLawfulLayout {D E : Type 0} (d : DriverModel D) (e : DeviceModel E)
   pub places : (ws : List ℕ) (v : DriverView) (w : DeviceView) → l.ring ws v w → Places v.frame v.done
   pub lists : (ws : List ℕ) (v : DriverView) (w : DeviceView) → l.ring ws v w → Lists v.frame v.done w.done
   pub rested : (ws : List ℕ) (v : DriverView) (w : DeviceView) → l.ring ws v w → Rested w.done
+  -- the command and ack words that stand are those stored for each chain, and what each side loaded is what the other stored
+  pub controls : (ws : List ℕ) (v : DriverView) (w : DeviceView) → l.ring ws v w → ControlStands v.frame l.words.command l.words.ack v.done w.done ws
   -- where a look shows nothing, all that was offered is taken, and all that was given is collected
   pub driver_nothing : (ws : List ℕ) (v : DriverView) (w : DeviceView) (op : Op) (a : Access) → l.ring ws v w → d.side.next v op a → d.act v op a (answered ws a) ≡ driver_act.Nothing → collects v.done ≡ gives w.done
   pub device_nothing : (ws : List ℕ) (v : DriverView) (w : DeviceView) (op : Op) (a : Access) → l.ring ws v w → e.side.next w op a → e.act w op a (answered ws a) ≡ device_act.Nothing → takes w.done ≡ offers v.done

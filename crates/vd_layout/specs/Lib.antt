@@ -1,5 +1,6 @@
 pub mod Begun
 pub mod Control
+pub mod Pairs
 pub mod Driver
 pub mod Device
 pub mod Layout

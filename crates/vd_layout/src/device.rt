@@ -64,7 +64,7 @@ pub trait DeviceEnd: Send + Drop {
         ensures begun { device.begun self.new ≡ DeviceOp.take }
         ensures awake { device.resting self.new ≡ false }
         ensures stands { (w : DeviceView) → device.stands self.old w → device.stands self.new w }
-        ensures left { device.left self.new ≤ 41 };
+        ensures left { device.left self.new ≤ 36 };
 
     /// Begins the give of chain number `k` with a length in bytes.
     fn begin_give(&mut self, k: u32, len: u32)
@@ -74,7 +74,7 @@ pub trait DeviceEnd: Send + Drop {
         ensures begun { device.begun self.new ≡ DeviceOp.give k len }
         ensures awake { device.resting self.new ≡ false }
         ensures stands { (w : DeviceView) → device.stands self.old w → device.stands self.new w }
-        ensures left { device.left self.new ≤ 41 };
+        ensures left { device.left self.new ≤ 5 };
 
     /// Begins a rest. After it the chains taken and not given are offered still.
     fn begin_rest(&mut self)
@@ -84,7 +84,7 @@ pub trait DeviceEnd: Send + Drop {
         ensures begun { device.begun self.new ≡ DeviceOp.rest }
         ensures awake { device.resting self.new ≡ false }
         ensures stands { (w : DeviceView) → device.stands self.old w → device.stands self.new w }
-        ensures left { device.left self.new ≤ 41 };
+        ensures left { device.left self.new ≤ 2 };
 
     /// Makes one access of the operation in progress, on the end's own ring.
     fn step<P: Port>(&mut self, port: &mut P) -> DeviceAct

@@ -50,14 +50,14 @@ pub trait DriverEnd: Send + Drop {
         requires may { (v : DriverView) × driver.stands self.old v × MayOffer driver.words v c.now }
         ensures begun { driver.begun self.new ≡ DriverOp.offer c.now }
         ensures stands { (v : DriverView) → driver.stands self.old v → MayOffer driver.words v c.now → driver.stands self.new v }
-        ensures left { driver.left self.new ≤ 41 };
+        ensures left { driver.left self.new ≤ 38 };
 
     /// Begins a collect of the next used entry.
     fn begin_collect(&mut self)
         requires idle { driver.begun self.old ≡ DriverOp.idle }
         ensures begun { driver.begun self.new ≡ DriverOp.collect }
         ensures stands { (v : DriverView) → driver.stands self.old v → driver.stands self.new v }
-        ensures left { driver.left self.new ≤ 41 };
+        ensures left { driver.left self.new ≤ 3 };
 
     /// Makes one access of the operation in progress, on the end's own ring.
     fn step<P: Port>(&mut self, port: &mut P) -> DriverAct

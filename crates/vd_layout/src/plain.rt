@@ -6,8 +6,6 @@ ghost use Rattle.vd_layout.specs.DriverFinish.{IsDriverWork};
 ghost use Rattle.vd_layout.specs.DeviceFinish.{IsDeviceWork};
 ghost use Rattle.vd_layout.specs.Device.{DeviceSays, is_rested};
 ghost use Rattle.vd_layout.specs.Driver.{DriverSays};
-ghost use Rattle.vd_ring.specs.declared.driver.DriverDone.{DriverDone};
-ghost use Rattle.vd_ring.specs.declared.device.DeviceDone.{DeviceDone};
 ghost use Rattle.vd_layout.specs.Both.{AreOn, Finished};
 
 use crate::finish::{finish_device, finish_driver};
@@ -26,7 +24,6 @@ pub fn finish_driver_beside<L: Layout, P: Port>(
     requires on { (f : Frame) × (ws : List ℕ) × P.port.plain port.old ws × AreOn L.Driver.driver L.Device.device L.layout f driver.old device.now ws }
     ensures on { (f : Frame) (ws : List ℕ) → P.port.plain port.old ws → AreOn L.Driver.driver L.Device.device L.layout f driver.old device.now ws → Finished P.port L.Driver.driver L.Device.device L.layout f port.old port.new driver.new device.now }
     ensures idle { L.Driver.driver.begun driver.new ≡ DriverOp.idle }
-    ensures says { (f : Frame) × (o : List DriverDone) × (o' : List DriverDone) × DriverSays result (L.Driver.driver.begun driver.old) DriverOp.idle f o o' }
     // the answer is about the very views of before and after
     ensures did { (f : Frame) (ws : List ℕ) → P.port.plain port.old ws → (a : AreOn L.Driver.driver L.Device.device L.layout f driver.old device.now ws) → (z : Finished P.port L.Driver.driver L.Device.device L.layout f port.old port.new driver.new device.now) × DriverSays result (L.Driver.driver.begun driver.old) DriverOp.idle a.view.frame a.view.done z.on.view.done }
 {
@@ -46,7 +43,6 @@ pub fn finish_device_beside<L: Layout, P: Port>(
     ensures on { (f : Frame) (ws : List ℕ) → P.port.plain port.old ws → AreOn L.Driver.driver L.Device.device L.layout f driver.now device.old ws → Finished P.port L.Driver.driver L.Device.device L.layout f port.old port.new driver.now device.new }
     ensures idle { L.Device.device.begun device.new ≡ DeviceOp.idle }
     ensures rests { L.Device.device.resting device.new ≡ is_rested result }
-    ensures says { (f : Frame) × (s : List DeviceDone) × (s' : List DeviceDone) × DeviceSays L.Device.device.words result (L.Device.device.begun device.old) DeviceOp.idle f s s' }
     // the answer is about the very views of before and after
     ensures did { (f : Frame) (ws : List ℕ) → P.port.plain port.old ws → (a : AreOn L.Driver.driver L.Device.device L.layout f driver.now device.old ws) → (z : Finished P.port L.Driver.driver L.Device.device L.layout f port.old port.new driver.now device.new) × DeviceSays L.Device.device.words result (L.Device.device.begun device.old) DeviceOp.idle a.device_view.frame a.device_view.done z.on.device_view.done }
 {

@@ -9,7 +9,7 @@ use Rattle.vd_machine.specs.Lookup.{natural_at, natural_or, text_at, items_at}
 
 -- whether the layout of this name is packed (VIRTIO 1.2, 2.7 and 2.8)
 abbrev pub layout : List ℕ → Option Bool
-layout text = if bytes_eq text (codes "split") then Some false else None
+layout text = if bytes_eq text (codes "split") then Some false else if bytes_eq text (codes "packed") then Some true else None
 
 -- the layout of the file, where there is such a layout
 unfoldable pub layout_of : Members → Option Bool

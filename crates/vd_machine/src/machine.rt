@@ -32,7 +32,8 @@ pub struct Switch {
 pub struct Machine {
     /// Whether the rings are packed (VIRTIO 1.2, 2.8) or split (2.7).
     pub packed: bool,
-    /// How many descriptors a ring has: for a split ring a power of two from 2 to 1,024.
+    /// How many descriptors a ring has: for a split ring a power of two from 2 to 1,024, for a packed ring any number of
+    /// these.
     pub size: u32,
     /// What the driver and the device agreed on.
     pub features: Features,
@@ -58,7 +59,6 @@ pub struct Machine {
     ghost fitted: { are_scripts (most_pieces features size) queues ≡ true },
     ghost inside: { all_lie regions queues ≡ true },
     ghost counted: { few queues ≡ true },
-    ghost split: { packed ≡ false },
     ghost direct: { features.indirect ≡ false },
     ghost eventless: { features.event_idx ≡ false },
     ghost passing: { start ≡ Pass },

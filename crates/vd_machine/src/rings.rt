@@ -10,17 +10,19 @@ use toml::{Table, Value};
 use vd_model::Features;
 
 fn layout(text: &str) -> Option<bool>
-    ensures value { result ≡ layout text.now }
-    ensures split { IfSome result (λ packed. packed ≡ false) }
+    ensures { result ≡ layout text.now }
 {
-    if text == "split" { Some(false) } else { None }
+    match text {
+        "split" => Some(false),
+        "packed" => Some(true),
+        _ => None,
+    }
 }
 
 /// Whether the layout is packed, or `None` where there is no such layout.
 #[tactic(auto, unfolding(crate::specs::Rings::layout_of))]
 pub fn layout_of(file: &Table) -> Option<bool>
-    ensures value { result ≡ layout_of (table_view file.now) }
-    ensures split { IfSome result (λ packed. packed ≡ false) }
+    ensures { result ≡ layout_of (table_view file.now) }
 {
     match text_at(file, "layout") {
         None => None,

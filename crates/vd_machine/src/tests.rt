@@ -194,7 +194,23 @@ fn tells_the_document_its_keys_and_its_types(rt: HostRuntime) -> Result<(), Fail
             Some(MachineFault::M5),
         ),
         (
-            "layout = \"packed\"\nsize = 4\nregions = [{ addr = 4096, size = 8192 }]\nqueues = [[\"r4096+10 w8192+64\"]]\n",
+            "layout = \"packed\"\nsize = 3\nregions = [{ addr = 4096, size = 8192 }]\nqueues = [[\"r4096+10 w8192+64\"]]\n",
+            None,
+        ),
+        (
+            "layout = \"packed\"\nsize = 1024\nregions = [{ addr = 4096, size = 8192 }]\nqueues = [[\"r4096+10 w8192+64\"]]\n",
+            None,
+        ),
+        (
+            "layout = \"packed\"\nsize = 1\nregions = [{ addr = 4096, size = 8192 }]\nqueues = [[\"r4096+10 w8192+64\"]]\n",
+            Some(MachineFault::M6),
+        ),
+        (
+            "layout = \"packed\"\nsize = 1025\nregions = [{ addr = 4096, size = 8192 }]\nqueues = [[\"r4096+10 w8192+64\"]]\n",
+            Some(MachineFault::M6),
+        ),
+        (
+            "layout = \"packed \"\nsize = 4\nregions = [{ addr = 4096, size = 8192 }]\nqueues = [[\"r4096+10 w8192+64\"]]\n",
             Some(MachineFault::M5),
         ),
     ] {

@@ -1,5 +1,5 @@
 -- Parties that have done nothing, one by one and in a list.
-use Rattle.std.proofs.Common.{◌≡◌, ℕ, List, [], ◌∷◌, None}
+use Rattle.std.proofs.Common.{◌≡◌, List, [], None}
 use Rattle.std.proofs.lemmas.List.Elements.{All-weaker}
 use Rattle.std.specs.List.{All}
 use Rattle.vd_bus.specs.Device.{DeviceParty}

@@ -8,6 +8,7 @@ use std::alloc::{AllocError, Global};
 use std::process::ExitCode;
 use std::{env, io};
 use vd_machine::MachineFault;
+use vd_packed::Packed;
 use vd_runner::{Status, vdpa};
 use vd_split::Split;
 use vd_stream::{ReadSource, WriteSink};
@@ -85,9 +86,17 @@ fn run(rt: &HostRuntime, alloc: Global) -> Result<Status, AllocError> {
         words.push(text.as_str())?;
     }
     let mut split = model_bench::<Split>(alloc)?;
+    let mut packed = model_bench::<Packed>(alloc)?;
     let mut source = ReadSource::new(rt.stdin());
     let mut sink = WriteSink::new(rt.stdout());
-    Ok(vdpa(alloc, &words, &mut source, &mut sink, &mut split))
+    Ok(vdpa(
+        alloc,
+        &words,
+        &mut source,
+        &mut sink,
+        &mut split,
+        &mut packed,
+    ))
 }
 
 fn main(rt: HostRuntime) -> ExitCode {

@@ -18,6 +18,7 @@ use Rattle.vd_ring.specs.declared.frame.Frame.{Frame}
 use Rattle.vd_ring.specs.Frames.{Fits, limit}
 use Rattle.vd_ring.specs.History.{entry, offers, collects, open_at}
 use Rattle.vd_ring.proofs.Counts.{occurs_from, length_without}
+use Rattle.vd_layout.proofs.OnePair.{says_collected}
 use Rattle.vd_layout.specs.Begun.{DriverOp, DriverPublished, DriverGoesOn}
 use Rattle.vd_layout.specs.Driver.{DriverModel, IsDriverStep, IsLawfulDriver, HasRoom, MayOffer}
 use Rattle.vd_bus.specs.Guest.{as_return}
@@ -25,7 +26,7 @@ use Rattle.vd_bus.specs.Scripts.{chains, run_chains, run_count}
 use Rattle.vd_models.specs.declared.cursor.Cursor.{Cursor}
 use Rattle.vd_models.specs.declared.serving.Turn.TheVariants.{Worked, Waits}
 use Rattle.vd_models.specs.Cursors.{left_at, left_of, next_at, IsSettled, HasFirst}
-use Rattle.vd_models.specs.Driving.{Drive, drive, Drives, DriveOpens, IsDriveTurn, BegunIs, DoneIs, IsStuck, drive_weight}
+use Rattle.vd_models.specs.Driving.{Drive, drive, Drives, DriveOpens, IsDriveTurn, BegunIs, DoneIs, IsStuck, drive_weight, turn_left}
 use Rattle.vd_models.proofs.Lists.{prefix_same, prefix_push}
 use Rattle.vd_models.proofs.Scripts.{next_left, chains_count}
 
@@ -90,15 +91,15 @@ module _ {D : Type 0} (d : DriverModel D) where
 
 -- ---- the operation that was begun
 
-published_is : (op : DriverOp) (next : Option (List Piece)) (f : Frame) (o : List DriverDone) → DriverPublished op → BegunIs op next f o
-published_is op next f o (inl e) = subst (λ z. BegunIs z next f o) (sym e) tt
-published_is op next f o (inr e) = subst (λ z. BegunIs z next f o) (sym e) tt
+published_is : (u : Bool) (op : DriverOp) (next : Option (List Piece)) (f : Frame) (o : List DriverDone) → DriverPublished op → BegunIs u op next f o
+published_is u op next f o (inl e) = subst (λ z. BegunIs u z next f o) (sym e) tt
+published_is u op next f o (inr e) = subst (λ z. BegunIs u z next f o) (sym e) tt
 
-goes_on : (op op' : DriverOp) (next : Option (List Piece)) (f : Frame) (o : List DriverDone) → DriverGoesOn op op' → BegunIs op next f o → BegunIs op' next f o
-goes_on DriverOp.signal op' next f o g h = published_is op' next f o g
-goes_on DriverOp.idle op' next f o g h = subst (λ z. BegunIs z next f o) (sym g) h
-goes_on (DriverOp.offer c) op' next f o g h = subst (λ z. BegunIs z next f o) (sym g) h
-goes_on DriverOp.collect op' next f o g h = subst (λ z. BegunIs z next f o) (sym g) h
+goes_on : (u : Bool) (op op' : DriverOp) (next : Option (List Piece)) (f : Frame) (o : List DriverDone) → DriverGoesOn op op' → BegunIs u op next f o → BegunIs u op' next f o
+goes_on u DriverOp.signal op' next f o g h = published_is u op' next f o g
+goes_on u DriverOp.idle op' next f o g h = subst (λ z. BegunIs u z next f o) (sym g) h
+goes_on u (DriverOp.offer c) op' next f o g h = subst (λ z. BegunIs u z next f o) (sym g) h
+goes_on u DriverOp.collect op' next f o g h = subst (λ z. BegunIs u z next f o) (sym g) h
 
 weight_goes : (op op' : DriverOp) (n m : ℕ) → op ≢ DriverOp.idle → DriverGoesOn op op' → m < n → drive_weight op' m < drive_weight op n
 weight_goes DriverOp.idle op' n m busy g less = absurd (busy refl)
@@ -115,17 +116,21 @@ done_is : (t : Bool) (op : DriverOp) (n all : ℕ) → t ≡ (n == all) → op �
 done_is true op n all is idle few = (idle, elim (cases_eq n all) [ inl e ↦ e | inr ne ↦ absurd (let f : (n == all) ≡ false = ne_eqb n all ne in cc) ])
 done_is false op n all is idle few = elim (cases_eq n all) [ inl e ↦ absurd (let f : (n == all) ≡ true = eq-eqb n all e in cc) | inr ne ↦ omega arith ]
 
-module _ {P D : Type 0} (port : PortModel P) (d : DriverModel D) (law : IsLawfulDriver d) (p q : P) (s : Script) (v : DriverView) (a b y : D) (at : Cursor) (o : ℕ) (r : List Return) (n : ℕ) where
-  pub offered_at : (at' : Cursor) (k : ℕ) → DriveOpens d s (drive b at o r n false) v → drive_weight (d.begun b) (d.left b) ≤ drive_weight (d.begun a) (d.left a) → IsDriverStep port d p q v b y (act.Offered k)
+turn_small : (u : Bool) → turn_left u ≤ 1
+turn_small true = omega arith
+turn_small false = omega arith
+
+module _ {P D : Type 0} (port : PortModel P) (d : DriverModel D) (law : IsLawfulDriver d) (p q : P) (s : Script) (v : DriverView) (a b y : D) (at : Cursor) (o : ℕ) (r : List Return) (n : ℕ) (u : Bool) where
+  pub offered_at : (at' : Cursor) (k : ℕ) (u' : Bool) → DriveOpens d s (drive b at o r n false u) v → drive_weight (d.begun b) (d.left b) ≤ drive_weight (d.begun a) (d.left a) → IsDriverStep port d p q v b y (act.Offered k)
       → left_at s.runs at' ≡ left_at s.runs (record { run = at.run; used = at.used + 1 }) → IsSettled s.runs at'
-      → IsDriveTurn port d s p q v (drive a at o r n false) (drive y at' (o + 1) r n false) Worked
-  offered_at at' k opens lighter st left settled =
+      → IsDriveTurn port d s p q v (drive a at o r n false u) (drive y at' (o + 1) r n false u') Worked
+  offered_at at' k u' opens lighter st left settled =
       let h = opens.drives in
       let c : List Piece = st.says.0 in
       let v' : DriverView = d.side.after v st.op st.access st.got in
       let framed : v'.frame ≡ v.frame = law.framed v st.op st.access st.got in
       let done : v'.done ≡ Offer c ∷ v.done = st.says.4 in
-      let next : next_at s.runs at ≡ Some c = subst (λ z. BegunIs z (next_at s.runs at) v.frame v.done) st.says.1 h.begun in
+      let next : next_at s.runs at ≡ Some c = subst (λ z. BegunIs u z (next_at s.runs at) v.frame v.done) st.says.1 h.begun in
       let nx = next_chain s at o c h.settled h.left next in
       let tail : c ∷ left_at s.runs (record { run = at.run; used = at.used + 1 }) ≡ c ∷ drop (o + 1) (chains s) = sym (next_left s.runs at c h.settled next) ∙ h.left ∙ nx.left in
       let rest : left_at s.runs (record { run = at.run; used = at.used + 1 }) ≡ drop (o + 1) (chains s) = cc in
@@ -147,7 +152,7 @@ module _ {P D : Type 0} (port : PortModel P) (d : DriverModel D) (law : IsLawful
           some = omega (arith, nx.more);
           returned = h.returned ∙ ap (map as_return) (sym (ap collects done));
           count = omega (arith, h.count, ap length offs, ap length opn, length_push (offers v.done) c, length_push (open_at v.done) (length (offers v.done)), ap (λ (z : List DriverDone). length (collects z)) done);
-          begun = published_is (d.begun y) (next_at s.runs at') v'.frame v'.done st.says.2;
+          begun = published_is u' (d.begun y) (next_at s.runs at') v'.frame v'.done st.says.2;
           done = h.done;
           room = h.room;
           few = h.few;
@@ -157,19 +162,20 @@ module _ {P D : Type 0} (port : PortModel P) (d : DriverModel D) (law : IsLawful
         grows = record { offers = prefix_push (offers v.done) (offers v'.done) c offs; collects = prefix_same (collects v.done) (collects v'.done) (ap collects done) };
         looked = λ z. let t : act.Offered k ≡ act.Asleep = st.is_answer ∙ z in cc;
         waits = λ z. absurd (cc);
-        nearer = λ z. omega (arith, nx.more, h.count, back, many, st.left, weight_published (d.begun y) (d.left y) st.says.2, ap (λ w. drive_weight w (d.left b)) st.says.1);
+        nearer = λ z. omega (arith, turn_small u', nx.more, h.count, back, many, st.left, weight_published (d.begun y) (d.left y) st.says.2, ap (λ w. drive_weight w (d.left b)) st.says.1);
       }
 
-  pub collected_at : (r' : List Return) (n' : ℕ) (k len hd : ℕ) (t : Bool) → DriveOpens d s (drive b at o r n false) v → drive_weight (d.begun b) (d.left b) ≤ drive_weight (d.begun a) (d.left a) → IsDriverStep port d p q v b y (act.Collected k len hd)
+  pub collected_at : (r' : List Return) (n' : ℕ) (k len hd : ℕ) (t : Bool) → DriveOpens d s (drive b at o r n false u) v → drive_weight (d.begun b) (d.left b) ≤ drive_weight (d.begun a) (d.left a) → IsDriverStep port d p q v b y (act.Collected k len hd)
       → r' ≡ r ++ record { number = k; len = len; ack = 0 } ∷ [] → n ≤ n' → t ≡ (length r' == length (chains s))
-      → IsDriveTurn port d s p q v (drive a at o r n false) (drive y at o r' n' t) Worked
+      → IsDriveTurn port d s p q v (drive a at o r n false u) (drive y at o r' n' t u) Worked
   collected_at r' n' k len hd t opens lighter st is_back roomy is_done =
       let h = opens.drives in
       let v' : DriverView = d.side.after v st.op st.access st.got in
       let framed : v'.frame ≡ v.frame = law.framed v st.op st.access st.got in
-      let done : v'.done ≡ Collect (entry k len ∷ []) ∷ v.done = st.says.2 in
+      let said = says_collected k len hd (d.begun b) (d.begun y) v.frame v.done v'.done st.says in
+      let done : v'.done ≡ Collect (entry k len ∷ []) ∷ v.done = said.done in
       let cols : collects v'.done ≡ collects v.done ++ entry k len ∷ [] = ap collects done in
-      let shorter = length_without k (open_at v.done) (occurs_from k (open_at v.done) st.says.3) in
+      let shorter = length_without k (open_at v.done) (occurs_from k (open_at v.done) said.was_open) in
       let back : length r ≡ length (collects v.done) = ap length h.returned ∙ length-map (collects v.done) as_return in
       let more : length r' ≡ length r + 1 = ap length is_back ∙ length_push r (record { number = k; len = len; ack = 0 }) in
       let many : length (offers v.done) ≡ o = ap length h.offers ∙ length-take-le o (chains s) h.some in
@@ -187,8 +193,8 @@ module _ {P D : Type 0} (port : PortModel P) (d : DriverModel D) (law : IsLawful
           some = h.some;
           returned = is_back ∙ ap (λ z. z ++ record { number = k; len = len; ack = 0 } ∷ []) h.returned ∙ sym (map_push as_return (collects v.done) (entry k len)) ∙ ap (map as_return) (sym cols);
           count = omega (arith, h.count, shorter, ap length cols, length_push (collects v.done) (entry k len), ap (λ (z : List DriverDone). length (offers z)) done, ap (λ (z : List DriverDone). length (open_at z)) done);
-          begun = subst (λ z. BegunIs z (next_at s.runs at) v'.frame v'.done) (sym st.says.1) tt;
-          done = done_is t (d.begun y) (length r') (length (chains s)) is_done st.says.1 (omega (arith, h.count, shorter, h.some));
+          begun = subst (λ z. BegunIs u z (next_at s.runs at) v'.frame v'.done) (sym said.idle) tt;
+          done = done_is t (d.begun y) (length r') (length (chains s)) is_done said.idle (omega (arith, h.count, shorter, h.some));
           room = omega (arith, h.room);
           few = h.few;
           fits = subst (λ (f : Frame). All (Fits f) (chains s)) (sym framed) h.fits;
@@ -197,20 +203,21 @@ module _ {P D : Type 0} (port : PortModel P) (d : DriverModel D) (law : IsLawful
         grows = record { offers = prefix_same (offers v.done) (offers v'.done) (ap offers done); collects = prefix_push (collects v.done) (collects v'.done) (entry k len) cols };
         looked = λ z. let e : act.Collected k len hd ≡ act.Asleep = st.is_answer ∙ z in cc;
         waits = λ z. absurd (cc);
-        nearer = λ z. omega (arith, h.count, shorter, h.some, ap (λ w. drive_weight w (d.left b)) st.says.0, ap (λ w. drive_weight w (d.left y)) st.says.1);
+        nearer = λ z. omega (arith, h.count, shorter, h.some, ap (λ w. drive_weight w (d.left b)) said.begun, ap (λ w. drive_weight w (d.left y)) said.idle);
       }
 
   -- there is room for what came back
-  pub can_keep : (k len hd : ℕ) → DriveOpens d s (drive b at o r n false) v → IsDriverStep port d p q v b y (act.Collected k len hd) → length r < n
+  pub can_keep : (k len hd : ℕ) → DriveOpens d s (drive b at o r n false u) v → IsDriverStep port d p q v b y (act.Collected k len hd) → length r < n
   can_keep k len hd opens st =
       let h = opens.drives in
-      let shorter = length_without k (open_at v.done) (occurs_from k (open_at v.done) st.says.3) in
+      let said = says_collected k len hd (d.begun b) (d.begun y) v.frame v.done (d.side.after v st.op st.access st.got).done st.says in
+      let shorter = length_without k (open_at v.done) (occurs_from k (open_at v.done) said.was_open) in
       omega (arith, h.count, shorter, h.some, h.room, ap length h.returned ∙ length-map (collects v.done) as_return, ap length h.offers ∙ length-take-le o (chains s) h.some)
 
   -- what was done is the same
-  same_done : (answer : DriverAct) (st : IsDriverStep port d p q v b y answer) → DriveOpens d s (drive b at o r n false) v → (d.side.after v st.op st.access st.got).done ≡ v.done
-      → BegunIs (d.begun y) (next_at s.runs at) (d.side.after v st.op st.access st.got).frame (d.side.after v st.op st.access st.got).done → Drives d s (drive y at o r n false) (d.side.after v st.op st.access st.got)
-  same_done answer st opens done begun =
+  same_done : (answer : DriverAct) (u' : Bool) (st : IsDriverStep port d p q v b y answer) → DriveOpens d s (drive b at o r n false u) v → (d.side.after v st.op st.access st.got).done ≡ v.done
+      → BegunIs u' (d.begun y) (next_at s.runs at) (d.side.after v st.op st.access st.got).frame (d.side.after v st.op st.access st.got).done → Drives d s (drive y at o r n false u') (d.side.after v st.op st.access st.got)
+  same_done answer u' st opens done begun =
       let h = opens.drives in
       let v' : DriverView = d.side.after v st.op st.access st.got in
       let framed : v'.frame ≡ v.frame = law.framed v st.op st.access st.got in
@@ -230,26 +237,43 @@ module _ {P D : Type 0} (port : PortModel P) (d : DriverModel D) (law : IsLawful
         control = λ some. ap (λ (f : Frame). f.control) framed ∙ h.control some;
       }
 
-  pub waited_at : DriveOpens d s (drive b at o r n false) v → IsDriverStep port d p q v b y act.Nothing → IsDriveTurn port d s p q v (drive a at o r n false) (drive y at o r n false) Waits
-  waited_at opens st =
+  pub waited_at : u ≡ false → DriveOpens d s (drive b at o r n false u) v → IsDriverStep port d p q v b y act.Nothing → IsDriveTurn port d s p q v (drive a at o r n false u) (drive y at o r n false u) Waits
+  waited_at out opens st =
       let h = opens.drives in
       let v' : DriverView = d.side.after v st.op st.access st.got in
       let framed : v'.frame ≡ v.frame = law.framed v st.op st.access st.got in
-      let stuck : IsStuck (next_at s.runs at) v.frame v.done = subst (λ z. BegunIs z (next_at s.runs at) v.frame v.done) st.says.0 h.begun in
+      let stuck : IsStuck (next_at s.runs at) v.frame v.done = subst (λ z. BegunIs u z (next_at s.runs at) v.frame v.done) st.says.0 h.begun out in
       record {
         op = st.op;
         access = st.access;
         got = st.got;
         was_next = st.was_next;
         moved = st.moved;
-        drives = same_done act.Nothing st opens st.says.2 (subst (λ z. BegunIs z (next_at s.runs at) v'.frame v'.done) (sym st.says.1) tt);
+        drives = same_done act.Nothing u st opens st.says.2 (subst (λ z. BegunIs u z (next_at s.runs at) v'.frame v'.done) (sym st.says.1) tt);
         grows = record { offers = prefix_same (offers v.done) (offers v'.done) (ap offers st.says.2); collects = prefix_same (collects v.done) (collects v'.done) (ap collects st.says.2) };
         looked = λ z. let e : act.Nothing ≡ act.Asleep = st.is_answer ∙ z in cc;
         waits = λ z. (sym st.is_answer, refl, st.says.1, subst (λ (f : Frame). IsStuck (next_at s.runs at) f v'.done) (sym framed) (subst (λ (z : List DriverDone). IsStuck (next_at s.runs at) v.frame z) (sym st.says.2) stuck));
         nearer = λ z. absurd (cc);
       }
 
-  went_on : DriveOpens d s (drive b at o r n false) v → drive_weight (d.begun b) (d.left b) ≤ drive_weight (d.begun a) (d.left a) → d.begun b ≢ DriverOp.idle → IsDriverStep port d p q v b y act.Moved → IsDriveTurn port d s p q v (drive a at o r n false) (drive y at o r n false) Worked
+  -- in its turn: after it chains are offered again
+  pub turned_at : u ≡ true → DriveOpens d s (drive b at o r n false u) v → IsDriverStep port d p q v b y act.Nothing → IsDriveTurn port d s p q v (drive a at o r n false u) (drive y at o r n false false) Worked
+  turned_at turn opens st =
+      let v' : DriverView = d.side.after v st.op st.access st.got in
+      record {
+        op = st.op;
+        access = st.access;
+        got = st.got;
+        was_next = st.was_next;
+        moved = st.moved;
+        drives = same_done act.Nothing false st opens st.says.2 (subst (λ z. BegunIs false z (next_at s.runs at) v'.frame v'.done) (sym st.says.1) tt);
+        grows = record { offers = prefix_same (offers v.done) (offers v'.done) (ap offers st.says.2); collects = prefix_same (collects v.done) (collects v'.done) (ap collects st.says.2) };
+        looked = λ z. let e : act.Nothing ≡ act.Asleep = st.is_answer ∙ z in cc;
+        waits = λ z. absurd (cc);
+        nearer = λ z. omega (arith, ap turn_left turn, ap (λ w. drive_weight w (d.left y)) st.says.1);
+      }
+
+  went_on : DriveOpens d s (drive b at o r n false u) v → drive_weight (d.begun b) (d.left b) ≤ drive_weight (d.begun a) (d.left a) → d.begun b ≢ DriverOp.idle → IsDriverStep port d p q v b y act.Moved → IsDriveTurn port d s p q v (drive a at o r n false u) (drive y at o r n false u) Worked
   went_on opens lighter busy st =
       let h = opens.drives in
       let v' : DriverView = d.side.after v st.op st.access st.got in
@@ -260,15 +284,15 @@ module _ {P D : Type 0} (port : PortModel P) (d : DriverModel D) (law : IsLawful
         got = st.got;
         was_next = st.was_next;
         moved = st.moved;
-        drives = same_done act.Moved st opens st.says.1 (subst (λ (f : Frame). BegunIs (d.begun y) (next_at s.runs at) f v'.done) (sym framed) (subst (λ (z : List DriverDone). BegunIs (d.begun y) (next_at s.runs at) v.frame z) (sym st.says.1) (goes_on (d.begun b) (d.begun y) (next_at s.runs at) v.frame v.done st.says.0 h.begun)));
+        drives = same_done act.Moved u st opens st.says.1 (subst (λ (f : Frame). BegunIs u (d.begun y) (next_at s.runs at) f v'.done) (sym framed) (subst (λ (z : List DriverDone). BegunIs u (d.begun y) (next_at s.runs at) v.frame z) (sym st.says.1) (goes_on u (d.begun b) (d.begun y) (next_at s.runs at) v.frame v.done st.says.0 h.begun)));
         grows = record { offers = prefix_same (offers v.done) (offers v'.done) (ap offers st.says.1); collects = prefix_same (collects v.done) (collects v'.done) (ap collects st.says.1) };
         looked = λ z. let e : act.Moved ≡ act.Asleep = st.is_answer ∙ z in cc;
         waits = λ z. absurd (cc);
         nearer = λ z. omega (arith, weight_goes (d.begun b) (d.begun y) (d.left b) (d.left y) busy st.says.0 st.left);
       }
 
-  pub other : (answer : DriverAct) → DriveOpens d s (drive b at o r n false) v → drive_weight (d.begun b) (d.left b) ≤ drive_weight (d.begun a) (d.left a) → d.begun b ≢ DriverOp.idle
-      → ((k : ℕ) → answer ≢ act.Offered k) → ((k len hd : ℕ) → answer ≢ act.Collected k len hd) → answer ≢ act.Nothing → IsDriverStep port d p q v b y answer → IsDriveTurn port d s p q v (drive a at o r n false) (drive y at o r n false) Worked
+  pub other : (answer : DriverAct) → DriveOpens d s (drive b at o r n false u) v → drive_weight (d.begun b) (d.left b) ≤ drive_weight (d.begun a) (d.left a) → d.begun b ≢ DriverOp.idle
+      → ((k : ℕ) → answer ≢ act.Offered k) → ((k len hd : ℕ) → answer ≢ act.Collected k len hd) → answer ≢ act.Nothing → IsDriverStep port d p q v b y answer → IsDriveTurn port d s p q v (drive a at o r n false u) (drive y at o r n false u) Worked
   other act.Moved opens lighter busy f g w st = went_on opens lighter busy st
   other (act.Offered k) opens lighter busy f g w st = absurd (f k refl)
   other (act.Collected k len hd) opens lighter busy f g w st = absurd (g k len hd refl)
@@ -278,10 +302,10 @@ module _ {P D : Type 0} (port : PortModel P) (d : DriverModel D) (law : IsLawful
   other act.Asleep opens lighter busy f g w st = absurd st.says
 
   -- the place in a run fits
-  pub used_fits : (k : ℕ) → DriveOpens d s (drive b at o r n false) v → IsDriverStep port d p q v b y (act.Offered k) → at.used + 1 < 4294967296
+  pub used_fits : (k : ℕ) → DriveOpens d s (drive b at o r n false u) v → IsDriverStep port d p q v b y (act.Offered k) → at.used + 1 < 4294967296
   used_fits k opens st =
       let h = opens.drives in
-      let next : next_at s.runs at ≡ Some st.says.0 = subst (λ z. BegunIs z (next_at s.runs at) v.frame v.done) st.says.1 h.begun in
+      let next : next_at s.runs at ≡ Some st.says.0 = subst (λ z. BegunIs u z (next_at s.runs at) v.frame v.done) st.says.1 h.begun in
       omega (arith, used_small s.runs at st.says.0 h.settled next, h.few)
 
 pub test_is : (a b x y : ℕ) → a ≡ x → b ≡ y → (a == b) ≡ (x == y)

@@ -26,10 +26,10 @@ same_script x y s p q = some (sym (ap script_of p) ∙ q)
     some : Some y.script ≡ Some s → y.script ≡ s
     some e = cc
 
-pub opened : {D : Type 0} (d : DriverModel D) (end : Option D) (x : Option Loaded) (v : DriverView) (z : D) (y : Loaded) → GuestHolds d end x v → end ≡ Some z → x ≡ Some y → Drives d y.script (drive z y.at y.offered y.returned.items (vec_capacity y.returned) y.done) v
+pub opened : {D : Type 0} (d : DriverModel D) (end : Option D) (x : Option Loaded) (v : DriverView) (z : D) (y : Loaded) → GuestHolds d end x v → end ≡ Some z → x ≡ Some y → Drives d y.script (drive z y.at y.offered y.returned.items (vec_capacity y.returned) y.done y.turn) v
 opened d end x v z y h is_end is_y =
-    subst (λ e. Drives d y.script (drive e y.at y.offered y.returned.items (vec_capacity y.returned) y.done) v) (some_same h.is_end z end h.at_end is_end)
-    (subst (λ (l : Loaded). Drives d l.script (drive h.is_end l.at l.offered l.returned.items (vec_capacity l.returned) l.done) v) (some_same h.is_loaded y x h.at_loaded is_y) h.drives)
+    subst (λ e. Drives d y.script (drive e y.at y.offered y.returned.items (vec_capacity y.returned) y.done y.turn) v) (some_same h.is_end z end h.at_end is_end)
+    (subst (λ (l : Loaded). Drives d l.script (drive h.is_end l.at l.offered l.returned.items (vec_capacity l.returned) l.done l.turn) v) (some_same h.is_loaded y x h.at_loaded is_y) h.drives)
 
 pub planned : {D : Type 0} (d : DriverModel D) (end : Option D) (x : Option Loaded) (v : DriverView) (y : Loaded) → GuestHolds d end x v → x ≡ Some y → IsPlan y
 planned d end x v y h is_y = subst (λ (l : Loaded). IsPlan l) (some_same h.is_loaded y x h.at_loaded is_y) h.plan
@@ -53,7 +53,7 @@ done_zero false op r n is idle none = elim (cases_eq n 0) [ inl e ↦ absurd (le
 
 pub booted : {D : Type 0} (d : DriverModel D) (end : D) (y : Loaded) (at : Cursor) (t : Bool) (v : DriverView) → d.begun end ≡ DriverOp.idle → IsPlan y → y.offered ≡ 0 → y.returned.items ≡ []
     → left_at y.script.runs at ≡ left_at y.script.runs (record { run = 0; used = 0 }) → IsSettled y.script.runs at → t ≡ (y.total == 0) → d.stands end v → CanBoot y.script v
-    → Drives d y.script (drive end at y.offered y.returned.items (vec_capacity y.returned) t) v
+    → Drives d y.script (drive end at y.offered y.returned.items (vec_capacity y.returned) t y.turn) v
 booted d end y at t v idle plan none empty left settled is stands can =
     let total = total_is y plan in
     record {
@@ -64,7 +64,7 @@ booted d end y at t v idle plan none empty left settled is stands can =
       some = omega arith;
       returned = empty ∙ ap (map as_return) (sym (ap collects can.fresh));
       count = omega (arith, ap (λ (o : List DriverDone). length (offers o)) can.fresh, ap (λ (o : List DriverDone). length (collects o)) can.fresh, ap (λ (o : List DriverDone). length (open_at o)) can.fresh);
-      begun = subst (λ z. BegunIs z (next_at y.script.runs at) v.frame v.done) (sym idle) tt;
+      begun = subst (λ z. BegunIs y.turn z (next_at y.script.runs at) v.frame v.done) (sym idle) tt;
       done = done_zero t (d.begun end) (length y.returned.items) (length (chains y.script)) (is ∙ ap (λ n. n == 0) total) idle (ap length empty);
       room = omega (arith, plan.room, total);
       few = omega (arith, plan.few, total);
@@ -81,13 +81,13 @@ not_all : (t : Bool) (op : DriverOp) (n m : ℕ) → t ≡ false → DoneIs t op
 not_all true op n m e h = absurd (cc)
 not_all false op n m e h = h
 
-module _ {D : Type 0} (d : DriverModel D) (s s' : Script) (end : D) (at : Cursor) (o : ℕ) (r : List Rattle.vd_model.specs.declared.record.Return.Return) (n : ℕ) (t : Bool) (v : DriverView) where
-  pub fewer : Drives d s (drive end at o r n t) v → t ≡ false → s ≡ s' → length (collects v.done) < length (chains s')
+module _ {D : Type 0} (d : DriverModel D) (s s' : Script) (end : D) (at : Cursor) (o : ℕ) (r : List Rattle.vd_model.specs.declared.record.Return.Return) (n : ℕ) (t u : Bool) (v : DriverView) where
+  pub fewer : Drives d s (drive end at o r n t u) v → t ≡ false → s ≡ s' → length (collects v.done) < length (chains s')
   fewer h live same =
       let less = not_all t (d.begun end) (length r) (length (chains s)) live h.done in
       subst (λ (z : Script). length (collects v.done) < length (chains z)) same (omega (arith, less, ap length h.returned ∙ length-map (collects v.done) as_return))
 
-  pub stuck : Drives d s (drive end at o r n t) v → s ≡ s' → IsStuck (next_at s.runs at) v.frame v.done → (c : List Piece) → slice_get (chains s') (length (offers v.done)) ≡ Some c → HasRoom v.frame v.done c → ⊥
+  pub stuck : Drives d s (drive end at o r n t u) v → s ≡ s' → IsStuck (next_at s.runs at) v.frame v.done → (c : List Piece) → slice_get (chains s') (length (offers v.done)) ≡ Some c → HasRoom v.frame v.done c → ⊥
   stuck h same closed c get room =
       let many : length (offers v.done) ≡ o = ap length h.offers ∙ length-take-le o (chains s) h.some in
       let next : next_at s.runs at ≡ Some c = ap (λ cs. slice_get cs 0) h.left ∙ get_drop o (chains s) ∙ ap (slice_get (chains s)) (sym many) ∙ ap (λ (z : Script). slice_get (chains z) (length (offers v.done))) same ∙ get in

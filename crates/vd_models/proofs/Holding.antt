@@ -1,5 +1,5 @@
 -- What a take, a give and a rest do to what a model device holds and has recorded.
-use Rattle.std.proofs.Common.{◌≡◌, ℕ, zero, suc, ◌+◌, ◌-◌, ◌<◌, ◌≤◌, Bool, true, false, Some, List, [], ◌∷◌, ◌++◌, length, drop, slice_get, slice_index_or, nat_lt, refl, sym, ◌∙◌, ap, subst, arith, inl, inr}
+use Rattle.std.proofs.Common.{◌≡◌, ℕ, zero, suc, ◌+◌, ◌-◌, ◌<◌, ◌≤◌, Bool, true, false, Some, List, [], ◌∷◌, ◌++◌, length, map, drop, slice_get, slice_index_or, nat_lt, refl, sym, ◌∙◌, ap, subst, arith, inl, inr}
 use Rattle.std.specs.List.{All}
 use Rattle.std.proofs.lemmas.Bool.{cases_lt}
 use Rattle.std.proofs.lemmas.List.{map-append, map_push, length-map, length-append, length_push, take_all, drop-append-le, get_or_append_left, get_or_push, get_or-drop, nil_from_length}
@@ -18,7 +18,7 @@ use Rattle.vd_layout.specs.Device.{MayGive}
 use Rattle.vd_bus.specs.declared.device.Attached.{Attached}
 use Rattle.vd_bus.specs.Device.{IsServing, IsJournalled, IsBegun, chains_of, lens_of}
 use Rattle.vd_models.specs.declared.serving.Held.{Held}
-use Rattle.vd_models.specs.Serving.{IsHeld, next_held, rest_held, held_numbers, begun_of, held_of}
+use Rattle.vd_models.specs.Serving.{HaveLens, given_len, IsHeld, next_held, rest_held, held_numbers, begun_of, held_of}
 use Rattle.vd_models.proofs.Lists.{next_is, All-rest_held}
 
 -- ---- the journal
@@ -34,6 +34,11 @@ get_last (y ∷ xs) x = get_last xs x
 
 lens_more : (bs : List Begun) (b : Begun) → lens_of (bs ++ b ∷ []) ≡ lens_of bs ++ b.len ∷ []
 lens_more bs b = map_push (λ (z : Begun). z.len) bs b
+
+-- a chain more has its length
+pub lens_begun : (bs bs' : List Begun) (c : List Piece) → bs' ≡ bs ++ begun_of c ∷ [] → HaveLens bs → HaveLens bs'
+lens_begun bs bs' c is h =
+    ap lens_of is ∙ lens_more bs (begun_of c) ∙ ap (λ zs. zs ++ given_len c ∷ []) h ∙ sym (ap (map given_len) (ap chains_of is ∙ map_push (λ (z : Begun). z.chain) bs (begun_of c)) ∙ map_push given_len (chains_of bs) c)
 
 still_journalled : (bs : List Begun) (b : Begun) (at from : ℕ) (u : Used) → IsJournalled bs at from u → IsJournalled (bs ++ b ∷ []) at from u
 still_journalled bs b at from u h = record { since = h.since; len = ap (λ zs. slice_get zs (u.number - from + at)) (lens_more bs b) ∙ get_more (lens_of bs) (b.len ∷ []) (u.number - from + at) u.len h.len }

@@ -8,3 +8,4 @@ pub mod Scripts
 pub mod Drives
 pub mod DrivePhases
 pub mod GuestParties
+pub mod Faults

@@ -2,7 +2,7 @@
 use Rattle.std.proofs.Common.{◌≡◌, ◌↔◌, ℕ, ◌+◌, ◌<◌, ◌≤◌, ◌==◌, Bool, true, false, Option, Some, None, Result, Ok, Err, is_err, OnOk, List, [], length, nat_lt, if◌then◌else◌, refl, sym, ◌∙◌, ap, subst, arith, inl, inr}
 use Rattle.std.specs.List.{All}
 use Rattle.std.proofs.lemmas.Bool.{cases_eq, cases_lt, eq-eqb, ne_eqb}
-use Rattle.std.proofs.lemmas.List.{drop_all}
+use Rattle.std.proofs.lemmas.List.{drop_all, length-map}
 use Rattle.std.proofs.lemmas.List.Elements.{All-nil}
 use Rattle.vd_model.specs.declared.record.Begun.{Begun}
 use Rattle.vd_ring.specs.declared.device.DeviceDone.{DeviceDone}
@@ -22,7 +22,7 @@ use Rattle.circular_buffer.specs.Buffer.{Buffer}
 use Rattle.vd_models.specs.declared.serving.Held.{Held}
 use Rattle.vd_models.specs.declared.serving.Stage.{Stage}
 use Rattle.vd_models.specs.declared.serving.Stage.TheVariants as stage
-use Rattle.vd_models.specs.Serving.{Holds, Serves, Opens, IsHeld, State, state, held_numbers, is_done, move_of, journal_room, HasWindow}
+use Rattle.vd_models.specs.Serving.{HaveLens, capacity_of, Holds, Serves, Opens, IsHeld, State, state, held_numbers, is_done, move_of, journal_room, HasWindow}
 
 some_same : {A : Type 0} (x y : A) (o : Option A) → o ≡ Some x → o ≡ Some y → x ≡ y
 some_same x y o p q = cc
@@ -60,8 +60,8 @@ whole_spread s none even whole k = elim (cases_lt k (length (gives s))) [
 -- an end that was resumed, with an empty window
 pub starts : {E : Type 0} (e : DeviceModel E) (law : IsLawfulDevice e) (end end' : E) (by : Attached) (held : Buffer Held) (begun : Reserved Begun) (w : DeviceView)
     → e.stands end w → IsStill e end → e.stands end' w → e.begun end' ≡ DeviceOp.idle → e.resting end' ≡ false → by.at ≡ length begun.items → by.from ≡ length (takes w.done) → held.items ≡ [] → 0 < held.capacity
-    → by.order.count ≤ begun.room → by.at + by.order.count < 4294967296 → Serves e by (state end' stage.Taking held begun) w
-starts e law end end' by held begun w stands still stands' idle awake is_at is_from none some room small =
+    → by.order.count ≤ begun.room → by.at + by.order.count < 4294967296 → HaveLens begun.items → Serves e by (state end' stage.Taking held begun) w
+starts e law end end' by held begun w stands still stands' idle awake is_at is_from none some room small lens =
     let h = law.whole end w stands still in
     record {
       stands = stands';
@@ -86,6 +86,7 @@ starts e law end end' by held begun w stands still stands' idle awake is_at is_f
       window = omega (arith, ap length none);
       room = omega arith;
       small = small;
+      lens = lens;
     }
 
 -- ---- the room for events
@@ -124,3 +125,17 @@ ok_of (Err x) P ok h = absurd (cc)
 
 pub same_by : (o : Option Attached) (a b : Attached) (n : ℕ) → o ≡ Some a → o ≡ Some b → n < a.at + a.order.count → n < b.at + b.order.count
 same_by o a b n p q h = subst (λ (z : Attached). n < z.at + z.order.count) (some_same a b o p q) h
+
+-- ---- the window
+
+window_most : (st : Stage) (n capacity : ℕ) → HasWindow st n capacity → n ≤ capacity
+window_most stage.Taking n capacity h = omega arith
+window_most stage.Giving n capacity h = h.0
+window_most stage.Done n capacity h = h.0
+
+-- no more chains run than it has room for
+pub running_within : {E : Type 0} (e : DeviceModel E) (end : Option E) (by : Option Attached) (held : Option (Buffer Held)) (st : Stage) (j : Journal) (w : DeviceView) → Holds e end by held st j w → length (running w.done) ≤ capacity_of held
+running_within e end by held st j w h =
+    let most : length h.is_held.items ≤ h.is_held.capacity = window_most st (length h.is_held.items) h.is_held.capacity h.serves.window in
+    let many : length h.is_held.items ≡ length (running w.done) = sym (length-map h.is_held.items (λ (x : Held). x.number)) ∙ ap length h.serves.held.hand in
+    omega (arith, most, many, ap capacity_of h.at_held)

@@ -34,6 +34,7 @@ module _ {P D E : Type 0} (port : PortModel P) (law : IsLawfulPort port) (d : Dr
     grows = record { takes = prefix_same (takes w.done) (takes w.done) refl; gives = prefix_same (gives w.done) (gives w.done) refl };
     begun = prefix_same x.begun.items x.begun.items refl;
     room = omega arith;
+    capacity = refl;
   }
 
   pub own_at : (p q : P) (v : DriverView) (w : DeviceView) (x y : State E) → (s : SoFar port e l by p q v w x y) → IsOwn port e.side q s.view
@@ -53,6 +54,7 @@ module _ {P D E : Type 0} (port : PortModel P) (law : IsLawfulPort port) (d : Dr
         grows = record { takes = prefix_through (takes w.done) (takes s.view.done) (takes u.done) s.grows.takes t.grows.takes; gives = prefix_through (gives w.done) (gives s.view.done) (gives u.done) s.grows.gives t.grows.gives };
         begun = prefix_through x.begun.items y.begun.items z.begun.items s.begun t.begun;
         room = omega (arith, s.room, t.room);
+        capacity = t.capacity ∙ s.capacity;
       }
 
   prefix_le : {A : Type 0} (xs ys : List A) → IsPrefix xs ys → length xs ≤ length ys

@@ -13,6 +13,7 @@ use Rattle.vd_ring.specs.declared.device.DeviceDone.TheVariants.{Take, Give, Res
 use Rattle.vd_ring.specs.declared.device.DeviceView.{DeviceView}
 use Rattle.vd_ring.specs.declared.frame.Frame.{Frame}
 use Rattle.vd_ring.specs.History.{entry, takes, gives}
+use Rattle.vd_layout.proofs.OnePair.{says_given}
 use Rattle.vd_layout.specs.Begun.{DeviceOp, DevicePublished}
 use Rattle.vd_layout.specs.Device.{DeviceModel, IsDeviceStep, IsLawfulDevice}
 use Rattle.vd_bus.specs.declared.device.Attached.{Attached}
@@ -25,7 +26,7 @@ use Rattle.vd_models.specs.declared.serving.Stage.TheVariants as stage
 use Rattle.vd_models.specs.declared.serving.Turn.TheVariants.{Worked, Waits}
 use Rattle.vd_models.specs.Serving.{state, Serves, Opens, IsTurn, IsHeld, StageIs, HasWindow, next_held, rest_held, begun_of, held_of, taken_stage, given_stage, is_done, weight, operations, HasMore}
 use Rattle.vd_models.proofs.Lists.{prefix_same, prefix_push, next_is, All-next}
-use Rattle.vd_models.proofs.Holding.{serving_taken, serving_given, serving_rested, held_taken, held_given, held_rested, takes_rested}
+use Rattle.vd_models.proofs.Holding.{lens_begun, serving_taken, serving_given, serving_rested, held_taken, held_given, held_rested, takes_rested}
 use Rattle.vd_models.proofs.Stages.{at_take, at_give, at_rest, goes_on, some_more, weight_goes, weight_published, weight_at, operations_taken, operations_given, not_first, not_second, apart, zero_test, some_test, fewer, fewer_by, as_far}
 
 module _ {P E : Type 0} (port : PortModel P) (e : DeviceModel E) (law : IsLawfulDevice e) (p q : P) (by : Attached) (w : DeviceView) (a b y : E) where
@@ -87,10 +88,12 @@ module _ {P E : Type 0} (port : PortModel P) (e : DeviceModel E) (law : IsLawful
           window = window_taken full (length begun'.items) all (length held'.items) held'.capacity is_full (omega arith) (omega (arith, v.window));
           room = omega (arith, v.room);
           small = v.small;
+          lens = lens_begun begun.items begun'.items c is_begun v.lens;
         };
         grows = record { takes = prefix_push (takes w.done) (takes w'.done) c (ap takes done); gives = prefix_same (gives w.done) (gives w'.done) (ap gives done) };
         begun = prefix_push begun.items begun'.items (begun_of c) is_begun;
         room = omega arith;
+        capacity = c';
         looked = λ z. let t : act.Taken k c ≡ act.Asleep = s.is_answer ∙ z in cc;
         rested = λ z. let t : act.Taken k c ≡ act.Rested = s.is_answer ∙ z in absurd (cc);
         waits = λ z. absurd (cc);
@@ -127,15 +130,16 @@ module _ {P E : Type 0} (port : PortModel P) (e : DeviceModel E) (law : IsLawful
       → IsTurn port e by p q w (state a stage.Giving held begun) (state y (given_stage empty) held' begun) Worked
   gave io held held' begun k empty is opens lighter s next is_held is_empty =
       let v = opens.serves in
+      let said = says_given e.words k (e.begun b) (e.begun y) w.frame w.done (e.side.after w s.op s.access s.got).done s.says in
       let n : ℕ = s.says.0 in
       let w' : DeviceView = e.side.after w s.op s.access s.got in
       let framed : w'.frame ≡ w.frame = law.framed w s.op s.access s.got in
-      let done : w'.done ≡ Give (entry k n ∷ []) ∷ w.done = s.says.3 in
+      let done : w'.done ≡ Give (entry k n ∷ []) ∷ w.done = said.done in
       let items : held'.items ≡ rest_held io held.items = ap (λ (z : Buffer Held). z.items) is_held in
       let c' : held'.capacity ≡ held.capacity = ap (λ (z : Buffer Held). z.capacity) is_held in
       let nx = next_is io held.items (record { number = k; len = n }) next in
       let h' : length held'.items + 1 ≡ length held.items = ap (λ (z : List Held). length z + 1) items ∙ nx.shorter in
-      let left : weight (e.begun b) (e.left b) ≡ e.left b = weight_at (e.begun b) (DeviceOp.give k n) (e.left b) s.says.1 in
+      let left : weight (e.begun b) (e.left b) ≡ e.left b = weight_at (e.begun b) (DeviceOp.give k n) (e.left b) said.begun in
       let all : ℕ = by.at + by.order.count in
       record {
         op = s.op;
@@ -150,22 +154,24 @@ module _ {P E : Type 0} (port : PortModel P) (e : DeviceModel E) (law : IsLawful
               (subst (λ (z : List DeviceDone). IsHeld begun.items by held'.items w.frame z) (sym done)
               (subst (λ (z : List Held). IsHeld begun.items by z w.frame (Give (entry k n ∷ []) ∷ w.done)) (sym items)
               (held_given io begun.items by held.items w.frame w.done k n is next v.held)));
-          stage = stage_given empty w'.frame.features.in_order (e.begun y) held'.items (length begun.items) all s.says.2 is_empty;
+          stage = stage_given empty w'.frame.features.in_order (e.begun y) held'.items (length begun.items) all said.published is_empty;
           rests = s.rests ∙ sym (live_given empty);
           window = window_given empty (length held'.items) held'.capacity is_empty (omega (arith, v.window)) (omega (arith, v.window));
           room = v.room;
           small = v.small;
+          lens = v.lens;
         };
         grows = record { takes = prefix_same (takes w.done) (takes w'.done) (ap takes done); gives = prefix_push (gives w.done) (gives w'.done) (entry k n) (ap gives done) };
         begun = prefix_same begun.items begun.items refl;
         room = omega arith;
+        capacity = c';
         looked = λ z. let t : act.Given k ≡ act.Asleep = s.is_answer ∙ z in cc;
         rested = λ z. let t : act.Given k ≡ act.Rested = s.is_answer ∙ z in absurd (cc);
         waits = λ z. absurd (cc);
         nearer = λ z.
             let steps = operations_given empty (all - length begun.items) (length held'.items) (zero_test (length held'.items) empty is_empty) in
             let there : operations stage.Giving (all - length begun.items) (length held'.items + 1) ≡ operations stage.Giving (all - length begun.items) (length held.items) = ap (operations stage.Giving (all - length begun.items)) h' in
-            fewer_by (operations (given_stage empty) (all - length begun.items) (length held'.items)) (operations stage.Giving (all - length begun.items) (length held.items)) (weight (e.begun y) (e.left y)) (weight (e.begun a) (e.left a)) (e.left y) (omega (arith, steps, there)) (weight_published (e.begun y) (e.left y) s.says.2) (omega (arith, s.left));
+            fewer_by (operations (given_stage empty) (all - length begun.items) (length held'.items)) (operations stage.Giving (all - length begun.items) (length held.items)) (weight (e.begun y) (e.left y)) (weight (e.begun a) (e.left a)) (e.left y) (omega (arith, steps, there)) (weight_published (e.begun y) (e.left y) said.published) (omega (arith, s.left));
       }
 
   -- ---- a look that shows nothing
@@ -185,6 +191,7 @@ module _ {P E : Type 0} (port : PortModel P) (e : DeviceModel E) (law : IsLawful
         window = window;
         room = v.room;
         small = v.small;
+        lens = v.lens;
       }
 
   waited : (held : Buffer Held) (begun : Reserved Begun) → Opens e by (state b stage.Taking held begun) w → length begun.items < by.at + by.order.count → IsDeviceStep port e p q w b y act.Nothing → held.items ≡ []
@@ -201,6 +208,7 @@ module _ {P E : Type 0} (port : PortModel P) (e : DeviceModel E) (law : IsLawful
         grows = record { takes = prefix_same (takes w.done) (takes w'.done) (ap takes s.says.2); gives = prefix_same (gives w.done) (gives w'.done) (ap gives s.says.2) };
         begun = prefix_same begun.items begun.items refl;
         room = omega arith;
+        capacity = refl;
         looked = λ z. let t : act.Nothing ≡ act.Asleep = s.is_answer ∙ z in cc;
         rested = λ z. let t : act.Nothing ≡ act.Rested = s.is_answer ∙ z in absurd (cc);
         waits = λ z. (sym s.is_answer, none, more, refl, s.says.1);
@@ -222,6 +230,7 @@ module _ {P E : Type 0} (port : PortModel P) (e : DeviceModel E) (law : IsLawful
         grows = record { takes = prefix_same (takes w.done) (takes w'.done) (ap takes s.says.2); gives = prefix_same (gives w.done) (gives w'.done) (ap gives s.says.2) };
         begun = prefix_same begun.items begun.items refl;
         room = omega arith;
+        capacity = refl;
         looked = λ z. let t : act.Nothing ≡ act.Asleep = s.is_answer ∙ z in cc;
         rested = λ z. let t : act.Nothing ≡ act.Rested = s.is_answer ∙ z in absurd (cc);
         waits = λ z. absurd (cc);
@@ -255,10 +264,12 @@ module _ {P E : Type 0} (port : PortModel P) (e : DeviceModel E) (law : IsLawful
           window = (omega (arith, v.window), omega (arith, v.window));
           room = v.room;
           small = v.small;
+          lens = v.lens;
         };
         grows = record { takes = prefix_same (takes w.done) (takes w'.done) (ap takes done ∙ takes_rested w.done even); gives = prefix_same (gives w.done) (gives w'.done) (ap gives done) };
         begun = prefix_same begun.items begun.items refl;
         room = omega arith;
+        capacity = refl;
         looked = λ z. let t : act.Rested ≡ act.Asleep = s.is_answer ∙ z in cc;
         rested = λ z. refl;
         waits = λ z. absurd (cc);
@@ -289,10 +300,12 @@ module _ {P E : Type 0} (port : PortModel P) (e : DeviceModel E) (law : IsLawful
           window = v.window;
           room = v.room;
           small = v.small;
+          lens = v.lens;
         };
         grows = record { takes = prefix_same (takes w.done) (takes w'.done) (ap takes s.says.1); gives = prefix_same (gives w.done) (gives w'.done) (ap gives s.says.1) };
         begun = prefix_same begun.items begun.items refl;
         room = omega arith;
+        capacity = refl;
         looked = λ z. let t : act.Moved ≡ act.Asleep = s.is_answer ∙ z in cc;
         rested = λ z. let t : act.Moved ≡ act.Rested = s.is_answer ∙ z in absurd (cc);
         waits = λ z. absurd (cc);
@@ -324,7 +337,7 @@ module _ {P E : Type 0} (port : PortModel P) (e : DeviceModel E) (law : IsLawful
       → held' ≡ buffer (rest_held io held.items) held.capacity → empty ≡ (length held'.items == 0)
       → IsTurn port e by p q w (state a st held begun) (state y (given_stage empty) held' begun) Worked
   given_at st io held held' begun k empty same is opens lighter s is_held is_empty =
-      let t = at_give st (e.begun b) w.frame.features.in_order held.items (length begun.items) (by.at + by.order.count) k s.says.0 s.says.1 opens.live opens.serves.stage in
+      let t = at_give st (e.begun b) w.frame.features.in_order held.items (length begun.items) (by.at + by.order.count) k s.says.0 s.says.2 opens.live opens.serves.stage in
       let order : w.frame.features.in_order ≡ io = sym (is ∙ ap (λ (f : Features). f.in_order) same) in
       subst (λ z. IsTurn port e by p q w (state a z held begun) (state y (given_stage empty) held' begun) Worked) (sym t.0)
       (gave io held held' begun k empty order (subst (λ z. Opens e by (state b z held begun) w) t.0 opens) lighter s (ap (λ i. next_held i held.items) (sym order) ∙ t.1) is_held is_empty)

@@ -26,7 +26,8 @@ use Rattle.vd_models.specs.declared.serving.Turn.{Turn}
 use Rattle.vd_models.specs.declared.serving.Turn.TheVariants.{Worked, Waits}
 use Rattle.vd_models.specs.Cursors.{left_at, next_at, IsSettled}
 
--- the end; the place in the script; how many chains were offered; what came back, and for how many there is room; whether all is done
+-- the end; the place in the script; how many chains were offered; what came back, and for how many there is room; whether all is
+-- done; whether it collects until nothing is shown, before it offers again
 pub record Drive (D : Type 0) : Type 0 where
   pub end : D
   pub at : Cursor
@@ -34,21 +35,22 @@ pub record Drive (D : Type 0) : Type 0 where
   pub returned : List Return
   pub capacity : ℕ
   pub done : Bool
+  pub turn : Bool
 
-abbrev pub drive : {D : Type 0} → D → Cursor → ℕ → List Return → ℕ → Bool → Drive D
-drive e a o r n d = record { end = e; at = a; offered = o; returned = r; capacity = n; done = d }
+abbrev pub drive : {D : Type 0} → D → Cursor → ℕ → List Return → ℕ → Bool → Bool → Drive D
+drive e a o r n d u = record { end = e; at = a; offered = o; returned = r; capacity = n; done = d; turn = u }
 
 -- the next chain, if one is left, has no room
 abbrev pub IsStuck : Option (List Piece) → Frame → List DriverDone → Type 0
 IsStuck None f o = Unit {0}
 IsStuck (Some c) f o = HasRoom f o c → ⊥
 
--- what the operation that was begun goes with
-abbrev pub BegunIs : DriverOp → Option (List Piece) → Frame → List DriverDone → Type 0
-BegunIs DriverOp.idle next f o = Unit {0}
-BegunIs DriverOp.signal next f o = Unit {0}
-BegunIs (DriverOp.offer c) next f o = next ≡ Some c
-BegunIs DriverOp.collect next f o = IsStuck next f o
+-- what the operation that was begun goes with: a collect is begun out of turn only where nothing can be offered
+abbrev pub BegunIs : Bool → DriverOp → Option (List Piece) → Frame → List DriverDone → Type 0
+BegunIs u DriverOp.idle next f o = Unit {0}
+BegunIs u DriverOp.signal next f o = Unit {0}
+BegunIs u (DriverOp.offer c) next f o = next ≡ Some c
+BegunIs u DriverOp.collect next f o = u ≡ false → IsStuck next f o
 
 abbrev pub DoneIs : Bool → DriverOp → ℕ → ℕ → Type 0
 DoneIs true op returned all = (op ≡ DriverOp.idle) × (returned ≡ all)
@@ -62,7 +64,7 @@ pub record Drives {D : Type 0} (d : DriverModel D) (s : Script) (x : Drive D) (v
   pub some : x.offered ≤ length (chains s)
   pub returned : x.returned ≡ map as_return (collects v.done)
   pub count : length (Rattle.vd_ring.specs.History.offers v.done) ≡ length (collects v.done) + length (open_at v.done)
-  pub begun : BegunIs (d.begun x.end) (next_at s.runs x.at) v.frame v.done
+  pub begun : BegunIs x.turn (d.begun x.end) (next_at s.runs x.at) v.frame v.done
   pub done : DoneIs x.done (d.begun x.end) (length x.returned) (length (chains s))
   pub room : length (chains s) ≤ x.capacity
   pub few : length (chains s) ≤ 4000000000
@@ -80,8 +82,12 @@ drive_weight DriverOp.idle n = 45
 drive_weight DriverOp.signal n = 46 + n
 drive_weight _ n = n
 
+abbrev pub turn_left : Bool → ℕ
+turn_left true = 1
+turn_left false = 0
+
 abbrev pub drive_left : {D : Type 0} → DriverModel D → Script → Drive D → ℕ
-drive_left d s x = 50 * (3 * (length (chains s) - x.offered) + (x.offered - length x.returned)) + drive_weight (d.begun x.end) (d.left x.end)
+drive_left d s x = 50 * (4 * (length (chains s) - x.offered) + (x.offered - length x.returned) + turn_left x.turn) + drive_weight (d.begun x.end) (d.left x.end)
 
 -- one access of the port was made, which was next in the view, and the guest drives on at the view after it
 pub record IsDriveTurn {P D : Type 0} (port : PortModel P) (d : DriverModel D) (s : Script) (p q : P) (v : DriverView) (x y : Drive D) (answer : Turn) : Type 0 where
@@ -147,4 +153,4 @@ pub record GuestHolds {D : Type 0} (d : DriverModel D) (end : Option D) (loaded 
   pub at_end : end ≡ Some is_end
   pub at_loaded : loaded ≡ Some is_loaded
   pub plan : IsPlan is_loaded
-  pub drives : Drives d is_loaded.script (drive is_end is_loaded.at is_loaded.offered is_loaded.returned.items (vec_capacity is_loaded.returned) is_loaded.done) v
+  pub drives : Drives d is_loaded.script (drive is_end is_loaded.at is_loaded.offered is_loaded.returned.items (vec_capacity is_loaded.returned) is_loaded.done is_loaded.turn) v

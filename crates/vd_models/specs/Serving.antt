@@ -22,7 +22,7 @@ use Rattle.vd_layout.specs.Device.{DeviceModel}
 use Rattle.vd_layout.specs.Layout.{LayoutModel}
 use Rattle.vd_bus.specs.declared.device.Attached.{Attached}
 use Rattle.vd_bus.specs.declared.journal.Journal.{Journal}
-use Rattle.vd_bus.specs.Device.{IsServing, IsJournalled, HasServed}
+use Rattle.vd_bus.specs.Device.{IsServing, IsJournalled, HasServed, chains_of, lens_of}
 use Rattle.vd_bus.specs.Entries.{Reserved}
 use Rattle.circular_buffer.specs.Buffer.{Buffer, last_item}
 use Rattle.vd_models.specs.declared.serving.Held.{Held}
@@ -86,6 +86,14 @@ abbrev pub HasWindow : Stage → ℕ → ℕ → Type 0
 HasWindow stage.Taking n capacity = n < capacity
 HasWindow _ n capacity = (n ≤ capacity) × (0 < capacity)
 
+-- the length that a chain is given with: the smaller of what may be read and written
+abbrev pub given_len : List Piece → ℕ
+given_len c = min (readable c) (writable c)
+
+-- each chain that was begun has that length
+abbrev pub HaveLens : List Begun → Type 0
+HaveLens bs = lens_of bs ≡ map given_len (chains_of bs)
+
 pub record Serves {E : Type 0} (e : DeviceModel E) (by : Attached) (x : State E) (w : DeviceView) : Type 0 where
   pub stands : e.stands x.end w
   pub serving : IsServing x.begun.items by w.done
@@ -95,6 +103,7 @@ pub record Serves {E : Type 0} (e : DeviceModel E) (by : Attached) (x : State E)
   pub window : HasWindow x.stage (length x.held.items) x.held.capacity
   pub room : by.at + by.order.count ≤ length x.begun.items + x.begun.room
   pub small : by.at + by.order.count < 4294967296
+  pub lens : HaveLens x.begun.items
 
 -- and it isn't done
 pub record Opens {E : Type 0} (e : DeviceModel E) (by : Attached) (x : State E) (w : DeviceView) : Type 0 where
@@ -103,10 +112,6 @@ pub record Opens {E : Type 0} (e : DeviceModel E) (by : Attached) (x : State E) 
 
 abbrev pub HasMore : Bool → Attached → List Begun → Type 0
 HasMore more by begun = IsTrue more ↔ (length begun < by.at + by.order.count)
-
--- the length that a chain is given with: the smaller of what may be read and written
-abbrev pub given_len : List Piece → ℕ
-given_len c = min (readable c) (writable c)
 
 abbrev pub begun_of : List Piece → Begun
 begun_of c = record { chain = c; len = given_len c; bytes = record { items = [] } }
@@ -153,6 +158,7 @@ pub record IsTurn {P E : Type 0} (port : PortModel P) (e : DeviceModel E) (by : 
   pub grows : HasServed w (e.side.after w op access got)
   pub begun : IsPrefix x.begun.items y.begun.items
   pub room : x.begun.room + length x.begun.items ≤ y.begun.room + length y.begun.items
+  pub capacity : y.held.capacity ≡ x.held.capacity
   pub looked : e.act w op access got ≢ act.Asleep
   pub rested : e.act w op access got ≡ act.Rested → is_done y.stage ≡ true
   pub waits : answer ≡ Waits → (e.act w op access got ≡ act.Nothing) × (y.held.items ≡ []) × (length y.begun.items < by.at + by.order.count) × (is_done y.stage ≡ false) × (e.begun y.end ≡ DeviceOp.idle)
@@ -169,6 +175,7 @@ pub record SoFar {P E : Type 0} (port : PortModel P) (e : DeviceModel E) (l : La
   pub grows : HasServed w view
   pub begun : IsPrefix x.begun.items y.begun.items
   pub room : x.begun.room + length x.begun.items ≤ y.begun.room + length y.begun.items
+  pub capacity : y.held.capacity ≡ x.held.capacity
 
 -- until the device is done, or waits: all that was offered is taken and given
 pub record IsServedAll {P E : Type 0} (port : PortModel P) (e : DeviceModel E) (l : LayoutModel) (by : Attached) (p q : P) (v : DriverView) (w : DeviceView) (x y : State E) : Type 0 where
@@ -178,6 +185,10 @@ pub record IsServedAll {P E : Type 0} (port : PortModel P) (e : DeviceModel E) (
   pub ends : (is_done y.stage ≡ true) ⊎ ((takes so_far.view.done ≡ offers v.done) × (length y.begun.items < by.at + by.order.count))
 
 -- ---- the device
+
+abbrev pub capacity_of : Option (Buffer Held) → ℕ
+capacity_of None = 0
+capacity_of (Some b) = b.capacity
 
 abbrev pub journal_room : Option (Buffer Held) → ℕ → ℕ
 journal_room None room = 0

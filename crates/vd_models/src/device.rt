@@ -1,7 +1,10 @@
 //! A device that takes chains up to its window, and then gives all of them back.
-ghost use Rattle.std.specs.Prelude.{◌≡◌, ◌<◌, ◌≤◌, ◌^◌, ◌↔◌, IsTrue, true, false, None, []};
+ghost use Rattle.std.specs.Prelude.{◌≡◌, ◌<◌, ◌≤◌, ◌^◌, ◌↔◌, IsTrue, true, false, None, [], length, min, OnOk};
+ghost use Rattle.vd_ring.specs.declared.device.DeviceView.{DeviceView};
+ghost use Rattle.vd_ring.specs.History.{running};
 ghost use Rattle.vd_control.specs.Settings.{default};
-ghost use Rattle.vd_models.specs.Serving.{Holds, journal_room, is_done, move_of};
+ghost use Rattle.vd_bus.specs.Device.{IsUnchanged};
+ghost use Rattle.vd_models.specs.Serving.{Holds, HaveLens, capacity_of, journal_room, is_done, move_of};
 ghost use Rattle.vd_models.specs.Laws.{held_law, serves_law, done_law};
 
 use crate::serving::{Held, Policy, Serving, Stage};
@@ -22,8 +25,13 @@ pub struct ModelDevice<L: Layout> {
     stage: Stage,
     held: Option<HeapCircularBuffer<Held>>,
     window: u32,
+    // the most chains that it holds, whatever its window
+    most: u32,
     settings: Settings,
     journal: Journal,
+    ghost some: { 1 ≤ most },
+    ghost sized: { capacity_of held ≤ min window most },
+    ghost lens: { HaveLens journal.begun.items },
 }
 
 impl<L: Layout> ModelDevice<L> {
@@ -35,6 +43,20 @@ impl<L: Layout> ModelDevice<L> {
         ensures begun { ⟦<ModelDevice<L> as Device<L>>⟧.party.begun result ≡ [] }
         ensures settings { ⟦<ModelDevice<L> as Device<L>>⟧.party.settings result ≡ default }
         ensures faults { ⟦<ModelDevice<L> as Device<L>>⟧.party.faults result ≡ 0 }
+        ensures window { result.window ≡ window }
+    {
+        ModelDevice::with_most(alloc, window, 64)
+    }
+
+    /// The same, which holds at most so many chains, whatever its window.
+    pub(crate) fn with_most(alloc: Global, window: u32, most: u32) -> ModelDevice<L>
+        requires { 1 ≤ most }
+        ensures free { ⟦<ModelDevice<L> as Device<L>>⟧.party.attached result ≡ None }
+        ensures events { ⟦<ModelDevice<L> as Device<L>>⟧.party.events result ≡ [] }
+        ensures begun { ⟦<ModelDevice<L> as Device<L>>⟧.party.begun result ≡ [] }
+        ensures settings { ⟦<ModelDevice<L> as Device<L>>⟧.party.settings result ≡ default }
+        ensures window { result.window ≡ window }
+        ensures most { result.most ≡ most }
     {
         ModelDevice {
             end: None,
@@ -42,9 +64,29 @@ impl<L: Layout> ModelDevice<L> {
             stage: Stage::Taking,
             held: None,
             window,
+            most,
             settings: Settings::new(),
             journal: Journal::new(alloc),
         }
+    }
+
+    /// The most chains that it holds at a time. What it has begun has the smaller of the readable and the writable bytes as
+    /// its length, and no attach of it is refused.
+    pub fn window(&self) -> u32
+        ensures window { result ≡ self.now.window }
+        ensures holds { (w : DeviceView) → ⟦<ModelDevice<L> as Device<L>>⟧.party.holds self.now w → length (running w.done) ≤ result }
+        ensures lens { HaveLens (⟦<ModelDevice<L> as Device<L>>⟧.party.begun self.now) }
+        ensures faultless { ⟦<ModelDevice<L> as Device<L>>⟧.party.faults self.now ≡ 0 }
+    {
+        self.window
+    }
+
+    /// The most chains that it holds, whatever its window.
+    pub(crate) fn most(&self) -> u32
+        ensures most { result ≡ self.now.most }
+        ensures holds { (w : DeviceView) → ⟦<ModelDevice<L> as Device<L>>⟧.party.holds self.now w → length (running w.done) ≤ result }
+    {
+        self.most
     }
 }
 
@@ -56,7 +98,8 @@ pub(crate) fn move_of(done: bool) -> Move
 }
 
 impl<L: Layout> Device<L> for ModelDevice<L> {
-    type Carried = ();
+    /// The most chains that it holds, whatever its window.
+    type Carried = u32;
 
     ghost party = { record {
       events = λ m. m.journal.events.items;
@@ -65,7 +108,7 @@ impl<L: Layout> Device<L> for ModelDevice<L> {
       chain_room = λ m. m.journal.begun.room;
       settings = λ m. m.settings;
       faults = λ m. 0;
-      carried = λ m. tt;
+      carried = λ m. m.most;
       attached = λ m. m.by;
       holds = λ m w. Holds L.Device.device m.end m.by m.held m.stage m.journal w;
       is_done = λ m. is_done m.stage ≡ true;
@@ -83,8 +126,15 @@ impl<L: Layout> Device<L> for ModelDevice<L> {
         window: u32,
         events: u32,
         chains: u32,
-    ) -> Result<(), AllocError> {
-        self.held = Some(HeapCircularBuffer::with_capacity(alloc, window as usize)?);
+    ) -> Result<(), AllocError>
+        requires free { ⟦<ModelDevice<L> as Device<L>>⟧.party.attached self.old ≡ None }
+        requires window { (1 ≤ window) × (window ≤ 64) }
+        ensures same { IsUnchanged ⟦<ModelDevice<L> as Device<L>>⟧.party self.old self.new }
+        ensures room { OnOk result ((events ≤ ⟦<ModelDevice<L> as Device<L>>⟧.party.event_room self.new) × (chains ≤ ⟦<ModelDevice<L> as Device<L>>⟧.party.chain_room self.new)) }
+        ensures most { OnOk result (self.new.window ≡ window) }
+    {
+        let most = window.min(self.most);
+        self.held = Some(HeapCircularBuffer::with_capacity(alloc, most as usize)?);
         self.window = window;
         self.journal.events.reserve(events as usize)?;
         self.journal.begun.reserve(chains as usize)

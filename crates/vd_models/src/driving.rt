@@ -1,5 +1,5 @@
 //! What a model guest does with the end that it holds.
-ghost use Rattle.std.specs.Prelude.{◌≡◌, ◌<◌, ◌≤◌, ◌++◌, ◌∷◌, [], List, ℕ, length, vec_len, vec_capacity, true, false};
+ghost use Rattle.std.specs.Prelude.{◌≡◌, ◌<◌, ◌≤◌, ◌++◌, ◌∷◌, [], List, ℕ, length, vec_len, vec_capacity, true, false, IsTrue};
 ghost use Rattle.vd_model.specs.declared.record.Return.{Return};
 ghost use Rattle.vd_words.specs.Own.{IsOwn};
 ghost use Rattle.vd_ring.specs.declared.device.DeviceView.{DeviceView};
@@ -26,14 +26,16 @@ fn keep(list: &mut Vec<Return>, item: Return)
 }
 
 pub(crate) trait Driving<L: Layout> {
-    /// Begins the next operation where none is in progress: an offer while a chain is left and has room, else a collect.
-    fn begin_drive(end: &mut L::Driver, script: &Script, at: Cursor)
-        requires { (offered : ℕ) × (returned : List Return) × (capacity : ℕ) × (v : DriverView) × DriveOpens L.Driver.driver script.now (drive end.old at offered returned capacity false) v }
+    /// Begins the next operation where none is in progress: an offer while a chain is left and has room, else a collect. In
+    /// its turn to collect it begins no offer.
+    fn begin_drive(end: &mut L::Driver, script: &Script, at: Cursor, turn: bool)
+        requires { (offered : ℕ) × (returned : List Return) × (capacity : ℕ) × (v : DriverView) × DriveOpens L.Driver.driver script.now (drive end.old at offered returned capacity false turn) v }
         ensures busy { ¬ (L.Driver.driver.begun end.new ≡ DriverOp.idle) }
-        ensures drives { (offered : ℕ) (returned : List Return) (capacity : ℕ) (v : DriverView) → DriveOpens L.Driver.driver script.now (drive end.old at offered returned capacity false) v → DriveOpens L.Driver.driver script.now (drive end.new at offered returned capacity false) v }
+        ensures drives { (offered : ℕ) (returned : List Return) (capacity : ℕ) (v : DriverView) → DriveOpens L.Driver.driver script.now (drive end.old at offered returned capacity false turn) v → DriveOpens L.Driver.driver script.now (drive end.new at offered returned capacity false turn) v }
+        ensures turn { IsTrue turn → L.Driver.driver.begun end.old ≡ DriverOp.idle → L.Driver.driver.begun end.new ≡ DriverOp.collect }
         ensures nearer { drive_weight (L.Driver.driver.begun end.new) (L.Driver.driver.left end.new) ≤ drive_weight (L.Driver.driver.begun end.old) (L.Driver.driver.left end.old) };
 
-    /// Makes one access.
+    /// Makes one access. With `turns` an offer is followed by a turn to collect, until nothing is shown.
     fn drive<P: Port>(
         end: &mut L::Driver,
         script: &Script,
@@ -41,12 +43,14 @@ pub(crate) trait Driving<L: Layout> {
         offered: &mut u32,
         returned: &mut Vec<Return>,
         done: &mut bool,
+        turn: &mut bool,
+        turns: bool,
         total: u32,
         port: &mut P,
     ) -> Turn
         requires total { total ≡ length (chains script.now) }
-        requires own { (v : DriverView) × DriveOpens L.Driver.driver script.now (drive end.old at.old offered.old returned.old.items (vec_capacity returned.old) done.old) v × IsOwn P.port L.Driver.driver.side port.old v }
-        ensures { (v : DriverView) → DriveOpens L.Driver.driver script.now (drive end.old at.old offered.old returned.old.items (vec_capacity returned.old) done.old) v → IsOwn P.port L.Driver.driver.side port.old v → IsDriveTurn P.port L.Driver.driver script.now port.old port.new v (drive end.old at.old offered.old returned.old.items (vec_capacity returned.old) done.old) (drive end.new at.new offered.new returned.new.items (vec_capacity returned.new) done.new) result };
+        requires own { (v : DriverView) × DriveOpens L.Driver.driver script.now (drive end.old at.old offered.old returned.old.items (vec_capacity returned.old) done.old turn.old) v × IsOwn P.port L.Driver.driver.side port.old v }
+        ensures { (v : DriverView) → DriveOpens L.Driver.driver script.now (drive end.old at.old offered.old returned.old.items (vec_capacity returned.old) done.old turn.old) v → IsOwn P.port L.Driver.driver.side port.old v → IsDriveTurn P.port L.Driver.driver script.now port.old port.new v (drive end.old at.old offered.old returned.old.items (vec_capacity returned.old) done.old turn.old) (drive end.new at.new offered.new returned.new.items (vec_capacity returned.new) done.new turn.new) result };
 
     /// Makes accesses over plain words until the guest is done, or can neither offer nor collect.
     fn drive_all<P: Port>(
@@ -56,20 +60,22 @@ pub(crate) trait Driving<L: Layout> {
         offered: &mut u32,
         returned: &mut Vec<Return>,
         done: &mut bool,
+        turn: &mut bool,
+        turns: bool,
         total: u32,
         port: &mut P,
     )
         requires total { total ≡ length (chains script.now) }
-        requires own { (ws : List ℕ) × (v : DriverView) × (w : DeviceView) × P.port.plain port.old ws × L.layout.ring ws v w × DriveOpens L.Driver.driver script.now (drive end.old at.old offered.old returned.old.items (vec_capacity returned.old) done.old) v }
-        ensures { (ws : List ℕ) (v : DriverView) (w : DeviceView) → P.port.plain port.old ws → L.layout.ring ws v w → DriveOpens L.Driver.driver script.now (drive end.old at.old offered.old returned.old.items (vec_capacity returned.old) done.old) v
-            → IsDrivenAll P.port L.Driver.driver L.layout script.now port.old port.new v w (drive end.new at.new offered.new returned.new.items (vec_capacity returned.new) done.new) };
+        requires own { (ws : List ℕ) × (v : DriverView) × (w : DeviceView) × P.port.plain port.old ws × L.layout.ring ws v w × DriveOpens L.Driver.driver script.now (drive end.old at.old offered.old returned.old.items (vec_capacity returned.old) done.old turn.old) v }
+        ensures { (ws : List ℕ) (v : DriverView) (w : DeviceView) → P.port.plain port.old ws → L.layout.ring ws v w → DriveOpens L.Driver.driver script.now (drive end.old at.old offered.old returned.old.items (vec_capacity returned.old) done.old turn.old) v
+            → IsDrivenAll P.port L.Driver.driver L.layout script.now port.old port.new v w (drive end.new at.new offered.new returned.new.items (vec_capacity returned.new) done.new turn.new) };
 }
 
 impl<L: Layout> Driving<L> for Policy {
-    fn begin_drive(end: &mut L::Driver, script: &Script, at: Cursor) {
+    fn begin_drive(end: &mut L::Driver, script: &Script, at: Cursor, turn: bool) {
         if end.idle() {
             match next_chain(script.runs.as_slice(), at) {
-                Some(chain) if end.room(chain) => end.begin_offer(chain),
+                Some(chain) if !turn && end.room(chain) => end.begin_offer(chain),
                 _ => end.begin_collect(),
             }
         }
@@ -82,10 +88,12 @@ impl<L: Layout> Driving<L> for Policy {
         offered: &mut u32,
         returned: &mut Vec<Return>,
         done: &mut bool,
+        turn: &mut bool,
+        turns: bool,
         total: u32,
         port: &mut P,
     ) -> Turn {
-        <Policy as Driving<L>>::begin_drive(end, script, *at);
+        <Policy as Driving<L>>::begin_drive(end, script, *at, *turn);
         match end.step(port) {
             DriverAct::Offered(_) => {
                 *offered += 1;
@@ -94,6 +102,7 @@ impl<L: Layout> Driving<L> for Policy {
                     used: at.used + 1,
                 };
                 *at = settle(script.runs.as_slice(), next);
+                *turn = turns;
             }
             DriverAct::Collected { number, len, .. } => {
                 keep(
@@ -106,7 +115,12 @@ impl<L: Layout> Driving<L> for Policy {
                 );
                 *done = returned.len() == total as usize;
             }
-            DriverAct::Nothing => return Turn::Waits,
+            DriverAct::Nothing => {
+                if !*turn {
+                    return Turn::Waits;
+                }
+                *turn = false;
+            }
             _ => {}
         }
         Turn::Worked
@@ -119,12 +133,14 @@ impl<L: Layout> Driving<L> for Policy {
         offered: &mut u32,
         returned: &mut Vec<Return>,
         done: &mut bool,
+        turn: &mut bool,
+        turns: bool,
         total: u32,
         port: &mut P,
     ) {
         while !*done {
             if let Turn::Waits = <Policy as Driving<L>>::drive(
-                end, script, at, offered, returned, done, total, port,
+                end, script, at, offered, returned, done, turn, turns, total, port,
             ) {
                 return;
             }

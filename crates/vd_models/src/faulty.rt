@@ -1,10 +1,16 @@
 //! A device that refuses one of its attaches.
-ghost use Rattle.std.specs.Prelude.{◌≡◌, ◌≤◌, ◌<◌, None, [], true};
+ghost use Rattle.std.specs.Prelude.{◌≡◌, ◌≤◌, ◌<◌, ◌+◌, ◌-◌, ◌^◌, ◌↔◌, None, [], true, length, IsErr, MatchResult};
+ghost use Rattle.std.specs.Option.{option_copied};
+ghost use Rattle.vd_layout.specs.Device.{IsStill};
+ghost use Rattle.vd_bus.specs.Orders.{IsData};
+ghost use Rattle.vd_bus.specs.Device.{IsAttach, IsRefused};
 ghost use Rattle.vd_control.specs.Settings.{default};
 ghost use Rattle.vd_models.specs.Serving.{Holds, journal_room, is_done};
 ghost use Rattle.vd_models.specs.Laws.{held_law, serves_law, done_law};
+ghost use Rattle.vd_models.specs.Faulty.{asked, refused, was_refused};
 
 use crate::device::ModelDevice;
+use crate::refusal::{Refusal, was_refused};
 use std::alloc::{AllocError, Global};
 use vd_bus::{Device, Journal, Order, Refused};
 use vd_control::Settings;
@@ -15,9 +21,11 @@ use vd_words::Port;
 #[derive(Drop)]
 pub struct FaultyDevice<L: Layout> {
     inner: ModelDevice<L>,
-    fails: u32,
-    attaches: u32,
-    faults: u64,
+    refusal: Refusal,
+    // how many attaches are asked until it is refused, that one among them; 0 after it
+    left: u32,
+    ghost after: { refusal.after ≤ length inner.journal.events.items },
+    ghost counted: { left ≡ refusal.number - asked refusal inner.journal.events.items (was_refused refusal.number left) },
 }
 
 impl<L: Layout> FaultyDevice<L> {
@@ -28,20 +36,24 @@ impl<L: Layout> FaultyDevice<L> {
         ensures begun { ⟦<FaultyDevice<L> as Device<L>>⟧.party.begun result ≡ ⟦<ModelDevice<L> as Device<L>>⟧.party.begun inner }
         ensures settings { ⟦<FaultyDevice<L> as Device<L>>⟧.party.settings result ≡ ⟦<ModelDevice<L> as Device<L>>⟧.party.settings inner }
         ensures faults { ⟦<FaultyDevice<L> as Device<L>>⟧.party.faults result ≡ 0 }
-        ensures number { ⟦<FaultyDevice<L> as Device<L>>⟧.party.carried result ≡ fails }
+        ensures number { (⟦<FaultyDevice<L> as Device<L>>⟧.party.carried result).number ≡ fails }
+        ensures after { (⟦<FaultyDevice<L> as Device<L>>⟧.party.carried result).after ≡ length (⟦<ModelDevice<L> as Device<L>>⟧.party.events inner) }
     {
+        let after = inner.journal().events.len() as u32;
         FaultyDevice {
             inner,
-            fails,
-            attaches: 0,
-            faults: 0,
+            refusal: Refusal {
+                number: fails,
+                after,
+            },
+            left: fails,
         }
     }
 }
 
 impl<L: Layout> Device<L> for FaultyDevice<L> {
-    /// The number of the attach that it refuses.
-    type Carried = u32;
+    /// Which attach it refuses.
+    type Carried = Refusal;
 
     ghost party = { record {
       events = λ m. m.inner.journal.events.items;
@@ -49,8 +61,8 @@ impl<L: Layout> Device<L> for FaultyDevice<L> {
       event_room = λ m. journal_room m.inner.held m.inner.journal.events.room;
       chain_room = λ m. m.inner.journal.begun.room;
       settings = λ m. m.inner.settings;
-      faults = λ m. m.faults;
-      carried = λ m. m.fails;
+      faults = λ m. was_refused m.refusal.number m.left;
+      carried = λ m. m.refusal;
       attached = λ m. m.inner.by;
       holds = λ m w. Holds L.Device.device m.inner.end m.inner.by m.inner.held m.inner.stage m.inner.journal w;
       is_done = λ m. is_done m.inner.stage ≡ true;
@@ -77,12 +89,22 @@ impl<L: Layout> Device<L> for FaultyDevice<L> {
         order: &Order,
         end: L::Device,
         control: Option<&Self>,
-    ) -> Result<(), Refused<L>> {
-        self.attaches = self.attaches.saturating_add(1);
-        if self.attaches == self.fails {
-            self.faults = self.faults.saturating_add(1);
+    ) -> Result<(), Refused<L>>
+        requires free { ⟦<FaultyDevice<L> as Device<L>>⟧.party.attached self.old ≡ None }
+        requires data { IsData order.now }
+        requires events { 2 ≤ ⟦<FaultyDevice<L> as Device<L>>⟧.party.event_room self.old }
+        requires chains { order.now.count ≤ ⟦<FaultyDevice<L> as Device<L>>⟧.party.chain_room self.old }
+        requires few { length (⟦<FaultyDevice<L> as Device<L>>⟧.party.begun self.old) + order.now.count < 2 ^ 32 }
+        requires still { IsStill L.Device.device end }
+        requires base { L.Device.device.base end ≡ order.now.base.0 }
+        ensures does { MatchResult result (λ _. IsAttach L.Device.device ⟦<FaultyDevice<L> as Device<L>>⟧.party order.now (option_copied control.entry) end self.old self.new) (λ r. (r.end ≡ end) × IsRefused ⟦<FaultyDevice<L> as Device<L>>⟧.party self.old self.new) }
+        ensures refused { IsErr result ↔ (asked (⟦<FaultyDevice<L> as Device<L>>⟧.party.carried self.old) (⟦<FaultyDevice<L> as Device<L>>⟧.party.events self.old) (⟦<FaultyDevice<L> as Device<L>>⟧.party.faults self.old) + 1 ≡ (⟦<FaultyDevice<L> as Device<L>>⟧.party.carried self.old).number) }
+    {
+        if self.left == 1 {
+            self.left = 0;
             return Err(Refused { end });
         }
+        self.left = self.left.saturating_sub(1);
         let control = match control {
             Some(device) => Some(&device.inner),
             None => None,
@@ -118,7 +140,10 @@ impl<L: Layout> Device<L> for FaultyDevice<L> {
         self.inner.settings()
     }
 
-    fn faults(&self) -> u64 {
-        self.faults
+    fn faults(&self) -> u64
+        ensures value { result ≡ ⟦<FaultyDevice<L> as Device<L>>⟧.party.faults self.now }
+        ensures refused { result ≡ refused (⟦<FaultyDevice<L> as Device<L>>⟧.party.carried self.now).number (asked (⟦<FaultyDevice<L> as Device<L>>⟧.party.carried self.now) (⟦<FaultyDevice<L> as Device<L>>⟧.party.events self.now) result) }
+    {
+        was_refused(self.refusal.number, self.left)
     }
 }

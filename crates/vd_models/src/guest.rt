@@ -24,6 +24,8 @@ pub(crate) struct Loaded {
     pub(crate) offered: u32,
     pub(crate) returned: Vec<Return>,
     pub(crate) done: bool,
+    // whether it collects until nothing is shown, before it offers again
+    pub(crate) turn: bool,
 }
 
 /// A guest that offers the next chain of its script where there is room, and else collects.
@@ -31,6 +33,8 @@ pub(crate) struct Loaded {
 pub struct ModelGuest<L: Layout> {
     end: Option<L::Driver>,
     loaded: Option<Loaded>,
+    // whether an offer is followed by a turn to collect
+    turns: bool,
 }
 
 impl<L: Layout> ModelGuest<L> {
@@ -39,9 +43,17 @@ impl<L: Layout> ModelGuest<L> {
         ensures { ⟦<ModelGuest<L> as Guest<L>>⟧.party.script result ≡ None }
     {
         let _ = alloc;
+        ModelGuest::with_turns(false)
+    }
+
+    /// The same, which offers and collects in turns where that is asked.
+    pub(crate) fn with_turns(turns: bool) -> ModelGuest<L>
+        ensures { ⟦<ModelGuest<L> as Guest<L>>⟧.party.script result ≡ None }
+    {
         ModelGuest {
             end: None,
             loaded: None,
+            turns,
         }
     }
 }
@@ -78,6 +90,7 @@ impl<L: Layout> Guest<L> for ModelGuest<L> {
             offered: 0,
             returned,
             done: total == 0,
+            turn: false,
         });
         Ok(())
     }
@@ -106,6 +119,8 @@ impl<L: Layout> Guest<L> for ModelGuest<L> {
             &mut loaded.offered,
             &mut loaded.returned,
             &mut loaded.done,
+            &mut loaded.turn,
+            self.turns,
             loaded.total,
             port,
         );
@@ -129,6 +144,8 @@ impl<L: Layout> Guest<L> for ModelGuest<L> {
             &mut loaded.offered,
             &mut loaded.returned,
             &mut loaded.done,
+            &mut loaded.turn,
+            self.turns,
             loaded.total,
             port,
         );

@@ -1,8 +1,7 @@
 -- The lists and positions of the two sides agree; what the two looks show; where each side stores.
-use Rattle.std.proofs.Common.{◌↔◌, ◌≡◌, ℕ, zero, suc, ◌+◌, ◌%◌, ◌<◌, ◌≤◌, Bool, true, false, List, [], ◌∷◌, ◌++◌, length, take, nat_lt, slice_index, slice_index_or, refl, sym, ap, ◌∙◌, subst, arith, inl, inr}
+use Rattle.std.proofs.Common.{◌↔◌, ◌≡◌, ℕ, ◌+◌, ◌%◌, ◌<◌, ◌≤◌, Bool, true, false, List, [], ◌∷◌, ◌++◌, length, take, nat_lt, slice_index, slice_index_or, refl, sym, ap, ◌∙◌, subst, arith, inl, inr}
 use Rattle.std.proofs.lemmas.Bool.{cases_lt}
-use Rattle.std.proofs.lemmas.List.{length_push, length-map, get_or_append_left, get_or_push, get_or-take}
-use Rattle.std.proofs.lemmas.Grind.{same_number_lists}
+use Rattle.std.proofs.lemmas.List.{length_push, get_or_push, get_or-take}
 use Rattle.vd_model.specs.Chains.{needs}
 use Rattle.vd_words.specs.declared.access.Access.TheVariants.{Store}
 use Rattle.vd_words.specs.declared.access.Op.TheVariants as op
@@ -17,11 +16,12 @@ use Rattle.vd_ring.specs.declared.device.DeviceDone.{DeviceDone}
 use Rattle.vd_ring.specs.declared.device.DeviceNow.{DeviceNow}
 use Rattle.vd_ring.specs.declared.device.DeviceNow.TheVariants as device
 use Rattle.vd_ring.specs.declared.device.DeviceView.{DeviceView}
-use Rattle.vd_ring.specs.Account.{Ordered}
-use Rattle.vd_ring.specs.History.{offers, collects, takes, gives, chain, numbers, used_at, upto, entry, running}
-use Rattle.vd_ring.proofs.Counts.{one_small, length_upto, occurs_from}
+use Rattle.vd_ring.specs.Account.{Accounts}
+use Rattle.vd_ring.specs.History.{offers, collects, takes, gives, chain, used_at, entry, running}
+use Rattle.vd_ring.proofs.Accounting.{ordered, accounts}
+use Rattle.vd_ring.proofs.Counts.{one_small, occurs_from}
 use Rattle.vd_ring.proofs.HeldPlaces.{chain_fits}
-use Rattle.vd_ring.proofs.ListSteps.{given_below, given_within, number_at}
+use Rattle.vd_ring.proofs.ListSteps.{given_below, given_within}
 use Rattle.vd_ring.proofs.DeviceLists.{running_below}
 use Rattle.vd_packed_ring.specs.PackedWords.{IsLawful, IsBuilt, second_word, is_used, put}
 use Rattle.vd_packed_ring.specs.PackedPositions.{opos, cpos}
@@ -37,19 +37,6 @@ use Rattle.vd_packed_ring.proofs.Clear.{stored_all, room_pieces}
 use Rattle.vd_packed_ring.proofs.Collects.{shows_none, found}
 use Rattle.vd_packed_ring.proofs.Ahead.{none_shows}
 use Rattle.vd_packed_ring.proofs.Takes.{shows_next}
-
-upto_at : (n j : ℕ) → j < n → slice_index (upto n) j ≡ j
-upto_at zero j h = absurd (omega arith)
-upto_at (suc n) j h = elim (cases_lt j n) [
-  | inl a ↦ get_or_append_left (upto n) (n ∷ []) 0 j (omega (arith, length_upto n)) ∙ upto_at n j a
-  | inr a ↦ (let e : n ≡ j = omega arith in get_or_push (upto n) n 0 j (length_upto n ∙ e) ∙ e)
-]
-
--- a list of entries whose j-th number is j
-ordered : (us : List Used) → ((j : ℕ) → j < length us → (used_at us j).number ≡ j) → Ordered us
-ordered us at =
-    let len : length (numbers us) ≡ length us = length-map us (λ (u : Used). u.number) in
-    same_number_lists (numbers us) (upto (length us)) (len ∙ sym (length_upto (length us))) (λ j h. number_at us j (omega arith) ∙ at j (omega arith) ∙ sym (upto_at (length us) j (omega arith)))
 
 collected_at : (o : List DriverDone) (gs : List Used) (j : ℕ) → collects o ≡ take (length (collects o)) gs → j < length (collects o) → used_at (collects o) j ≡ used_at gs j
 collected_at o gs j is h = ap (λ (us : List Used). used_at us j) is ∙ get_or-take (length (collects o)) gs j (entry 0 0) h
@@ -148,3 +135,7 @@ gives_behind e p x c h = behind_at e e.doing p x c h
 -- of the positions that the driver stores, none is past a position from what it collected on with the same place
 pub greatest : (n low u p : ℕ) → 0 < n → low ≤ u → p < low + n → p % n ≡ u % n → p ≤ u
 greatest n low u p pos a b same = elim (cases_lt u p) [ inl h ↦ absurd (places_differ n u p pos h (omega arith) (sym same)) | inr h ↦ h ]
+
+-- the account of the ring
+pub account : (ws : List ℕ) (d : DriverView) (e : DeviceView) → Ring ws d e → Accounts d.frame.features.in_order d.done e.done
+account ws d e r = accounts d.frame d.done e.done r.lists

@@ -103,6 +103,8 @@ stored_words f ws driven served q d p x pos w h = elim w.place [
 -- signals after a store elsewhere
 pub signals_elsewhere : (f : Frame) (event_at bell_at : ℕ) (armed : Option ℕ) (bells : ℕ) (stored : List ℕ) (p x : ℕ) → event_at ≢ p → bell_at ≢ p → Signals f event_at bell_at armed bells stored → Signals f event_at bell_at armed bells (slice_set stored p x)
 signals_elsewhere f event_at bell_at armed bells stored p x a b s = record {
+  flags = λ off. omega (arith, s.flags off, get_or-set_other stored p event_at x 0 a);
+  names = λ on. elim (s.names on) [ inl h ↦ inl (get_or-set_other stored p event_at x 0 a ∙ h) | inr h ↦ inr (h.0, get_or-set_other stored p event_at x 0 a ∙ h.1) ];
   enable = λ q h off. get_or-set_other stored p event_at x 0 a ∙ s.enable q h off;
   event = λ q h on. get_or-set_other stored p event_at x 0 a ∙ s.event q h on;
   bell = get_or-set_other stored p bell_at x 0 b ∙ s.bell;

@@ -20,17 +20,17 @@ use Rattle.vd_ring.specs.Lists.{Lists}
 use Rattle.vd_ring.proofs.Counts.{sum_one, Contains_from, with_head_is}
 use Rattle.vd_ring.proofs.HeldPlaces.{open_below, chain_fits, collect_places, same_head}
 use Rattle.vd_ring.proofs.HeldInside.{head_low}
-use Rattle.vd_ring.proofs.ListSteps.{same_used, batch_one, entry_is, next_open, lists_collected}
+use Rattle.vd_ring.proofs.ListSteps.{same_used, batch_one, entry_is, next_open, lists_collected, may_return}
 use Rattle.vd_ring.proofs.ControlSteps.{commands_collected, acks_collected}
 use Rattle.vd_packed_ring.specs.PackedWords.{IsLawful, IsBuilt, command_word, ack_word, second_word, len_of, id_of, is_used, is_available, used_word}
 use Rattle.vd_packed_ring.specs.PackedChains.{Descriptor}
-use Rattle.vd_packed_ring.specs.PackedPositions.{opos, cpos, tpos, upos, made_at, mark_at, stands, second_at}
+use Rattle.vd_packed_ring.specs.PackedPositions.{opos, cpos, tpos, upos, made_at, mark_at, stands, second_at, later}
 use Rattle.vd_packed_ring.specs.PackedDriver.{NamesOpen, driver_looks, driver_collects}
 use Rattle.vd_packed_ring.specs.PackedRing.{Ring, Loads, DeviceDoing}
 use Rattle.vd_packed_ring.proofs.WordFacts.{Fits, avail_unused, avail_unused_next, avail_next, used_shows, used_next, used_unavailable, zero_unused, used_id, used_len}
 use Rattle.vd_packed_ring.proofs.Rows.{nothing_staged, row_same, row_ahead}
 use Rattle.vd_packed_ring.proofs.Spelled.{table_stands}
-use Rattle.vd_packed_ring.proofs.Positions.{needs_some, order, upos_is, cpos_is, cpos_collected}
+use Rattle.vd_packed_ring.proofs.Positions.{needs_some, order, upos_is, cpos_is, cpos_collected, later_within}
 use Rattle.vd_packed_ring.proofs.Made.{at_fits, IsMark, marks_are, mark_past, mark_entry}
 
 -- ---- what stood a turn before is neither used nor available
@@ -141,7 +141,7 @@ collects_entry ws d e w r more n =
     let places2 = collect_places f o u r.places n.here in
     let lists2 = lists_collected f o s r.lists more in
     let ord = order f o2 s places2 lists2 in
-    subst (λ (us : List Used). Ring ws (record d { done = Collect us ∷ o; doing = Idle; seen = cpos f (Collect us ∷ o); shown = false }) e) (sym n.is) record {
+    subst (λ (us : List Used). Ring ws (record d { done = Collect us ∷ o; doing = Idle; seen = later d.seen (cpos f (Collect us ∷ o)); shown = false }) e) (sym n.is) record {
       same = r.same;
       lawful = r.lawful;
       built = r.built;
@@ -159,14 +159,14 @@ collects_entry ws d e w r more n =
       acks = acks_collected f (ack_word f) o s e.stored more r.acks;
       driver_doing = tt;
       device_doing = doing_collected e.doing f o (u ∷ []) s r.device_doing;
-      driver_seen = ord.collected;
+      driver_seen = later_within _ _ _ r.driver_seen ord.collected;
       device_seen = r.device_seen;
       driver_shown = λ h. absurd cc;
       device_shown = r.device_shown;
       rested = r.rested;
     }
 
-finds_none : (ws : List ℕ) (d : DriverView) (e : DeviceView) → Ring ws (record d { doing = Idle }) e → Ring ws (record d { doing = Idle; seen = cpos d.frame d.done; shown = false }) e
+finds_none : (ws : List ℕ) (d : DriverView) (e : DeviceView) → Ring ws (record d { doing = Idle }) e → Ring ws (record d { doing = Idle; seen = later d.seen (cpos d.frame d.done); shown = false }) e
 finds_none ws d e r = record {
   same = r.same;
   lawful = r.lawful;
@@ -185,7 +185,7 @@ finds_none ws d e r = record {
   acks = r.acks;
   driver_doing = tt;
   device_doing = r.device_doing;
-  driver_seen = (order d.frame d.done e.done r.places r.lists).collected;
+  driver_seen = later_within _ _ _ r.driver_seen (order d.frame d.done e.done r.places r.lists).collected;
   device_seen = r.device_seen;
   driver_shown = λ h. absurd cc;
   device_shown = r.device_shown;
@@ -195,7 +195,7 @@ finds_none ws d e r = record {
 names_open : (f : Frame) (o : List DriverDone) (s : List DeviceDone) (w : ℕ) → Lists f o s → length (collects o) < length (gives s) → Found f o s w → NamesOpen f o (id_of w)
 names_open f o s w l more n =
     let u : Used = used_at (gives s) (length (collects o)) in
-    record { number = u.number; is_open = Contains_from u.number (open_at o) n.here; is_head = sym n.is_id; in_order = λ on. l.in_order on (length (collects o)) more }
+    record { number = u.number; is_open = Contains_from u.number (open_at o) n.here; is_head = sym n.is_id; next = may_return f (chain o) (length (collects o)) u.number (λ on. l.in_order on (length (collects o)) more) }
 
 abbrev pub Tells : DriverView → ℕ → Type 0
 Tells d w = (is_used d.frame.size (cpos d.frame d.done) w ≡ true → NamesOpen d.frame d.done (id_of w)) × (d.shown ≡ true → is_used d.frame.size (cpos d.frame d.done) w ≡ true) × (cpos d.frame d.done < d.seen → is_used d.frame.size (cpos d.frame d.done) w ≡ true)
@@ -206,13 +206,13 @@ looks ws d e w r is =
     elim (cases_lt (length (collects o)) (length (gives s))) [
       | inl more ↦ (
           let n : Found f o s w = subst (Found f o s) (sym is) (found ws d e r more) in (
-            subst (λ (b : Bool). Ring ws (if b then driver_collects (record d { doing = Idle }) w else record d { doing = Idle; seen = cpos f o; shown = false }) e) (sym n.shows) (collects_entry ws d e w r more n),
+            subst (λ (b : Bool). Ring ws (if b then driver_collects (record d { doing = Idle }) w else record d { doing = Idle; seen = later d.seen (cpos f o); shown = false }) e) (sym n.shows) (collects_entry ws d e w r more n),
             (λ on. names_open f o s w r.lists more n, λ h. n.shows, λ h. n.shows),
           )
           )
       | inr none ↦ (
           let off : is_used f.size (cpos f o) w ≡ false = ap (is_used f.size (cpos f o)) is ∙ shows_none ws d e r none in (
-            subst (λ (b : Bool). Ring ws (if b then driver_collects (record d { doing = Idle }) w else record d { doing = Idle; seen = cpos f o; shown = false }) e) (sym off) (finds_none ws d e r),
+            subst (λ (b : Bool). Ring ws (if b then driver_collects (record d { doing = Idle }) w else record d { doing = Idle; seen = later d.seen (cpos f o); shown = false }) e) (sym off) (finds_none ws d e r),
             (
               λ on. absurd (let x : false ≡ true = sym off ∙ on in cc),
               λ h. absurd (omega (arith, r.driver_shown h, r.driver_seen, all_collected f o s r.lists none)),

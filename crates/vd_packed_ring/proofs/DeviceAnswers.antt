@@ -21,7 +21,9 @@ use Rattle.vd_ring.specs.declared.device.DeviceNow.{DeviceNow}
 use Rattle.vd_ring.specs.declared.device.DeviceNow.TheVariants.{Idle, Taking}
 use Rattle.vd_ring.specs.declared.device.DeviceView.{DeviceView}
 use Rattle.vd_ring.specs.DeviceSteps.{Did}
-use Rattle.vd_ring.specs.History.{offers, takes, heads, running, taken_head, head, chain, chain_at, given, entry, last_used}
+use Rattle.vd_ring.specs.Batches.{IsEntry}
+use Rattle.vd_ring.proofs.ListSteps.{single_entry, returns_next}
+use Rattle.vd_ring.specs.History.{offers, takes, heads, running, taken_head, head, chain, chain_at, given, entry, last_used, gives}
 use Rattle.vd_ring.specs.Lists.{Lists, Rested}
 use Rattle.vd_packed_ring.specs.PackedWords.{width, second_word, used_word, len_of, id_of, is_available}
 use Rattle.vd_packed_ring.specs.PackedChains.{is_whole, chain_of}
@@ -81,6 +83,7 @@ gives_at ws d e p x k r n is =
       runs = subst (λ (j : ℕ). Contains (running s) j) number n.runs;
       entries = us;
       gave = refl;
+      is_entry = subst (λ (es : List Used). IsEntry f (chain_at (takes s)) (length (gives s)) es) (sym g.is) (single_entry f (chain_at (takes s)) (length (gives s)) (entry n.number n.len) (returns_next f (chain_at (takes s)) (length (gives s)) n.number n.next));
       last = is;
       stands = subst (λ (i : ℕ). EntryStands f (slice_set ws i x) s us) (sym n.place) stands;
     }

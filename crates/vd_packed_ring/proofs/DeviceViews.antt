@@ -14,7 +14,7 @@ use Rattle.vd_ring.specs.DeviceSteps.{Did}
 use Rattle.vd_ring.specs.History.{takes, running, taken_head, with_head, given}
 use Rattle.vd_packed_ring.specs.PackedWords.{IsLawful, width, commands_from, acks_from, command_word, ack_word, len_of, id_of, is_available}
 use Rattle.vd_packed_ring.specs.PackedChains.{loaded_head, is_whole, chain_of}
-use Rattle.vd_packed_ring.specs.PackedPositions.{tpos, upos}
+use Rattle.vd_packed_ring.specs.PackedPositions.{tpos, upos, later}
 use Rattle.vd_packed_ring.specs.PackedDevice.{DeviceNextAt, DeviceNext, Returns, BeginsRest, LoadsChain, device_after_at, device_after, device_takes, device_act_at, device_act}
 use Rattle.vd_packed_ring.proofs.Areas.{areas, acks_follow, second_inside}
 use Rattle.vd_packed_ring.proofs.DeviceKeeping.{descriptors_inside}
@@ -40,10 +40,10 @@ either_frame v w true e = e
 either_frame v w false e = refl
 
 abbrev pub saw : DeviceView → ℕ → DeviceView
-saw e r = record e { seen = tpos e.frame e.done + 1; shown = true; doing = Taking (r ∷ []) }
+saw e r = record e { seen = later e.seen (tpos e.frame e.done + 1); shown = true; doing = Taking (r ∷ []) }
 
 abbrev pub saw_none : DeviceView → DeviceView
-saw_none e = record e { seen = tpos e.frame e.done; shown = false }
+saw_none e = record e { seen = later e.seen (tpos e.frame e.done); shown = false }
 
 frame_at : (doing : DeviceNow) (e : DeviceView) (o : Op) (a : Access) (r : ℕ) → (device_after_at doing e o a r).frame ≡ e.frame
 frame_at Idle e op.Take (Load p) r = either_frame (saw e r) (saw_none e) (is_available e.frame.size (tpos e.frame e.done) r) refl

@@ -14,12 +14,14 @@ use Rattle.vd_ring.specs.declared.frame.Frame.{Frame}
 use Rattle.vd_ring.specs.declared.frame.Put.{Put}
 use Rattle.vd_ring.specs.declared.frame.Used.{Used}
 use Rattle.vd_ring.specs.declared.driver.DriverDone.{DriverDone}
-use Rattle.vd_ring.specs.declared.driver.DriverDone.TheVariants.{Offer}
+use Rattle.vd_ring.specs.declared.driver.DriverDone.TheVariants.{Offer, Collect}
 use Rattle.vd_ring.specs.declared.driver.DriverNow.{DriverNow}
 use Rattle.vd_ring.specs.declared.driver.DriverNow.TheVariants.{Idle, Offering}
 use Rattle.vd_ring.specs.declared.driver.DriverView.{DriverView}
 use Rattle.vd_ring.specs.declared.device.DeviceDone.{DeviceDone}
 use Rattle.vd_ring.specs.declared.device.DeviceView.{DeviceView}
+use Rattle.vd_ring.specs.Lists.{Collects}
+use Rattle.vd_ring.proofs.ListSteps.{collects_next}
 use Rattle.vd_ring.specs.History.{offers, collects, gives, head, next_head, entry, used_at, last_used}
 use Rattle.vd_ring.specs.Bag.{State}
 use Rattle.vd_ring.specs.Steps.{StandsFor, DriverBagStep}
@@ -27,7 +29,7 @@ use Rattle.vd_ring.proofs.ControlSteps.{head_new}
 use Rattle.vd_ring.proofs.DriverBag.{offer_step}
 use Rattle.vd_packed_ring.specs.PackedWords.{second_word, put, words_of, is_used, Stand}
 use Rattle.vd_packed_ring.specs.PackedChains.{Descriptor, described, staged_chain}
-use Rattle.vd_packed_ring.specs.PackedPositions.{opos, cpos}
+use Rattle.vd_packed_ring.specs.PackedPositions.{opos, cpos, later}
 use Rattle.vd_packed_ring.specs.PackedDriver.{Publishes, DriverNextAt, DriverNext, driver_after_at, driver_act_at, driver_act, driver_offers, driver_collects, stores, collect_act}
 use Rattle.vd_packed_ring.specs.PackedDriverLaws.{DriverBags, IsOffered, IsCollected, CollectsNothing}
 use Rattle.vd_packed_ring.specs.PackedRing.{Ring, Stages}
@@ -81,7 +83,7 @@ abbrev store_act : ℕ → Bool → DriverAct
 store_act k b = if b then act.Offered k else act.Moved
 
 abbrev looked : DriverView → ℕ → Bool → DriverView
-looked v r b = if b then driver_collects v r else record v { seen = cpos v.frame v.done; shown = false }
+looked v r b = if b then driver_collects v r else record v { seen = later v.seen (cpos v.frame v.done); shown = false }
 
 abbrev look_act : DriverView → ℕ → Bool → DriverAct
 look_act v r b = if b then collect_act v r else act.Nothing
@@ -154,9 +156,7 @@ collects_entry ws d e p k l h r at is more =
     let same : u ≡ entry k l = sym (ap last_used n.is) ∙ ap pair answer in
     let done : (driver_after_at Idle v op.Collect (Load p) w).done ≡ (driver_collects v w).done = ap (λ (b : Bool). (looked v w b).done) n.shows in
     record {
-      more = more;
-      is_entry = same;
-      collected = ap collects done ∙ (ap (λ (us : List Used). collects o ++ us) n.is ∙ ap (λ (z : Used). collects o ++ z ∷ []) same);
+      did = subst (λ (z : Used). Collects f o s (driver_after_at Idle v op.Collect (Load p) w).done z.number z.len) same (collects_next f o s u (driver_after_at Idle v op.Collect (Load p) w).done r.lists more refl (done ∙ ap (λ (us : List Used). Collect us ∷ o) n.is));
       is_head = sym (ap head_in answer) ∙ (n.is_id ∙ ap (λ (z : Used). head f o z.number) same);
     }
 

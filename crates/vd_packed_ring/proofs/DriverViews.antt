@@ -20,7 +20,7 @@ use Rattle.vd_ring.specs.Control.{last_collected, StoresCommand, LoadsAck}
 use Rattle.vd_ring.proofs.HeldInside.{head_low, next_low}
 use Rattle.vd_packed_ring.specs.PackedWords.{words_of, len_of, id_of, commands_from, IsLawful, IsBuilt, width, command_word, ack_word, second_word, put, is_used}
 use Rattle.vd_packed_ring.specs.PackedChains.{staged_chain}
-use Rattle.vd_packed_ring.specs.PackedPositions.{opos, cpos}
+use Rattle.vd_packed_ring.specs.PackedPositions.{opos, cpos, later}
 use Rattle.vd_packed_ring.specs.PackedDriver.{driver_act, driver_after, driver_act_at, collect_act, DriverNextAt, DriverNext, driver_after_at, driver_collects, driver_offers, stores}
 use Rattle.vd_packed_ring.specs.PackedDriverLaws.{DriverAlone, StoresAhead}
 use Rattle.vd_packed_ring.proofs.Areas.{areas, second_inside, drivers_inside, devices_inside, command_drivers, ack_devices}
@@ -50,7 +50,7 @@ either_frame v w false f x y = y
 
 frame_at : (d : DriverView) (now : DriverNow) (op : Op) (a : Access) (r : ℕ) → (driver_after_at now (record d { doing = now }) op a r).frame ≡ d.frame
 frame_at d Idle op.Collect (Load p) r =
-    let v : DriverView = record d { doing = Idle } in either_frame (driver_collects v r) (record v { seen = cpos d.frame d.done; shown = false }) (is_used d.frame.size (cpos d.frame d.done) r) d.frame refl refl
+    let v : DriverView = record d { doing = Idle } in either_frame (driver_collects v r) (record v { seen = later d.seen (cpos d.frame d.done); shown = false }) (is_used d.frame.size (cpos d.frame d.done) r) d.frame refl refl
 frame_at d Idle op.Offer (Store p x) r = refl
 frame_at d (Offering puts) op.Offer (Store p x) r =
     let v : DriverView = record d { doing = Offering puts } in
@@ -67,7 +67,7 @@ driver_alone d op a l b h = record { inside = inside_at d d.doing op a l b h; fr
 
 -- ---- the acts
 
-looks_did : (v : DriverView) (r : ℕ) (b : Bool) → DriverDid (if b then collect_act v r else act.Nothing) v.done (if b then driver_collects v r else record v { seen = cpos v.frame v.done; shown = false }).done
+looks_did : (v : DriverView) (r : ℕ) (b : Bool) → DriverDid (if b then collect_act v r else act.Nothing) v.done (if b then driver_collects v r else record v { seen = later v.seen (cpos v.frame v.done); shown = false }).done
 looks_did v r true = (collected v.frame v.done (id_of r) (len_of r), refl, refl)
 looks_did v r false = refl
 

@@ -15,17 +15,17 @@ use Rattle.vd_ring.specs.declared.device.DeviceView.{DeviceView}
 use Rattle.vd_ring.specs.History.{offers, takes, gives, running, running_size, taken_head, with_head, head, chain, chain_at, given, batch, entry, IsWhole}
 use Rattle.vd_ring.proofs.Counts.{occurs_from, with_head_is}
 use Rattle.vd_ring.proofs.HeldPlaces.{chain_fits}
-use Rattle.vd_ring.proofs.ListSteps.{batch_one}
+use Rattle.vd_ring.proofs.ListSteps.{batch_one, returns_next, single_entry}
 use Rattle.vd_ring.proofs.DeviceLists.{running_below, running_head, same_taken_head, lists_given, lists_rested}
 use Rattle.vd_ring.proofs.DeviceAcks.{acks_given, acks_rested, acks_elsewhere}
 use Rattle.vd_packed_ring.specs.PackedWords.{is_available, width, device_event, call_at, ack_word, second_word, len_of, id_of, used_word}
-use Rattle.vd_packed_ring.specs.PackedPositions.{tpos, opos, upos, made_at, marks, stands, second_at}
+use Rattle.vd_packed_ring.specs.PackedPositions.{tpos, opos, upos, made_at, marks, stands, second_at, later}
 use Rattle.vd_packed_ring.specs.PackedDevice.{Returns, device_gives, seen_to, device_rests}
 use Rattle.vd_packed_ring.specs.PackedRing.{Ring, puts_of}
 use Rattle.vd_packed_ring.proofs.WordFacts.{used_id, used_len}
 use Rattle.vd_packed_ring.proofs.Areas.{areas, second_low, second_inside, device_second}
 use Rattle.vd_packed_ring.proofs.Rows.{row_same, row_over}
-use Rattle.vd_packed_ring.proofs.Positions.{needs_some, order, upos_is, taken_chain, gives_below, upos_given}
+use Rattle.vd_packed_ring.proofs.Positions.{needs_some, order, upos_is, taken_chain, gives_below, upos_given, later_second, later_within}
 use Rattle.vd_packed_ring.proofs.Made.{length_marks, mark_new, mark_old}
 use Rattle.vd_packed_ring.proofs.Clear.{doing_clear, doing_other, signals_elsewhere}
 use Rattle.vd_packed_ring.proofs.Ahead.{ahead, none_shows}
@@ -55,7 +55,7 @@ given_is ws d e p x r n =
     let ord = order f o s r.places r.lists in
     let below = gives_below f s k ord.running_span runs (omega (arith, some, ap (needs f.features) taken)) in
     record {
-      is = ap (λ (i : ℕ). batch f (chain_at (takes s)) (length (gives s)) i (len_of x)) number ∙ (ap (λ (i : ℕ). batch f (chain_at (takes s)) (length (gives s)) k i) len ∙ batch_one f (chain_at (takes s)) (length (gives s)) k n.len n.in_order);
+      is = ap (λ (i : ℕ). batch f (chain_at (takes s)) (length (gives s)) i (len_of x)) number ∙ (ap (λ (i : ℕ). batch f (chain_at (takes s)) (length (gives s)) k i) len ∙ batch_one f (chain_at (takes s)) (length (gives s)) k n.len (returns_next f (chain_at (takes s)) (length (gives s)) k n.next));
       low = low;
       below = omega (arith, below, ord.taken);
       some = some;
@@ -89,7 +89,7 @@ returns ws d e p x r n =
     let inside : q < width f = second_inside f q0 r.lawful.least in
     let at : q0 ≡ length (marks (λ j. needs f.features (chain o j)) s) = upos_is f o s r.lists ∙ sym (length_marks (λ j. needs f.features (chain o j)) s) in
     let word : second_at f o s2 q0 ≡ x = second_here f o s u at g.some ∙ (ap (λ (h : ℕ). used_word f.size q0 h n.len) (sym hd.0) ∙ sym n.word) in
-    let lists2 = lists_given f o s u r.lists runs n.in_order (sym (batch_one f (chain_at (takes s)) (length (gives s)) k n.len n.in_order)) in
+    let lists2 = lists_given f o s u r.lists runs (single_entry f (chain_at (takes s)) (length (gives s)) u (returns_next f (chain_at (takes s)) (length (gives s)) k n.next)) in
     let keep : List ℕ → Type 0 = λ vs. Ring vs d E in
     subst (λ (i : ℕ). Ring (slice_set ws i x) d (device_gives E i x) × (i < width f)) (sym n.place)
     (subst (λ (vs : List Used). Ring us d (record E { done = Give vs ∷ s; stored = st; doing = Idle }) × (q < width f)) (sym g.is) (
@@ -141,18 +141,18 @@ rests ws d e w r whole is =
     let none : running_size f s2 ≡ 0 = refl in
     let back : tpos f s2 ≤ tpos f s = omega (arith, ord.given, same_upos, ord2.running_span, none) in
     let sees = rest_sees ws d E w r is in
-    ring_with ws ws d E (record E { done = s2; armed = None; seen = seen_to E w }) r record {
+    ring_with ws ws d E (record E { done = s2; armed = None; seen = later e.seen (seen_to E w) }) r record {
       same = refl;
       words = r.words;
       seconds = row_same f.size 1 ws (opos f o) (puts_of d.doing) (second_at f o s) (second_at f o s2) (λ q a. refl) r.seconds;
       lists = lists2;
       short = r.short;
-      signals = record { enable = λ q at off. absurd cc; event = λ q at on. absurd cc; bell = r.device_signals.bell };
+      signals = record { flags = r.device_signals.flags; names = r.device_signals.names; enable = λ q at off. absurd cc; event = λ q at on. absurd cc; bell = r.device_signals.bell };
       acks = acks_rested f (ack_word f) o s e.stored r.acks;
       driver_doing = r.driver_doing;
       device_doing = tt;
       driver_seen = omega (arith, r.driver_seen, same_upos);
-      device_seen = sees.0;
-      device_shown = λ h. omega (arith, sees.1 h, back);
+      device_seen = later_within _ _ _ r.device_seen sees.0;
+      device_shown = λ h. omega (arith, sees.1 h, back, later_second e.seen (seen_to E w));
       rested = (len, whole);
     }

@@ -26,4 +26,7 @@ pub mod Spelling
 pub mod DriverAnswers
 pub mod DeviceAnswers
 pub mod DeviceBagSteps
+pub mod Seen
+pub mod Signalling
 mod Examples
+pub mod ControlFacts

@@ -1,11 +1,11 @@
 -- A fresh ring meets the ring invariant.
-use Rattle.std.proofs.Common.{◌≡◌, ℕ, ◌+◌, ◌*◌, ◌<◌, length, replicate, slice_index, refl, sym, arith}
+use Rattle.std.proofs.Common.{◌≡◌, ℕ, ◌+◌, ◌*◌, ◌<◌, length, replicate, slice_index, refl, sym, arith, inl}
 use Rattle.std.proofs.lemmas.List.{length-replicate, get_or-replicate}
 use Rattle.std.proofs.lemmas.List.Elements.{All-nil}
 use Rattle.vd_ring.specs.declared.frame.Frame.{Frame}
 use Rattle.vd_ring.specs.Frames.{Fits}
 use Rattle.vd_ring.proofs.Counts.{one_above, length_upto, occurs_upto}
-use Rattle.vd_packed_ring.specs.PackedWords.{IsLawful, IsBuilt, width, kick_at, call_at, command_word, ack_word}
+use Rattle.vd_packed_ring.specs.PackedWords.{IsLawful, IsBuilt, width, kick_at, call_at, command_word, ack_word, driver_event, device_event}
 use Rattle.vd_packed_ring.specs.PackedLaws.{IsFresh}
 use Rattle.vd_packed_ring.proofs.Areas.{areas, drivers_inside, devices_inside, command_drivers, ack_devices}
 
@@ -49,8 +49,8 @@ opens f l b =
         in_order = λ on j a. absurd (omega arith);
       };
       short = All-nil (λ u. u.len < 4294967296);
-      driver_signals = record { enable = λ s a off. absurd cc; event = λ s a on. absurd cc; bell = zeros n (kick_at f) (omega arith) };
-      device_signals = record { enable = λ s a off. absurd cc; event = λ s a on. absurd cc; bell = zeros n (call_at f) (omega arith) };
+      driver_signals = record { flags = λ off. omega (arith, zeros n (driver_event f) (omega (arith, areas f))); names = λ on. inl (zeros n (driver_event f) (omega (arith, areas f))); enable = λ s a off. absurd cc; event = λ s a on. absurd cc; bell = zeros n (kick_at f) (omega arith) };
+      device_signals = record { flags = λ off. omega (arith, zeros n (device_event f) (omega (arith, areas f))); names = λ on. inl (zeros n (device_event f) (omega (arith, areas f))); enable = λ s a off. absurd cc; event = λ s a on. absurd cc; bell = zeros n (call_at f) (omega arith) };
       commands = record {
         chains = λ on k a. absurd (omega arith);
         last = λ on h i low two. zeros n (command_word f h + i) (drivers_inside f (command_word f h + i) (command_drivers f h i on low two));

@@ -1,7 +1,7 @@
 -- Sums of descriptors: how the four positions lie to each other.
 use Rattle.std.proofs.Common.{append_assoc, append-nil, take_all, ◌≡◌, ℕ, zero, suc, ◌+◌, ◌<◌, ◌≤◌, Bool, true, false, List, [], ◌∷◌, ◌++◌, length, take, drop, nat_lt, if◌then◌else◌, refl, sym, ap, ◌∙◌, arith, inl, inr}
 use Rattle.std.specs.List.{sum_by}
-use Rattle.std.proofs.lemmas.Bool.{cases_lt}
+use Rattle.std.proofs.lemmas.Bool.{cases_lt, lt-ltb, le-ltb}
 use Rattle.std.proofs.lemmas.List.{take_more, length-take-le, take-append-drop, get_or_append_left, get_or-take}
 use Rattle.std.proofs.lemmas.List.Sums.{sum_by-append, sum_by-cons, sum_by_push}
 use Rattle.vd_model.specs.declared.chain.Piece.{Piece}
@@ -20,8 +20,19 @@ use Rattle.vd_ring.proofs.Counts.{one_above, occurs-append, occurs_upto, sum_sam
 use Rattle.vd_ring.proofs.HeldPlaces.{open_below, chain_fits, chain_before}
 use Rattle.vd_ring.proofs.ListSteps.{given_below, number_in}
 use Rattle.vd_packed_ring.specs.PackedWords.{IsLawful}
-use Rattle.vd_packed_ring.specs.PackedPositions.{opos, cpos, tpos, upos, start}
+use Rattle.vd_packed_ring.specs.PackedPositions.{opos, cpos, tpos, upos, start, later}
 use Rattle.vd_packed_ring.proofs.Spelled.{lent_one}
+
+-- ---- the later of two
+
+pub later_first : (a b : ℕ) → a ≤ later a b
+later_first a b = elim (cases_lt a b) [ inl h ↦ rw (lt-ltb a b h) (omega arith) | inr h ↦ rw (le-ltb a b h) (omega arith) ]
+
+pub later_second : (a b : ℕ) → b ≤ later a b
+later_second a b = elim (cases_lt a b) [ inl h ↦ rw (lt-ltb a b h) (omega arith) | inr h ↦ rw (le-ltb a b h) h ]
+
+pub later_within : (a b c : ℕ) → a ≤ c → b ≤ c → later a b ≤ c
+later_within a b c x y = elim (cases_lt a b) [ inl h ↦ rw (lt-ltb a b h) y | inr h ↦ rw (le-ltb a b h) x ]
 
 -- ---- sums by number
 

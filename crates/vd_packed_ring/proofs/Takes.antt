@@ -20,12 +20,12 @@ use Rattle.vd_ring.proofs.DeviceLists.{lists_taken}
 use Rattle.vd_ring.proofs.DeviceAcks.{acks_taken}
 use Rattle.vd_packed_ring.specs.PackedWords.{second_word, put, words_of, is_available, Stand, ack_word}
 use Rattle.vd_packed_ring.specs.PackedChains.{Descriptor, direct, loaded, reading, following, loaded_head, chain_of, cursor}
-use Rattle.vd_packed_ring.specs.PackedPositions.{opos, tpos, second_at}
+use Rattle.vd_packed_ring.specs.PackedPositions.{opos, tpos, second_at, later}
 use Rattle.vd_packed_ring.specs.PackedDevice.{ShowsSeen, BeginsChain, device_looks, device_takes, device_loads}
 use Rattle.vd_packed_ring.specs.PackedRing.{puts_of, Ring, Loads}
 use Rattle.vd_packed_ring.proofs.Rows.{row_same}
 use Rattle.vd_packed_ring.proofs.Spelled.{reading_is, cursor_is, length_direct, following_at, words_more}
-use Rattle.vd_packed_ring.proofs.Positions.{order, upos_is}
+use Rattle.vd_packed_ring.proofs.Positions.{order, upos_is, later_second, later_within}
 use Rattle.vd_packed_ring.proofs.DeviceParts.{ring_with}
 use Rattle.vd_packed_ring.proofs.Ahead.{next_words, ahead, none_shows, first_word, whole_less, whole_all, begins}
 
@@ -64,8 +64,8 @@ pub looks : (ws : List ℕ) (d : DriverView) (e : DeviceView) (w : ℕ) → Ring
 looks ws d e w r is =
     let f : Frame = d.frame in let o : List DriverDone = d.done in let s : List DeviceDone = e.done in
     let E : DeviceView = record e { frame = d.frame; doing = Idle } in
-    let saw : DeviceView = record E { seen = tpos f s + 1; shown = true; doing = Taking (w ∷ []) } in
-    let not_saw : DeviceView = record E { seen = tpos f s; shown = false } in
+    let saw : DeviceView = record E { seen = later e.seen (tpos f s + 1); shown = true; doing = Taking (w ∷ []) } in
+    let not_saw : DeviceView = record E { seen = later e.seen (tpos f s); shown = false } in
     let ord = order f o s r.places r.lists in
     elim (cases_lt (length (takes s)) (length (offers o))) [
       | inl more ↦ (
@@ -89,8 +89,8 @@ looks ws d e w r is =
                 left = omega (arith, a.long, ap (λ (l : List Put). length l) read);
               };
               driver_seen = r.driver_seen;
-              device_seen = a.fewer;
-              device_shown = λ h. omega arith;
+              device_seen = later_within _ _ _ r.device_seen a.fewer;
+              device_shown = λ h. omega (arith, later_second e.seen (tpos f s + 1));
               rested = r.rested;
             }),
             (λ on. (omega (arith, r.places.limited), b.0), (λ h. shows, λ h. shows)),
@@ -110,7 +110,7 @@ looks ws d e w r is =
               driver_doing = r.driver_doing;
               device_doing = tt;
               driver_seen = r.driver_seen;
-              device_seen = ord.taken;
+              device_seen = later_within _ _ _ r.device_seen ord.taken;
               device_shown = λ h. absurd cc;
               rested = r.rested;
             }),

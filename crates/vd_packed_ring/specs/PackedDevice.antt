@@ -18,11 +18,12 @@ use Rattle.vd_ring.specs.declared.device.DeviceNow.{DeviceNow}
 use Rattle.vd_ring.specs.declared.device.DeviceNow.TheVariants.{Idle, Taking}
 use Rattle.vd_ring.specs.declared.device.DeviceView.{DeviceView}
 use Rattle.vd_ring.specs.Frames.{Fits, limit}
-use Rattle.vd_ring.specs.History.{takes, gives, running, running_size, taken_head, with_head, given, last_used, IsWhole}
+use Rattle.vd_ring.specs.Batches.{MayReturn}
+use Rattle.vd_ring.specs.History.{takes, gives, running, running_size, taken_head, with_head, given, last_used, IsWhole, chain_at}
 use Rattle.vd_ring.specs.Control.{IsControlChain, LoadsCommand, StoresAck}
 use Rattle.vd_packed_ring.specs.PackedWords.{IsDevices, IsDescriptors, commands_from, acks_from, command_word, ack_word, second_word, len_of, id_of, is_available, used_word, words_of}
 use Rattle.vd_packed_ring.specs.PackedChains.{reading, loaded_head, is_whole, chain_of, cursor}
-use Rattle.vd_packed_ring.specs.PackedPositions.{tpos, upos}
+use Rattle.vd_packed_ring.specs.PackedPositions.{tpos, upos, later}
 
 -- ---- the conditions
 
@@ -31,11 +32,11 @@ pub record LoadsChain (f : Frame) (q : ℕ) (ws : List ℕ) (p : ℕ) : Type 0 w
   pub place : p ≡ cursor f q ws
   pub inside : IsDescriptors f p
 
--- the store of a used descriptor: the head of a chain taken and not given, under IN_ORDER of the first of them, and a length
+-- the store of a used descriptor: the head of a chain taken and not given, whose entry may come next, and a length
 pub record Returns (f : Frame) (s : List DeviceDone) (p x : ℕ) : Type 0 where
   pub number : ℕ
   pub runs : Contains (running s) number
-  pub in_order : f.features.in_order ≡ true → number ≡ length (gives s)
+  pub next : MayReturn f (chain_at (takes s)) (length (gives s)) number
   pub len : ℕ
   pub small : len < 4294967296
   pub place : p ≡ second_word f.size (upos f s)
@@ -67,12 +68,12 @@ DeviceNext v op a = DeviceNextAt v.doing v op a
 abbrev pub device_published : ℕ → ℕ → DeviceNow
 device_published old new = Idle
 
--- a chain that is seen has a descriptor at least
+-- a chain that is seen has a descriptor at least. A position seen never goes back: after a rest a look is at an earlier one
 abbrev pub device_looks : DeviceView → ℕ → DeviceView
 device_looks v r =
     if is_available v.frame.size (tpos v.frame v.done) r
-    then record v { seen = tpos v.frame v.done + 1; shown = true; doing = Taking (r ∷ []) }
-    else record v { seen = tpos v.frame v.done; shown = false }
+    then record v { seen = later v.seen (tpos v.frame v.done + 1); shown = true; doing = Taking (r ∷ []) }
+    else record v { seen = later v.seen (tpos v.frame v.done); shown = false }
 
 abbrev pub device_takes : DeviceView → List ℕ → DeviceView
 device_takes v ws = record v { done = Take (chain_of v.frame ws) (loaded_head ws) ∷ v.done; shown = false; doing = Idle }
@@ -92,7 +93,7 @@ seen_to v r = if is_available v.frame.size (tpos v.frame v.done) r then tpos v.f
 
 -- its look is no look for a chain: what the last one showed stays
 abbrev pub device_rests : DeviceView → ℕ → DeviceView
-device_rests v r = record v { done = Rest ∷ v.done; armed = None; seen = seen_to v r }
+device_rests v r = record v { done = Rest ∷ v.done; armed = None; seen = later v.seen (seen_to v r) }
 
 abbrev pub device_commands : DeviceView → ℕ → ℕ → DeviceView
 device_commands v p r =

@@ -16,7 +16,8 @@ use Rattle.vd_ring.specs.declared.device.DeviceDone.TheVariants.{Take, Give}
 use Rattle.vd_ring.specs.declared.device.DeviceNow.TheVariants.{Idle}
 use Rattle.vd_ring.specs.declared.device.DeviceView.{DeviceView}
 use Rattle.vd_ring.specs.Bag.{State}
-use Rattle.vd_ring.specs.History.{offers, takes, gives, running, taken_head, head, chain, last_used, IsWhole}
+use Rattle.vd_ring.specs.Batches.{IsEntry}
+use Rattle.vd_ring.specs.History.{offers, takes, gives, running, taken_head, head, chain, last_used, IsWhole, chain_at}
 use Rattle.vd_ring.specs.Steps.{Keeps, StandsFor, DeviceBagStep}
 use Rattle.vd_packed_ring.specs.PackedWords.{second_word, used_word, is_available}
 use Rattle.vd_packed_ring.specs.PackedPositions.{tpos, upos}
@@ -65,6 +66,7 @@ pub record IsGiven (ws : List ℕ) (d : DriverView) (e : DeviceView) (o : Op) (a
   pub runs : Contains (running e.done) k
   pub entries : List Used
   pub gave : device_done ws e o a ≡ Give entries ∷ e.done
+  pub is_entry : IsEntry d.frame (chain_at (takes e.done)) (length (gives e.done)) entries
   pub last : (last_used entries).number ≡ k
   pub stands : EntryStands d.frame (written ws a) e.done entries
 

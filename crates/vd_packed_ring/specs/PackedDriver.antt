@@ -20,11 +20,12 @@ use Rattle.vd_ring.specs.declared.driver.DriverNow.{DriverNow}
 use Rattle.vd_ring.specs.declared.driver.DriverNow.TheVariants.{Idle, Offering}
 use Rattle.vd_ring.specs.declared.driver.DriverView.{DriverView}
 use Rattle.vd_ring.specs.Frames.{Fits, limit}
-use Rattle.vd_ring.specs.History.{offers, collects, head, next_head, open_at, collected, last_used}
+use Rattle.vd_ring.specs.Batches.{MayReturn}
+use Rattle.vd_ring.specs.History.{offers, collects, head, next_head, open_at, collected, last_used, chain}
 use Rattle.vd_ring.specs.Control.{IsControlChain, StoresCommand, LoadsAck, last_collected}
 use Rattle.vd_packed_ring.specs.PackedWords.{IsDrivers, commands_from, command_word, ack_word, second_word, len_of, id_of, is_used, put, words_of}
 use Rattle.vd_packed_ring.specs.PackedChains.{descriptors, spelling, publishing, staged_chain}
-use Rattle.vd_packed_ring.specs.PackedPositions.{opos, cpos}
+use Rattle.vd_packed_ring.specs.PackedPositions.{opos, cpos, later}
 
 -- ---- the conditions
 
@@ -93,11 +94,11 @@ driver_stores v puts p x = if p == second_word v.frame.size (opos v.frame v.done
 
 abbrev pub driver_collects : DriverView → ℕ → DriverView
 driver_collects v r =
-    let o : List DriverDone = Collect (collected v.frame v.done (id_of r) (len_of r)) ∷ v.done in record v { done = o; seen = cpos v.frame o; shown = false }
+    let o : List DriverDone = Collect (collected v.frame v.done (id_of r) (len_of r)) ∷ v.done in record v { done = o; seen = later v.seen (cpos v.frame o); shown = false }
 
 -- the look is the collect's only load
 abbrev pub driver_looks : DriverView → ℕ → DriverView
-driver_looks v r = if is_used v.frame.size (cpos v.frame v.done) r then driver_collects v r else record v { seen = cpos v.frame v.done; shown = false }
+driver_looks v r = if is_used v.frame.size (cpos v.frame v.done) r then driver_collects v r else record v { seen = later v.seen (cpos v.frame v.done); shown = false }
 
 abbrev pub driver_commands : DriverView → ℕ → ℕ → DriverView
 driver_commands v p x =
@@ -120,12 +121,12 @@ driver_after v op a r = driver_after_at v.doing v op a r
 
 -- ---- tells
 
--- a used id is the head of a chain offered and not collected; under IN_ORDER it is the first of them
+-- a used id is the head of a chain offered and not collected, whose entry may come next
 pub record NamesOpen (f : Frame) (o : List DriverDone) (id : ℕ) : Type 0 where
   pub number : ℕ
   pub is_open : Contains (open_at o) number
   pub is_head : head f o number ≡ id
-  pub in_order : f.features.in_order ≡ true → number ≡ length (collects o)
+  pub next : MayReturn f (chain o) (length (collects o)) number
 
 -- a look shows an entry before a position seen
 abbrev pub DriverTellsAt : DriverNow → DriverView → Op → Access → ℕ → Type 0

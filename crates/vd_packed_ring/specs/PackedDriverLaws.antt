@@ -11,7 +11,8 @@ use Rattle.vd_ring.specs.declared.driver.DriverNow.TheVariants.{Idle}
 use Rattle.vd_ring.specs.declared.driver.DriverView.{DriverView}
 use Rattle.vd_ring.specs.declared.driver.DriverDone.{DriverDone}
 use Rattle.vd_ring.specs.declared.device.DeviceView.{DeviceView}
-use Rattle.vd_ring.specs.History.{offers, collects, gives, head, next_head, entry, used_at}
+use Rattle.vd_ring.specs.Lists.{Collects}
+use Rattle.vd_ring.specs.History.{offers, collects, gives, head, next_head}
 use Rattle.vd_ring.specs.Bag.{State}
 use Rattle.vd_ring.specs.Steps.{Keeps, StandsFor, DriverBagStep}
 use Rattle.vd_packed_ring.specs.PackedWords.{width, addr_word, second_word, is_used}
@@ -45,11 +46,9 @@ pub record IsOffered (ws : List ℕ) (d : DriverView) (op : Op) (a : Access) (k 
   pub is_head : head d.frame (driver_after d op a (answered ws a)).done k ≡ next_head d.frame d.done
   pub spelled : Spells d.frame (written ws a) (opos d.frame d.done) (next_head d.frame d.done) chain
 
--- `Collected` has the number and length of the next entry given, and the head of its chain
+-- `Collected` has the number and length of the next used entry given, all of whose pairs were collected, and the head of its chain
 pub record IsCollected (ws : List ℕ) (d : DriverView) (e : DeviceView) (op : Op) (a : Access) (number len at_head : ℕ) : Type 0 where
-  pub more : length (collects d.done) < length (gives e.done)
-  pub is_entry : used_at (gives e.done) (length (collects d.done)) ≡ entry number len
-  pub collected : collects (driver_after d op a (answered ws a)).done ≡ collects d.done ++ entry number len ∷ []
+  pub did : Collects d.frame d.done e.done (driver_after d op a (answered ws a)).done number len
   pub is_head : at_head ≡ head d.frame d.done number
 
 -- a descriptor's word that the driver stores is at a position from its own on, less than the ring's size past what it collected

@@ -1,5 +1,5 @@
 -- The positions of a packed ring, and what stands at each, by the acts of its two sides.
-use Rattle.std.specs.Prelude.{ℕ, zero, suc, List, [], ◌∷◌, ◌++◌, take, replicate, Option, Some, None, slice_index_or}
+use Rattle.std.specs.Prelude.{nat_lt, if◌then◌else◌, ℕ, zero, suc, List, [], ◌∷◌, ◌++◌, take, replicate, Option, Some, None, slice_index_or}
 use Rattle.std.specs.List.{sum_by}
 use Rattle.vd_model.specs.declared.chain.Piece.{Piece}
 use Rattle.vd_model.specs.Chains.{needs}
@@ -30,6 +30,10 @@ upos f s = sum_by (λ u. needs f.features (chain_at (takes s) u.number)) (gives 
 -- the position at which chain number k begins
 abbrev pub start : Frame → List DriverDone → ℕ → ℕ
 start f o k = sum_by (needs f.features) (take k (offers o))
+
+-- the later of two positions
+abbrev pub later : ℕ → ℕ → ℕ
+later a b = if nat_lt a b then b else a
 
 -- the base of a device at rest that has taken these chains
 abbrev pub base_of : Frame → List (List Piece) → ℕ

@@ -1,5 +1,5 @@
 -- The ring invariant of a packed ring: what always holds of its words and of what its two sides know.
-use Rattle.std.specs.Prelude.{◌≡◌, ◌≢◌, ℕ, ◌+◌, ◌*◌, ◌%◌, ◌<◌, ◌≤◌, true, false, List, [], ◌∷◌, length, take, Option, Some, slice_index}
+use Rattle.std.specs.Prelude.{◌≡◌, ◌≢◌, ◌⊎◌, ℕ, ◌+◌, ◌*◌, ◌%◌, ◌<◌, ◌≤◌, true, false, List, [], ◌∷◌, length, take, Option, Some, slice_index}
 use Rattle.std.specs.List.{All, Contains}
 use Rattle.vd_ring.specs.declared.frame.Frame.{Frame}
 use Rattle.vd_ring.specs.declared.frame.Put.{Put}
@@ -38,8 +38,12 @@ pub record Row (n half : ℕ) (ws : List ℕ) (top : ℕ) (puts : List Put) (cur
   pub kept : (q : ℕ) → q < top → top ≤ q + n → IsClear puts (2 * (q % n) + half) → slice_index ws (2 * (q % n) + half) ≡ cur q
   pub fresh : (p : ℕ) → p < n → top ≤ p → IsClear puts (2 * p + half) → slice_index ws (2 * p + half) ≡ 0
 
--- a side's event word and bell: where it is armed, the event word names its position (VIRTIO 1.2, 2.8.10)
+-- a side's event word and bell, armed or not: without EVENT_IDX the word is 0 or DISABLE 1, with it 0 or one that names a position;
+-- where the side is armed, it enables or names that position (VIRTIO 1.2, 2.8.10). That a side rings no more often than it publishes
+-- is no part of these: it belongs to what holds of sleeping sides
 pub record Signals (f : Frame) (event_at bell_at : ℕ) (armed : Option ℕ) (bells : ℕ) (stored : List ℕ) : Type 0 where
+  pub flags : f.features.event_idx ≡ false → slice_index stored event_at ≤ 1
+  pub names : f.features.event_idx ≡ true → (slice_index stored event_at ≡ 0) ⊎ ((q : ℕ) × (slice_index stored event_at ≡ event_word f.size q))
   pub enable : (q : ℕ) → armed ≡ Some q → f.features.event_idx ≡ false → slice_index stored event_at ≡ 0
   pub event : (q : ℕ) → armed ≡ Some q → f.features.event_idx ≡ true → slice_index stored event_at ≡ event_word f.size q
   pub bell : slice_index stored bell_at ≡ bells % 18446744073709551616

@@ -1,10 +1,15 @@
 //! What always holds of a packed ring. These functions do nothing: their contracts are the laws.
 ghost use Rattle.std.specs.Prelude.{◌≡◌, ℕ, ◌+◌, ◌%◌, ◌<◌, ◌≤◌, true, List, length};
+ghost use Rattle.vd_words.specs.declared.access.Access.{Access};
+ghost use Rattle.vd_words.specs.declared.access.Op.{Op};
 ghost use Rattle.vd_ring.specs.declared.device.DeviceView.{DeviceView};
 ghost use Rattle.vd_ring.specs.declared.driver.DriverView.{DriverView};
 ghost use Rattle.vd_ring.specs.declared.frame.Frame.{Frame};
+ghost use Rattle.vd_ring.specs.Account.{Accounts};
 ghost use Rattle.vd_ring.specs.History.{offers, takes, head, chain};
 ghost use Rattle.vd_packed_ring.specs.PackedChains.{Spells};
+ghost use Rattle.vd_packed_ring.specs.PackedDevice.{device_after};
+ghost use Rattle.vd_packed_ring.specs.PackedDriver.{driver_after};
 ghost use Rattle.vd_packed_ring.specs.PackedLaws.{IsFresh, Agree, LooksShow};
 ghost use Rattle.vd_packed_ring.specs.PackedPositions.{upos, start};
 ghost use Rattle.vd_packed_ring.specs.PackedRing.{Ring};
@@ -27,6 +32,12 @@ pub fn agreement_law()
     ensures { (ws : List ℕ) (d : DriverView) (e : DeviceView) → Ring ws d e → Agree d.frame d.done e.done }
 {}
 
+/// The account of the ring, read from the two sides' acts, is lawful, ordered under IN_ORDER, and whole where as many entries are
+/// collected as chains were offered.
+pub fn account_law()
+    ensures { (ws : List ℕ) (d : DriverView) (e : DeviceView) → Ring ws d e → Accounts d.frame.features.in_order d.done e.done }
+{}
+
 /// The word that a look loads shows something further exactly where something further is.
 pub fn looks_law()
     ensures { (ws : List ℕ) (d : DriverView) (e : DeviceView) → Ring ws d e → LooksShow ws d e }
@@ -41,4 +52,10 @@ pub fn position_law()
 pub fn base_law()
     ensures lawful { (n q : ℕ) → 2 ≤ n → n ≤ 32768 → is_base n (base_at n q) ≡ true }
     ensures fresh { (n : ℕ) → 2 ≤ n → base_at n 0 ≡ 2147516416 }
+{}
+
+/// The position that a side has seen never goes back, whatever an access answers.
+pub fn seen_law()
+    ensures driver { (v : DriverView) (o : Op) (a : Access) (r : ℕ) → v.seen ≤ (driver_after v o a r).seen }
+    ensures device { (v : DeviceView) (o : Op) (a : Access) (r : ℕ) → v.seen ≤ (device_after v o a r).seen }
 {}

@@ -42,6 +42,7 @@ fn attach<'a, L: Layout, V: Device<L>>(
     };
     let map = pass_map(m.regions.as_slice());
     let order = Order::first(queue, queue, end.base(), count, m.size, m.features, map);
+    // A lifetime of its own would have to be shown to be outlived by V.
     let control: Option<&'a V> = None;
     match device.attach(&order, end, control) {
         Ok(()) => Ok(()),

@@ -11,6 +11,6 @@ mod preparing;
 
 pub use bench::Bench;
 pub use epoch::PlayFault;
-pub use floor::{Floor, Lane};
+pub use floor::Floor;
 pub use playing::play_machine;
 pub use preparing::prepare;

@@ -11,12 +11,12 @@ use Rattle.vd_ring.specs.declared.frame.Used.{Used}
 use Rattle.vd_ring.specs.declared.driver.DriverDone.{DriverDone}
 use Rattle.vd_ring.specs.declared.device.DeviceDone.{DeviceDone}
 use Rattle.vd_ring.specs.declared.device.DeviceDone.TheVariants.{Take, Give, Rest, StoreAck, LoadCommand}
-use Rattle.vd_ring.specs.History.{offers, collects, takes, gives, heads, running, running_size, open_at, open_size, head, taken_head, chain, chain_at, numbers, occurs, used_at, last_used, entry, batch, IsWhole}
+use Rattle.vd_ring.specs.History.{offers, collects, takes, gives, heads, running, running_size, open_at, open_size, head, taken_head, chain, chain_at, numbers, occurs, used_at, last_used, entry, IsWhole}
 use Rattle.vd_ring.specs.Places.{Places}
-use Rattle.vd_ring.specs.Lists.{Lists, entry_at}
+use Rattle.vd_ring.specs.Lists.{Lists, IsGive, entry_at}
 use Rattle.vd_ring.proofs.Counts.{one, one_same, one_other, one_below, one_above, one_small, one_more, occurs_push, occurs_without, length_without, occurs_rest, sum_same, sum_within}
 use Rattle.vd_ring.proofs.HeldPlaces.{few_open, head_inside, same_head, numbers_push}
-use Rattle.vd_ring.proofs.ListSteps.{collected_given}
+use Rattle.vd_ring.proofs.ListSteps.{collected_given, entry_next}
 
 -- ---- what runs
 
@@ -114,9 +114,9 @@ room_left f o s l p below =
 
 -- ---- what a give leaves
 
-pub lists_given : (f : Frame) (o : List DriverDone) (s : List DeviceDone) (u : Used) → Lists f o s → 1 ≤ occurs u.number (running s) → (f.features.in_order ≡ true → u.number ≡ length (gives s))
-    → u ∷ [] ≡ batch f (chain_at (takes s)) (length (gives s)) u.number u.len → Lists f o (Give (u ∷ []) ∷ s)
-lists_given f o s u l runs order is =
+pub lists_given : (f : Frame) (o : List DriverDone) (s : List DeviceDone) (u : Used) → Lists f o s → 1 ≤ occurs u.number (running s) → IsGive f s (u ∷ []) → Lists f o (Give (u ∷ []) ∷ s)
+lists_given f o s u l runs is =
+    let order : f.features.in_order ≡ true → u.number ≡ length (gives s) = entry_next f (chain_at (takes s)) (length (gives s)) (u ∷ []) is in
     let g : ℕ = length (gives s) in
     let m : ℕ = length (collects o) in
     let longer : length (gives s ++ u ∷ []) ≡ g + 1 = length_push (gives s) u in
@@ -127,7 +127,7 @@ lists_given f o s u l runs order is =
       heads = l.heads;
       given = λ k. omega (arith, l.given k, occurs_without k u.number (running s) runs, numbers_push (gives s) u k);
       count = omega (arith, l.count, length_without u.number (running s) runs);
-      entries = (record { is_batch = is; one = refl }, l.entries);
+      entries = (is, l.entries);
       collected = l.collected ∙ sym (take-append-le m (gives s) (u ∷ []) l.fewer);
       fewer = omega (arith, l.fewer);
       cut = λ a. elim (cases_eq g m) [

@@ -7,3 +7,5 @@ pub mod DriverBag
 pub mod DeviceLists
 pub mod DeviceAcks
 pub mod DeviceBag
+pub mod ControlWordsStand
+pub mod Accounting

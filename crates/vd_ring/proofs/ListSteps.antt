@@ -1,5 +1,5 @@
 -- What the two sides' lists keep, and what follows of them. The driver's offers and collects.
-use Rattle.std.proofs.Common.{◌≡◌, ℕ, zero, suc, ◌+◌, ◌-◌, ◌<◌, ◌≤◌, ◌&&◌, Bool, not, true, false, List, [], ◌∷◌, ◌++◌, length, take, map, if◌then◌else◌, nat_lt, slice_index, Option, Some, None, refl, sym, ap, ◌∙◌, arith, inl, inr}
+use Rattle.std.proofs.Common.{◌≡◌, ℕ, zero, suc, ◌+◌, ◌-◌, ◌<◌, ◌≤◌, ◌&&◌, Bool, not, true, false, List, [], ◌∷◌, ◌++◌, length, take, map, if◌then◌else◌, nat_lt, slice_index, Option, Some, None, refl, sym, ap, ◌∙◌, subst, arith, inl, inr, drop}
 use Rattle.std.proofs.lemmas.Bool.{cases_eq, cases_lt, eq-eqb, ne_eqb}
 use Rattle.std.proofs.lemmas.List.{length_push, length-map, take_more, take-map, take-append-le, get_or_append_left, get_or_push}
 use Rattle.vd_model.specs.declared.chain.Piece.{Piece}
@@ -10,9 +10,10 @@ use Rattle.vd_ring.specs.declared.driver.DriverDone.{DriverDone}
 use Rattle.vd_ring.specs.declared.driver.DriverDone.TheVariants.{Offer, Collect}
 use Rattle.vd_ring.specs.declared.device.DeviceDone.{DeviceDone}
 use Rattle.vd_ring.specs.declared.device.DeviceDone.TheVariants.{Take, Give, Rest, StoreAck, LoadCommand}
-use Rattle.vd_ring.specs.History.{offers, collects, takes, gives, open_at, entry, numbers, occurs, used_at, first, batch, between, upto}
+use Rattle.vd_ring.specs.Batches.{IsEntry, MayReturn}
+use Rattle.vd_ring.specs.History.{last_used, is_batching, offers, collects, takes, gives, open_at, entry, numbers, occurs, used_at, first, batch, between, upto, chain}
 use Rattle.vd_ring.specs.Places.{Places}
-use Rattle.vd_ring.specs.Lists.{Lists, AreGives, entry_at}
+use Rattle.vd_ring.specs.Lists.{Lists, AreGives, entry_at, Collects}
 use Rattle.vd_ring.proofs.Counts.{one_same, one_below, one_small, one_above, occurs_before, occurs_parts}
 use Rattle.vd_ring.proofs.HeldPlaces.{few_open, places_before}
 
@@ -44,6 +45,41 @@ batch_one f chains count number len order = ap (λ us. us ++ entry number len �
     at true true order = none_skipped chains number
     at false true order = none_skipped chains number
     at false false order = none_skipped chains number
+
+-- ---- what may come next
+
+last_pair : (us : List Used) (u : Used) → last_used (us ++ u ∷ []) ≡ u
+last_pair [] u = refl
+last_pair (v ∷ []) u = refl
+last_pair (v ∷ w ∷ us) u = last_pair (w ∷ us) u
+
+only_one : (count : ℕ) → between count (count + 1) ≡ count ∷ []
+only_one count =
+    let one : (count + 1) - count ≡ 1 = omega arith in
+    let same : count + 0 ≡ count = omega arith in
+    ap (λ n. map (λ i. count + i) (upto n)) one ∙ ap (λ (i : ℕ). i ∷ []) same
+
+-- one pair, under IN_ORDER of the first chain not returned, is an entry's
+pub single_entry : (f : Frame) (chains : ℕ → List Piece) (count : ℕ) (u : Used) → (f.features.in_order ≡ true → u.number ≡ count) → IsEntry f chains count (u ∷ [])
+single_entry f chains count u order = record {
+  is_batch = sym (batch_one f chains count u.number u.len order);
+  in_order = λ on. ap (λ (k : ℕ). k ∷ []) (order on) ∙ sym (only_one count);
+  one = refl;
+}
+
+pub may_return : (f : Frame) (chains : ℕ → List Piece) (count number : ℕ) → (f.features.in_order ≡ true → number ≡ count) → MayReturn f chains count number
+may_return f chains count number order = λ len. subst (λ (us : List Used). IsEntry f chains count us) (sym (batch_one f chains count number len order)) (single_entry f chains count (entry number len) order)
+
+-- and the reverse
+pub entry_next : (f : Frame) (chains : ℕ → List Piece) (count : ℕ) (us : List Used) → IsEntry f chains count us → f.features.in_order ≡ true → (last_used us).number ≡ count
+entry_next f chains count [] e on = absurd (let one : 0 ≡ 1 = e.one in omega arith)
+entry_next f chains count (u ∷ v ∷ us) e on = absurd (let one : suc (suc (length us)) ≡ 1 = e.one in omega arith)
+entry_next f chains count (u ∷ []) e on = ap first (e.in_order on ∙ only_one count)
+
+pub returns_next : (f : Frame) (chains : ℕ → List Piece) (count number : ℕ) → MayReturn f chains count number → f.features.in_order ≡ true → number ≡ count
+returns_next f chains count number may on =
+    let us : List Used = batch f chains count number 0 in
+    sym (ap (λ (u : Used). u.number) (last_pair (skipped chains (if is_batching f then count else number) number) (entry number 0))) ∙ entry_next f chains count us (may 0) on
 
 pub entry_is : (f : Frame) (s : List DeviceDone) (j : ℕ) (u : Used) → AreGives f s → entry_at s j ≡ Some u → (j < length (gives s)) × (used_at (gives s) j ≡ u)
 entry_is f [] j u a is = absurd cc
@@ -119,6 +155,22 @@ pub given_within : (f : Frame) (o : List DriverDone) (s : List DeviceDone) → P
 given_within f o s p l = (omega (arith, l.count, l.some), omega (arith, p.count, few_open f o p))
 
 -- ---- an offer and a collect
+
+next_pair : (us : List Used) (m : ℕ) → m < length us → take 1 (drop m us) ≡ used_at us m ∷ []
+next_pair [] m h = absurd (omega arith)
+next_pair (u ∷ us) zero h = refl
+next_pair (u ∷ us) (suc m) h = next_pair us m (omega arith)
+
+-- a collect of the next pair
+pub collects_next : (f : Frame) (o : List DriverDone) (s : List DeviceDone) (u : Used) (o2 : List DriverDone) → Lists f o s → length (collects o) < length (gives s) → used_at (gives s) (length (collects o)) ≡ u → o2 ≡ Collect (u ∷ []) ∷ o → Collects f o s o2 u.number u.len
+collects_next f o s u o2 l more is did = record {
+  more = more;
+  entries = u ∷ [];
+  is_entry = single_entry f (chain o) (length (collects o)) u (λ on. ap (λ (v : Used). v.number) (sym is) ∙ l.in_order on (length (collects o)) more);
+  were_given = ap (λ (v : Used). v ∷ []) (sym is) ∙ sym (next_pair (gives s) (length (collects o)) more);
+  last = refl;
+  collected = did;
+}
 
 pub lists_offered : (f : Frame) (o : List DriverDone) (c : List Piece) (s : List DeviceDone) → Places f o → Lists f o s → Lists f (Offer c ∷ o) s
 lists_offered f o c s pl l = record {

@@ -1,6 +1,8 @@
 pub mod Frames
 pub mod History
+pub mod Batches
 pub mod Control
+pub mod ControlLaws
 pub mod Bag
 pub mod Account
 pub mod Places

@@ -1,11 +1,13 @@
 -- What the two sides' acts have in common: what was taken of what was offered, and collected of what was given.
-use Rattle.std.specs.Prelude.{◌≡◌, ℕ, ◌+◌, ◌<◌, ◌≤◌, ◌==◌, true, List, [], ◌∷◌, length, take, Option, Some, None, if◌then◌else◌, nat_lt}
+use Rattle.std.specs.Prelude.{◌≡◌, ℕ, ◌+◌, ◌<◌, ◌≤◌, ◌==◌, true, List, [], ◌∷◌, length, take, Option, Some, None, if◌then◌else◌, nat_lt, drop}
 use Rattle.vd_ring.specs.declared.frame.Frame.{Frame}
 use Rattle.vd_ring.specs.declared.frame.Used.{Used}
 use Rattle.vd_ring.specs.declared.driver.DriverDone.{DriverDone}
+use Rattle.vd_ring.specs.declared.driver.DriverDone.TheVariants.{Collect}
 use Rattle.vd_ring.specs.declared.device.DeviceDone.{DeviceDone}
 use Rattle.vd_ring.specs.declared.device.DeviceDone.TheVariants.{Take, Give, Rest, StoreAck, LoadCommand}
-use Rattle.vd_ring.specs.History.{offers, collects, takes, gives, heads, taken_head, running, head, numbers, occurs, used_at, last_used, chain_at, batch, IsWhole}
+use Rattle.vd_ring.specs.Batches.{IsEntry}
+use Rattle.vd_ring.specs.History.{offers, collects, takes, gives, heads, taken_head, running, head, numbers, occurs, used_at, last_used, chain_at, IsWhole, chain, entry}
 
 -- the used entry that begins at entry number j: the last pair of the give that begins there
 abbrev pub entry_at : List DeviceDone → ℕ → Option Used
@@ -16,10 +18,9 @@ entry_at (Rest ∷ s) j = entry_at s j
 entry_at (StoreAck h x ∷ s) j = entry_at s j
 entry_at (LoadCommand k i x ∷ s) j = entry_at s j
 
--- one used entry's chains: those that its last pair returns. Until batches come it is one
-pub record IsGive (f : Frame) (s : List DeviceDone) (us : List Used) : Type 0 where
-  pub is_batch : us ≡ batch f (chain_at (takes s)) (length (gives s)) (last_used us).number (last_used us).len
-  pub one : length us ≡ 1
+-- a give of these pairs, after the acts, is one used entry's
+abbrev pub IsGive : Frame → List DeviceDone → List Used → Type 0
+IsGive f s us = IsEntry f (chain_at (takes s)) (length (gives s)) us
 
 -- each give is one used entry's
 abbrev pub AreGives : Frame → List DeviceDone → Type 0
@@ -46,6 +47,15 @@ pub record Lists (f : Frame) (o : List DriverDone) (s : List DeviceDone) : Type 
   pub cut : length (collects o) < length (gives s) → (u : Used) × (entry_at s (length (collects o)) ≡ Some u)
   -- under IN_ORDER the chains are given in the order in which they were offered (VIRTIO 1.2, 2.7.9)
   pub in_order : f.features.in_order ≡ true → (j : ℕ) → j < length (gives s) → (used_at (gives s) j).number ≡ j
+
+-- the collect that led from the acts o to o2 took the pairs of the next used entry given, the last with this number and length
+pub record Collects (f : Frame) (o : List DriverDone) (s : List DeviceDone) (o2 : List DriverDone) (number len : ℕ) : Type 0 where
+  pub more : length (collects o) < length (gives s)
+  pub entries : List Used
+  pub is_entry : IsEntry f (chain o) (length (collects o)) entries
+  pub were_given : entries ≡ take (length entries) (drop (length (collects o)) (gives s))
+  pub last : last_used entries ≡ entry number len
+  pub collected : o2 ≡ Collect entries ∷ o
 
 -- a device whose last act is a rest has given all that it has taken
 abbrev pub Rested : List DeviceDone → Type 0

@@ -49,7 +49,7 @@ pub struct DeviceView {
     /// How many bells it stored.
     pub bells: u64,
     /// How many chains (split), or up to which position (packed), the last index or descriptor loaded in a look showed, a rest's
-    /// too.
+    /// too. It never goes back.
     pub seen: u64,
     /// Its last look showed a chain that it has not taken since.
     pub shown: bool,

@@ -45,7 +45,8 @@ pub struct DriverView {
     pub heard: u64,
     /// How many bells it stored.
     pub bells: u64,
-    /// How many used entries (split), or up to which position (packed), its last look showed.
+    /// How many used entries (split), or up to which position (packed), its last look showed. It never
+    /// goes back.
     pub seen: u64,
     /// Its last look showed an entry that it has not collected since.
     pub shown: bool,

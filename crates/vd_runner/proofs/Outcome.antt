@@ -1,5 +1,5 @@
 -- The answer that follows from the bytes of a source and from the numbers of parties, where nothing fails.
-use Rattle.std.proofs.Common.{◌≡◌, ℕ, ◌<◌, ◌≤◌, List, ◌++◌, ◌⊎◌, length, get_or, Option, Some, None, Bool, true, false, ◌&&◌, nat_le, if◌then◌else◌, inl, inr, refl, ap, sym, ◌∙◌, arith, append-nil, length-append}
+use Rattle.std.proofs.Common.{◌≡◌, ℕ, ◌<◌, ◌≤◌, List, ◌++◌, ◌⊎◌, length, get_or, Option, Some, None, Bool, true, false, ◌&&◌, nat_le, if◌then◌else◌, inl, inr, refl, ap, sym, subst, ◌∙◌, arith, append-nil, length-append}
 use Rattle.std.proofs.lemmas.Bool.{lt-ltb, le-ltb, le-leb, lt-leb}
 use Rattle.std.proofs.lemmas.Option.{slice_get-get_or, slice_get_cases}
 use Rattle.std.specs.Io.KnownBytes.{Consumes, IsAtEnd}
@@ -15,6 +15,7 @@ use Rattle.vd_play.specs.declared.bench.Bench.{Bench}
 use Rattle.vd_runner.specs.declared.status.Status.{Status}
 use Rattle.vd_runner.specs.declared.status.Status.TheVariants as status
 use Rattle.vd_runner.specs.Answers.{expected, verdict, need, IsOrMemory}
+use Rattle.vd_runner.specs.Layouts.{orders_packed}
 use Rattle.vd_runner.specs.Outcome.{PlaysTo, IsCutOff, SomeRose}
 use Rattle.vd_runner.specs.Reading.{BreaksFirst, ReadsTooMuch, ReadsMachine, RefusesToRead}
 use Rattle.vd_runner.proofs.Prepared.{same_devices}
@@ -98,3 +99,12 @@ play_expected e l g m bytes rest plan brief old new held now before after status
 play_expected e l g m bytes rest plan brief old new held now before after (status.Machine rule) calm still h p = absurd p
 play_expected e l g m bytes rest plan brief old new held now before after status.ReadFault calm still h p = absurd p
 play_expected e l g m bytes rest plan brief old new held now before after (status.TooLarge n) calm still h p = absurd p
+
+-- the layout that the bytes of a whole source order
+pub layout_read : (bytes : List ℕ) (rest : Option (List ℕ)) (plan : Plan) → ReadsMachine (Some bytes) rest plan → orders_packed bytes ≡ plan.packed
+layout_read bytes rest plan h =
+    ap (λ bs. orders_packed bs) (whole_is bytes h.bytes rest h.read.taken h.read.end) ∙ ap (λ (p : Option Plan). option_map_or (λ (m : Plan). m.packed) p false) h.means
+
+-- by the parties of the layout that is ordered
+pub by_layout : (bytes : List ℕ) (b : Bool) (g v h w : ℕ) (s : Status) → orders_packed bytes ≡ b → IsOrMemory (expected bytes (if b then h else g) (if b then w else v)) s → IsOrMemory (expected bytes (if orders_packed bytes then h else g) (if orders_packed bytes then w else v)) s
+by_layout bytes b g v h w s is found = subst (λ (x : Bool). IsOrMemory (expected bytes (if x then h else g) (if x then w else v)) s) (sym is) found

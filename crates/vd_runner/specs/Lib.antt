@@ -3,3 +3,4 @@ pub mod Command
 pub mod Reading
 pub mod Outcome
 pub mod Answers
+pub mod Layouts

@@ -1,11 +1,12 @@
 //! What a command leaves of its parties.
-use super::tests::bench_of;
+use super::tests::{bench_of, no_parties};
 use super::*;
 use std::alloc::{AllocError, Global};
 use std::test::*;
 use vd_bus::{Device, Event, Guest};
 use vd_model::{Base, Mode};
 use vd_models::{FaultyDevice, ModelDevice, ModelGuest};
+use vd_packed::Packed;
 use vd_split::Split;
 use vd_stream::{MemorySink, MemorySource};
 
@@ -46,7 +47,14 @@ fn play_on_models(
     let mut source = MemorySource::new(alloc, file.as_bytes(), &[])?;
     let mut sink = MemorySink::new(alloc, room, &[])?;
     let mut bench = bench_of(alloc, ModelDevice::new(alloc, 1))?;
-    let status = vdpa(alloc, &["play"], &mut source, &mut sink, &mut bench);
+    let status = vdpa(
+        alloc,
+        &["play"],
+        &mut source,
+        &mut sink,
+        &mut bench,
+        &mut no_parties::<Packed>(alloc),
+    );
     Ok((status, bench))
 }
 
@@ -137,7 +145,14 @@ fn a_refused_second_attach_leaves_the_first_epoch(rt: HostRuntime) -> Result<(),
     let mut source = MemorySource::new(alloc, file.as_bytes(), &[])?;
     let mut sink = MemorySink::new(alloc, 200, &[])?;
     let mut bench = bench_of(alloc, FaultyDevice::new(ModelDevice::new(alloc, 1), 2))?;
-    let status = vdpa(alloc, &["play"], &mut source, &mut sink, &mut bench);
+    let status = vdpa(
+        alloc,
+        &["play"],
+        &mut source,
+        &mut sink,
+        &mut bench,
+        &mut no_parties::<Packed>(alloc),
+    );
     assert!(rt; status == Status::DeviceFault(0));
     assert!(rt; sink.held().is_empty());
     assert!(rt; bench.guests.len() == 1 && bench.devices.len() == 1);

@@ -6,6 +6,8 @@ mod epochs;
 #[cfg(test)]
 mod journal_tests;
 mod line;
+#[cfg(test)]
+mod parties_tests;
 mod playing;
 mod read;
 mod reporting;

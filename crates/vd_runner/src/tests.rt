@@ -6,8 +6,10 @@ use super::*;
 use std::alloc::{AllocError, Global};
 use std::test::*;
 use vd_bus::{Device, Guest};
+use vd_layout::Layout;
 use vd_machine::MachineFault;
 use vd_models::{FaultyDevice, ModelDevice, ModelGuest};
+use vd_packed::Packed;
 use vd_split::Split;
 use vd_stream::{Failed, MemorySink, MemorySource, Sink, Source};
 
@@ -31,6 +33,16 @@ pub fn bench_of<V: Device<Split>>(
     Ok(Bench { guests, devices })
 }
 
+/// A bench without parties.
+pub fn no_parties<L: Layout>(alloc: Global) -> Bench<ModelGuest<L>, ModelDevice<L>>
+    ensures { IsEmptyBench ⟦<ModelGuest<L> as Guest<L>>⟧.party ⟦<ModelDevice<L> as Device<L>>⟧.party result }
+{
+    Bench {
+        guests: Vec::new(alloc),
+        devices: Vec::new(alloc),
+    }
+}
+
 /// How a command ended, whether the sink holds what it should, and how many events and returns there are.
 #[derive(Drop)]
 struct Ending {
@@ -51,7 +63,14 @@ fn run_on(
     let mut source = MemorySource::new(alloc, bytes, takes)?;
     let mut sink = MemorySink::new(alloc, 200, puts)?;
     let mut bench = bench_of(alloc, ModelDevice::new(alloc, 1))?;
-    let status = vdpa(alloc, words, &mut source, &mut sink, &mut bench);
+    let status = vdpa(
+        alloc,
+        words,
+        &mut source,
+        &mut sink,
+        &mut bench,
+        &mut no_parties::<Packed>(alloc),
+    );
     let events = match bench.devices.as_slice() {
         [device] => device.journal().events.len(),
         _ => usize::MAX,
@@ -191,7 +210,14 @@ fn a_bench_without_a_device_is_left_as_it_is(rt: HostRuntime) -> Result<(), Fail
     guests.push(ModelGuest::new(alloc))?;
     let devices: Vec<ModelDevice<Split>> = Vec::new(alloc);
     let mut bench = Bench { guests, devices };
-    let status = vdpa(alloc, &["play"], &mut source, &mut sink, &mut bench);
+    let status = vdpa(
+        alloc,
+        &["play"],
+        &mut source,
+        &mut sink,
+        &mut bench,
+        &mut no_parties::<Packed>(alloc),
+    );
     let few = Status::TooFewParties {
         need: 1,
         guests: 1,
@@ -217,7 +243,14 @@ fn a_refused_attach_is_the_fault_of_its_queue(rt: HostRuntime) -> Result<(), Fai
         let mut sink = MemorySink::new(alloc, 200, &[])?;
         let device = FaultyDevice::new(ModelDevice::new(alloc, 1), *fails);
         let mut bench = bench_of(alloc, device)?;
-        let status = vdpa(alloc, &["play"], &mut source, &mut sink, &mut bench);
+        let status = vdpa(
+            alloc,
+            &["play"],
+            &mut source,
+            &mut sink,
+            &mut bench,
+            &mut no_parties::<Packed>(alloc),
+        );
         assert!(rt; status == *wanted);
         assert_eq!(rt; sink.held().is_empty(), status != Status::Ok);
         assert_eq!(rt; bench.devices.len(), 1);
@@ -270,7 +303,14 @@ fn a_byte_a_call_serves(rt: HostRuntime) -> Result<(), Fail> {
         inner: MemorySink::new(alloc, 200, &[])?,
     };
     let mut bench = bench_of(alloc, ModelDevice::new(alloc, 1))?;
-    let status = vdpa(alloc, &["play"], &mut source, &mut sink, &mut bench);
+    let status = vdpa(
+        alloc,
+        &["play"],
+        &mut source,
+        &mut sink,
+        &mut bench,
+        &mut no_parties::<Packed>(alloc),
+    );
     assert!(rt; status == Status::Ok);
     assert!(rt; sink.inner.held() == REPORT.as_bytes());
     Ok(())

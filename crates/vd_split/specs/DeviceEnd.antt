@@ -114,10 +114,10 @@ device_begun step.Rest = DeviceOp.rest
 abbrev pub device_left : DeviceStep → ℕ → ℕ
 device_left step.Idle n = 0
 device_left step.Resting n = 0
-device_left step.Look n = 37
-device_left (step.Entry r) n = 36
-device_left (step.Address r h p) n = 2 * (16 - n) + 3
-device_left (step.Second r h p) n = 2 * (16 - n) + 2
+device_left step.Look n = 36
+device_left (step.Entry r) n = 35
+device_left (step.Address r h p) n = 2 * (16 - n) + 2
+device_left (step.Second r h p) n = 2 * (16 - n) + 1
 device_left (step.Name k h l) n = 3
 device_left (step.Measure k h l) n = 2
 device_left (step.Publish k h l) n = 1

@@ -22,10 +22,11 @@ use Rattle.vd_ring.specs.declared.device.DeviceView.{DeviceView}
 use Rattle.vd_ring.specs.History.{takes, gives, heads, running, taken_head, given, with_head, batch, chain_at, entry, last_used, numbers, occurs, IsWhole}
 use Rattle.vd_ring.proofs.Counts.{one_same, one_other, one_small, one_below, one_above, occurs_rest, occurs_without, length_without, with_head_is, Contains_from}
 use Rattle.vd_ring.proofs.HeldPlaces.{numbers_push}
-use Rattle.vd_ring.proofs.ListSteps.{batch_one}
+use Rattle.vd_ring.proofs.ListSteps.{batch_one, may_return}
 use Rattle.vd_split_ring.specs.SplitWords.{used_from, lane_word}
 use Rattle.vd_split_ring.specs.SplitDevice.{DeviceNextAt, DeviceNext, device_after_at, device_after, device_act, device_act_at}
 use Rattle.vd_split_ring.proofs.Areas.{areas}
+use Rattle.vd_layout.proofs.OnePair.{were_given}
 use Rattle.vd_layout.specs.Begun.{DeviceOp}
 use Rattle.vd_layout.specs.Device.{DeviceSays, IsDeviceStep, is_rested}
 use Rattle.vd_split.specs.declared.device.SplitDevice.{SplitDevice}
@@ -66,7 +67,7 @@ name_goes e v r number head len x is small st word =
     let value : x ≡ set_lane32 (slice_index v.stored p) 1 (taken_head s number) = word ∙ ap (λ w. set_lane32 w 1 head) (st.area.same i (omega (arith, st.area.as_many))) ∙ ap (set_lane32 (slice_index v.stored p) 1) (sym n.1.is_head) in
     let e' : SplitDevice = record e { area = with_item e.area i x; doing = step.Measure number head len } in
     subst (λ k. Goes e e' v op.Give (Store (used_area k + i) x) r act.Moved) (sym st.made.sized) record {
-      next = subst (λ t. DeviceNextAt t v op.Give (Store p x)) (sym n.0) (st.silent.unarmed, record { number = number; runs = Contains_from number (running s) n.1.runs; in_order = n.1.in_order; place = ap (λ k. used_from f + k) st.counts.used_at; word = value });
+      next = subst (λ t. DeviceNextAt t v op.Give (Store p x)) (sym n.0) (st.silent.unarmed, record { number = number; runs = Contains_from number (running s) n.1.runs; next = may_return f (chain_at (takes s)) (length (gives s)) number n.1.in_order; place = ap (λ k. used_from f + k) st.counts.used_at; word = value });
       stands = subst (λ t. DeviceStands e' t) (sym (ap (λ t. device_after_at t v op.Give (Store p x) r) n.0)) record {
         made = st.made;
         counts = st.counts;
@@ -210,7 +211,7 @@ publish_goes e v r number head len x is st word =
       is = sym (ap (λ t. device_act_at t v op.Give (Store p x) r) n.2 ∙ ap (λ (ys : List Used). act.Given (last_used ys).number) one);
       left = subst (λ t. 0 < device_left t (length e.pieces.items)) (sym is) (let y : 0 < 1 = omega arith in y);
       says = subst (λ t. DeviceSays split_words (act.Given number) (device_begun t) DeviceOp.idle f s (device_after v op.Give (Store p x) r).done) (sym is)
-          (len, refl, inl refl, ap (λ (w : DeviceView). w.done) is_after, record { runs = Contains_from number (running s) next.runs; in_order = next.in_order });
+          (len, entry number len ∷ [], refl, inl refl, ap (λ (w : DeviceView). w.done) is_after, were_given f s number len (Contains_from number (running s) next.runs) next.in_order);
       rests = refl;
     }
 

@@ -20,6 +20,8 @@ use Rattle.vd_ring.proofs.Counts.{one_below, one_small, occurs_from, Contains_fr
 use Rattle.vd_split_ring.specs.SplitWords.{used_from, tables_from, commands_from, acks_from, ack_word, is_whole, shows, shown_from}
 use Rattle.vd_split_ring.specs.SplitDevice.{DeviceNextAt, device_after_at, device_takes}
 use Rattle.vd_split_ring.proofs.Areas.{areas}
+use Rattle.vd_split_ring.proofs.ControlFacts.{device_controls}
+use Rattle.vd_layout.proofs.InTable.{runs_in_table}
 use Rattle.vd_layout.specs.Begun.{DeviceOp}
 use Rattle.vd_layout.specs.Device.{IsStill, IsLawfulDevice}
 use Rattle.vd_split.specs.declared.device.SplitDevice.{SplitDevice}
@@ -278,6 +280,9 @@ device_laws = record {
   unused = fresh_unused;
   control = λ e v a r st n. control_at v.doing e v a r st n;
   framed = λ v o a r. frame_at v.doing v o a r;
+  unarmed = λ e v st still. st.silent.unarmed;
+  runs = λ e v st. runs_in_table e.running.items v.frame v.done st.holds.once.each st.holds.once.count st.holds.once.as_many st.holds.places st.holds.kept;
+  controls = device_controls;
 }
 
 -- ---- what a look through the table tells

@@ -68,7 +68,7 @@ entry_goes e e2 v r w head is st none found =
               };
             };
             is = sym (ap (λ t. device_act_at t v op.Take (Load p) w) n.0);
-            left = subst (λ t. 2 * (16 - length e2.pieces.items) + 3 < device_left t (length e.pieces.items)) (sym is) (omega (arith, ap (λ (l : List Piece). length l) none));
+            left = subst (λ t. 2 * (16 - length e2.pieces.items) + 2 < device_left t (length e.pieces.items)) (sym is) (omega (arith, ap (λ (l : List Piece). length l) none));
             says = subst (λ t. DeviceSays split_words act.Moved (device_begun t) DeviceOp.take f s (device_after v op.Take (Load p) w).done) (sym is) (refl, ap (λ (y : DeviceView). y.done) is_after);
             rests = refl;
           },
@@ -106,7 +106,7 @@ address_goes e v r h p x is st =
         doing = record { word = w; words = ws; is = refl; loaded = l };
       };
       is = sym (ap (λ t. device_act_at t v op.Take (Load (2 * p)) x) was ∙ acts_on v r w (2 * p) x ws more);
-      left = subst (λ t. 2 * (16 - length e.pieces.items) + 2 < device_left t (length e.pieces.items)) (sym is) (omega arith);
+      left = subst (λ t. 2 * (16 - length e.pieces.items) + 1 < device_left t (length e.pieces.items)) (sym is) (omega arith);
       says = subst (λ t. DeviceSays split_words act.Moved (device_begun t) DeviceOp.take f s (device_after v op.Take (Load (2 * p)) x).done) (sym is) (refl, ap (λ (y : DeviceView). y.done) is_after);
       rests = refl;
     }
@@ -211,7 +211,7 @@ second_more e e2 v r h p x l st next on pushed is =
         };
       };
       is = sym (ap (λ t. device_act_at t v op.Take (Load (2 * p + 1)) x) l.was ∙ acts_on v r l.word (2 * p + 1) x (l.words ++ e.addr ∷ []) more);
-      left = subst (λ t. 2 * (16 - length e2.pieces.items) + 3 < device_left t (length e.pieces.items)) (sym is) (omega arith);
+      left = subst (λ t. 2 * (16 - length e2.pieces.items) + 2 < device_left t (length e.pieces.items)) (sym is) (omega arith);
       says = subst (λ t. DeviceSays split_words act.Moved (device_begun t) DeviceOp.take f v.done (device_after v op.Take (Load (2 * p + 1)) x).done) (sym is) (refl, ap (λ (y : DeviceView). y.done) is_after);
       rests = refl;
     }

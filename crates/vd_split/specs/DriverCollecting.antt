@@ -17,9 +17,10 @@ use Rattle.vd_ring.specs.History.{collects, open_at, free, places, head, chain, 
 use Rattle.vd_ring.specs.Places.{Places}
 use Rattle.vd_ring.proofs.Counts.{occurs_from, Contains_from, occurs_without, with_head_is, sum_one}
 use Rattle.vd_ring.proofs.HeldPlaces.{open_below, same_head, collect_places, head_inside}
-use Rattle.vd_ring.proofs.ListSteps.{batch_one}
+use Rattle.vd_ring.proofs.ListSteps.{batch_one, returns_next}
 use Rattle.vd_split_ring.specs.SplitWords.{used_from, len_word, shows}
 use Rattle.vd_split_ring.specs.SplitDriver.{NamesOpen, DriverNextAt, DriverNext, driver_after, driver_after_at, driver_act_at}
+use Rattle.vd_layout.proofs.OnePair.{were_collected}
 use Rattle.vd_layout.specs.Begun.{DriverOp}
 use Rattle.vd_layout.specs.Driver.{DriverSays}
 use Rattle.vd_split.specs.declared.driver.SplitDriver.{SplitDriver}
@@ -48,7 +49,7 @@ found queue capacity slots f o id h n =
       number = k;
       is_open = here;
       is_head = n.is_head;
-      in_order = n.in_order;
+      in_order = returns_next f (chain o) (length (collects o)) k n.next;
       inside = omega (arith, head_inside f o k h.held here, n.is_head, h.as_many);
       kept = λ d. subst (λ i. ((slice_index_or slots i d).number ≡ k) × ((slice_index_or slots i d).places.items ≡ places f o k)) n.is_head (h.open_chains k d here);
       room = omega (arith, h.held.sizes, sum_one (λ j. lent f (chain o j)) k (open_at o) here, many, h.room, ap (λ (l : List ℕ). length l) h.queued);
@@ -116,5 +117,5 @@ finish_goes e v r w x e' number is st hit same items capacity =
       left = subst (λ t. 0 < driver_left t e.pieces.items) (sym is) (let z : 0 < 1 = omega arith in z);
       says = subst (λ t. DriverSays (act.Collected number (lane32 x 0) (lane32 w 1)) (driver_begun t e.pieces.items) DriverOp.idle f o (driver_after v op.Collect (Load p) x).done) (sym is)
           (subst (λ j. DriverSays (act.Collected j (lane32 x 0) (lane32 w 1)) DriverOp.collect DriverOp.idle f o (driver_after v op.Collect (Load p) x).done) (sym same)
-          (refl, refl, ap (λ (y : DriverView). y.done) is_after, Contains_from k (open_at o) hit.is_open, sym hit.is_head, hit.in_order));
+          (entry k (lane32 x 0) ∷ [], refl, refl, ap (λ (y : DriverView). y.done) is_after, were_collected f o k (lane32 x 0) (Contains_from k (open_at o) hit.is_open) hit.in_order, sym hit.is_head));
     }

@@ -22,6 +22,7 @@ use Rattle.vd_ring.proofs.Counts.{sum_same}
 use Rattle.vd_split_ring.specs.SplitWords.{avail_from, tables_from, commands_from, command_word, shows, shown_from}
 use Rattle.vd_split_ring.specs.SplitDriver.{CanOffer, DriverNextAt, driver_after_at}
 use Rattle.vd_split_ring.proofs.Areas.{areas}
+use Rattle.vd_split_ring.proofs.ControlFacts.{driver_controls}
 use Rattle.vd_split_ring.proofs.Direct.{lent_needs, needs_pieces}
 use Rattle.vd_layout.specs.Begun.{DriverOp}
 use Rattle.vd_layout.specs.Driver.{HasRoom, MayOffer, IsLawfulDriver}
@@ -102,7 +103,7 @@ step_loaded step.Enter c f o d l y s = (can_loaded f o c l y s.0, s.1)
 step_loaded step.Publish c f o d l y s = (can_loaded f o c l y s.0, s.1)
 step_loaded step.Look c f o d l y s = s
 step_loaded (step.Find r) c f o d l y s = s
-step_loaded (step.Finish r w) c f o d l y s = (s.0, record { number = s.1.number; is_open = s.1.is_open; is_head = s.1.is_head; in_order = s.1.in_order })
+step_loaded (step.Finish r w) c f o d l y s = (s.0, record { number = s.1.number; is_open = s.1.is_open; is_head = s.1.is_head; next = s.1.next })
 
 places_stored : (f : Frame) (o : List DriverDone) (h i y : ℕ) → Places f o → Places f (StoreCommand h i y ∷ o)
 places_stored f o h i y p = record { once = p.once; sizes = p.sizes; as_many = p.as_many; listed = p.listed; is_open = p.is_open; count = p.count; fits = p.fits; limited = p.limited }
@@ -117,7 +118,7 @@ step_stored step.Enter c f o d h i y s = (can_stored f o c h i y s.0, s.1)
 step_stored step.Publish c f o d h i y s = (can_stored f o c h i y s.0, s.1)
 step_stored step.Look c f o d h i y s = s
 step_stored (step.Find r) c f o d h i y s = s
-step_stored (step.Finish r w) c f o d h i y s = (s.0, record { number = s.1.number; is_open = s.1.is_open; is_head = s.1.is_head; in_order = s.1.in_order })
+step_stored (step.Finish r w) c f o d h i y s = (s.0, record { number = s.1.number; is_open = s.1.is_open; is_head = s.1.is_head; next = s.1.next })
 
 -- the end stands after an act that neither offers nor collects, and a store past its area
 after_ack : (e : SplitDriver) (v : DriverView) (l y : ℕ) → DriverStands e v → DriverStands e (record v { done = LoadAck l y ∷ v.done })
@@ -180,4 +181,6 @@ driver_laws = record {
   ends = λ e none. ends_at e.doing e.pieces.items none;
   control = λ e v a r st n. control_at v.doing e v a r st n;
   framed = λ v o a r. frame_at v.doing v o a r;
+  places = λ e v st. st.holds.held;
+  controls = driver_controls;
 }

@@ -20,6 +20,7 @@ use Rattle.vd_split_ring.specs.SplitRing.{Ring}
 use Rattle.vd_split_ring.proofs.DriverKeeps.{driver_keeps}
 use Rattle.vd_split_ring.proofs.DriverViews.{driver_alone}
 use Rattle.vd_split_ring.proofs.DriverAnswers.{driver_offered, driver_nothing, driver_bags}
+use Rattle.vd_split_ring.proofs.ControlFacts.{controls_stand}
 use Rattle.vd_split_ring.proofs.DeviceKeeping.{device_keeps}
 use Rattle.vd_split_ring.proofs.DeviceViews.{device_inside}
 use Rattle.vd_split_ring.proofs.DeviceAnswers.{has_last_used, looks_nothing}
@@ -130,6 +131,7 @@ split_laws = record {
   places = λ ws v w r. r.places;
   lists = λ ws v w r. r.lists;
   rested = λ ws v w r. r.rested;
+  controls = controls_stand;
   driver_nothing = λ ws v w op a r n is. driver_nothing ws v w op a r n is;
   device_nothing = λ ws v w op a r n is. (looks_nothing ws v w op a r n).all is;
   spells = λ ws v w op a k r n is. spells_last ws v op a k (driver_offered ws v w op a k r n is);
@@ -155,4 +157,5 @@ fresh_ends n f c x y can drives serves idle still = record {
   device_sized = (still.1, still.2);
   awake = ap is_resting still.0;
   unused = ap (λ t. is_idle t && ((y.taken == 0) && (y.given == 0))) still.0 ∙ ap (λ k. (k == 0) && (y.given == 0)) still.3 ∙ ap (λ k. k == 0) still.4;
+  driver_unarmed = λ v st. st.silent.unarmed;
 }

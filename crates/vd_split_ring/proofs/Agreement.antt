@@ -1,8 +1,7 @@
 -- The lists of the two sides agree, and what the two looks show.
-use Rattle.std.proofs.Common.{◌≡◌, ℕ, zero, suc, ◌%◌, ◌<◌, List, [], ◌∷◌, length, take, nat_lt, slice_index, sym, ap, ◌∙◌, arith, inl, inr}
-use Rattle.std.proofs.lemmas.Bool.{cases_lt, eq-eqb}
-use Rattle.std.proofs.lemmas.List.{length-map, get_or_append_left, get_or_push, get_or-take}
-use Rattle.std.proofs.lemmas.Grind.{same_number_lists}
+use Rattle.std.proofs.Common.{◌≡◌, ℕ, ◌%◌, ◌<◌, List, length, take, nat_lt, slice_index, sym, ap, ◌∙◌, arith, inl}
+use Rattle.std.proofs.lemmas.Bool.{eq-eqb}
+use Rattle.std.proofs.lemmas.List.{get_or-take}
 use Rattle.vd_bits.specs.Lanes.{lane16}
 use Rattle.vd_model.specs.Chains.{needs}
 use Rattle.vd_ring.specs.declared.frame.Frame.{Frame}
@@ -11,29 +10,17 @@ use Rattle.vd_ring.specs.declared.driver.DriverDone.{DriverDone}
 use Rattle.vd_ring.specs.declared.driver.DriverView.{DriverView}
 use Rattle.vd_ring.specs.declared.device.DeviceDone.{DeviceDone}
 use Rattle.vd_ring.specs.declared.device.DeviceView.{DeviceView}
-use Rattle.vd_ring.specs.Account.{Ordered}
+use Rattle.vd_ring.specs.Account.{Accounts}
 use Rattle.vd_ring.specs.Frames.{lent}
-use Rattle.vd_ring.specs.History.{offers, collects, takes, gives, open_at, chain, numbers, used_at, upto, entry}
-use Rattle.vd_ring.proofs.Counts.{one_small, length_upto, sum_same}
-use Rattle.vd_ring.proofs.ListSteps.{given_below, given_within, number_at}
+use Rattle.vd_ring.specs.History.{offers, collects, takes, gives, open_at, chain, used_at, entry}
+use Rattle.vd_ring.proofs.Accounting.{ordered, accounts}
+use Rattle.vd_ring.proofs.Counts.{one_small, sum_same}
+use Rattle.vd_ring.proofs.ListSteps.{given_below, given_within}
 use Rattle.vd_split_ring.specs.SplitWords.{used_from, lane_word}
 use Rattle.vd_split_ring.specs.SplitRing.{Ring}
 use Rattle.vd_split_ring.specs.SplitLaws.{Agree, LooksShow}
 use Rattle.vd_split_ring.proofs.Areas.{lane_inside, shows_same}
 use Rattle.vd_split_ring.proofs.Direct.{lent_needs}
-
-upto_at : (n j : ℕ) → j < n → slice_index (upto n) j ≡ j
-upto_at zero j h = absurd (omega arith)
-upto_at (suc n) j h = elim (cases_lt j n) [
-  | inl a ↦ get_or_append_left (upto n) (n ∷ []) 0 j (omega (arith, length_upto n)) ∙ upto_at n j a
-  | inr a ↦ (let e : n ≡ j = omega arith in get_or_push (upto n) n 0 j (length_upto n ∙ e) ∙ e)
-]
-
--- a list of entries whose j-th number is j
-ordered : (us : List Used) → ((j : ℕ) → j < length us → (used_at us j).number ≡ j) → Ordered us
-ordered us at =
-    let len : length (numbers us) ≡ length us = length-map us (λ (u : Used). u.number) in
-    same_number_lists (numbers us) (upto (length us)) (len ∙ sym (length_upto (length us))) (λ j h. number_at us j (omega arith) ∙ at j (omega arith) ∙ sym (upto_at (length us) j (omega arith)))
 
 collected_at : (o : List DriverDone) (gs : List Used) (j : ℕ) → collects o ≡ take (length (collects o)) gs → j < length (collects o) → used_at (collects o) j ≡ used_at gs j
 collected_at o gs j is h = ap (λ (us : List Used). used_at us j) is ∙ get_or-take (length (collects o)) gs j (entry 0 0) h
@@ -71,3 +58,7 @@ looks_show ws d e r =
         λ same. eq-eqb (lane16 (slice_index ws (lane_word f 1)) 1) (length (takes s) % 65536) (avail ∙ ap (λ n. n % 65536) same),
       );
     }
+
+-- the account of the ring
+pub account : (ws : List ℕ) (d : DriverView) (e : DeviceView) → Ring ws d e → Accounts d.frame.features.in_order d.done e.done
+account ws d e r = accounts d.frame d.done e.done r.lists

@@ -23,7 +23,9 @@ use Rattle.vd_ring.specs.declared.device.DeviceNow.{DeviceNow}
 use Rattle.vd_ring.specs.declared.device.DeviceNow.TheVariants.{Idle, Taking, Giving}
 use Rattle.vd_ring.specs.declared.device.DeviceView.{DeviceView}
 use Rattle.vd_ring.specs.DeviceSteps.{Did}
-use Rattle.vd_ring.specs.History.{offers, takes, gives, heads, running, taken_head, head, chain, chain_at, given, last_used}
+use Rattle.vd_ring.specs.Batches.{IsEntry}
+use Rattle.vd_ring.proofs.ListSteps.{single_entry, returns_next}
+use Rattle.vd_ring.specs.History.{offers, takes, gives, heads, running, taken_head, head, chain, chain_at, given, last_used, entry}
 use Rattle.vd_ring.specs.Lists.{Lists, Rested, entry_at}
 use Rattle.vd_split_ring.specs.SplitWords.{used_from, id_word, len_word, shows, is_whole, chain_of}
 use Rattle.vd_split_ring.specs.SplitDevice.{DeviceNextAt, DeviceNext, device_after}
@@ -84,6 +86,7 @@ gives_at ws d e a b p x k r h is =
       runs = runs;
       entries = us;
       gave = refl;
+      is_entry = subst (λ (es : List Used). IsEntry f (chain_at (takes s)) g es) (sym (given_is ws d E a (lane32 b 0) r now)) (single_entry f (chain_at (takes s)) g (entry now.number (lane32 b 0)) (returns_next f (chain_at (takes s)) g now.number now.next));
       last = is;
       stands = record {
         id = ap (λ (w : ℕ). lane32 w 1) (after.words.devices (id_word f g) (inl (omega arith, omega arith))) ∙ after.device_words.ids g (last_used us) low at ∙ ap (head f d.done) is ∙ sym hd.0 ∙ ap (taken_head s) (sym is);

@@ -19,7 +19,7 @@ use Rattle.vd_split_ring.specs.SplitWords.{shown_from, IsDevices, width, used_fr
 use Rattle.vd_split_ring.specs.SplitDevice.{Names, Measures, PublishesUsed, device_gives, device_rests}
 use Rattle.vd_split_ring.specs.SplitRing.{Ring, Gives}
 use Rattle.vd_ring.proofs.Counts.{occurs_from, with_head_is}
-use Rattle.vd_ring.proofs.ListSteps.{some_same, batch_one, entry_is}
+use Rattle.vd_ring.proofs.ListSteps.{some_same, batch_one, entry_is, returns_next, single_entry}
 use Rattle.vd_ring.proofs.DeviceLists.{give_room, running_head, same_taken_head, entry_new, entry_old, lists_given, lists_rested}
 use Rattle.vd_ring.proofs.DeviceAcks.{acks_given, acks_rested, acks_elsewhere}
 use Rattle.vd_split_ring.proofs.Areas.{areas, device_stores, places_differ, high_after_id, low_after_id, lane_after_id, high_after_len, high_after_index, other_word}
@@ -80,7 +80,7 @@ names ws d e p x r n =
         device_doing = record {
           number = k;
           runs = n.runs;
-          in_order = n.in_order;
+          next = n.next;
           is_id = half_same (slice_index e.stored q) 1 h small;
           stands = ap (λ w. lane32 w 1) (get_or-set_same e.stored q y 0 inside);
         };
@@ -130,7 +130,7 @@ measures ws d e a p x r n =
           record {
             number = now.number;
             runs = now.runs;
-            in_order = now.in_order;
+            next = now.next;
             is_id = now.is_id;
             stands = high_after_len e.stored q (id_word f g) n.len inside small ∙ now.stands;
           },
@@ -154,7 +154,7 @@ given_is ws d e a len r now =
     let runs = occurs_from k (running s) now.runs in
     let number : with_head (taken_head s) (running s) (lane32 a 1) ≡ k =
     with_head_is (taken_head s) (running s) (lane32 a 1) k (sym now.is_id) runs (λ j c e'. same_taken_head f o s j k r.places r.lists c runs (e' ∙ now.is_id)) in
-    ap (λ (n : ℕ). batch f (chain_at (takes s)) (length (gives s)) n len) number ∙ batch_one f (chain_at (takes s)) (length (gives s)) k len now.in_order
+    ap (λ (n : ℕ). batch f (chain_at (takes s)) (length (gives s)) n len) number ∙ batch_one f (chain_at (takes s)) (length (gives s)) k len (returns_next f (chain_at (takes s)) (length (gives s)) k now.next)
 
 -- a give of one entry
 gives_entry : (ws : List ℕ) (d : DriverView) (e : DeviceView) (a b : ℕ) (us : List Used) (u : Used) → us ≡ u ∷ [] → Ring ws d (record e { frame = d.frame; doing = Giving (a ∷ b ∷ []) }) → (now : Gives d.frame e.done e.stored a) → u ≡ entry now.number (lane32 b 0)
@@ -171,7 +171,7 @@ gives_entry ws d e a b us u one r now is len =
     let number : u.number ≡ now.number = ap (λ (w : Used). w.number) is in
     let measured : u.len ≡ lane32 b 0 = ap (λ (w : Used). w.len) is in
     let runs : 1 ≤ occurs u.number (running s) = subst (λ k. 1 ≤ occurs k (running s)) (sym number) (occurs_from now.number (running s) now.runs) in
-    let order : f.features.in_order ≡ true → u.number ≡ g = λ on. number ∙ now.in_order on in
+    let order : f.features.in_order ≡ true → u.number ≡ g = λ on. number ∙ returns_next f (chain_at (takes s)) g now.number now.next on in
     let hd = running_head f o s u.number r.places r.lists runs in
     let longer : length (gives s ++ u ∷ []) ≡ g + 1 = length_push (gives s) u in
     let old : (j : ℕ) (w : Used) → g ≢ j → entry_at (Give (u ∷ []) ∷ s) j ≡ Some w → entry_at s j ≡ Some w = λ j w ne at. sym (entry_old s (u ∷ []) j ne) ∙ at in
@@ -180,7 +180,7 @@ gives_entry ws d e a b us u one r now is len =
     (ring_with ws (slice_set ws q x) d E (record e { frame = d.frame; done = Give (u ∷ []) ∷ s; stored = st; doing = Idle }) r record {
       same = refl;
       words = device_stores f ws d.stored e.stored q x r.words (inl (omega arith, omega arith));
-      lists = lists_given f o s u r.lists runs order (sym (batch_one f (chain_at (takes s)) g u.number u.len order));
+      lists = lists_given f o s u r.lists runs (single_entry f (chain_at (takes s)) g u order);
       device_words = record {
         index = ap (λ w. lane16 w 1) (get_or-set_same e.stored q x 0 inside) ∙ set_same (slice_index e.stored q) 1 v (omega arith) (omega arith);
         ids = λ j w low at. high_after_index e.stored q (id_word f j) v inside (omega arith) ∙ elim (cases_eq g j) [
@@ -229,7 +229,7 @@ rests ws d e x r is index =
       words = r.words;
       lists = lists_rested f d.done s r.lists is;
       device_words = record { index = r.device_words.index; ids = r.device_words.ids; lens = r.device_words.lens };
-      signals = record { no_flags = r.device_signals.no_flags; flags = λ n at. absurd cc; event = λ n at. absurd cc; bell = r.device_signals.bell };
+      signals = record { no_flags = r.device_signals.no_flags; no_event = r.device_signals.no_event; bit = r.device_signals.bit; flags = λ n at. absurd cc; event = λ n at. absurd cc; bell = r.device_signals.bell };
       acks = acks_rested f (ack_word f) d.done s e.stored r.acks;
       driver_doing = doing_along d.doing f d.done d.stored d.seen s (Rest ∷ s) (λ u at. at) r.driver_doing;
       device_doing = tt;

@@ -83,6 +83,8 @@ pub signals_kept : (f : Frame) (armed : Option ℕ) (bells : ℕ) (st : List ℕ
     → lane16 (slice_index (slice_set st p x) (used_from f + f.size)) 2 ≡ lane16 (slice_index st (used_from f + f.size)) 2 → call_at f ≢ p → DeviceSignals f armed bells st → DeviceSignals f armed bells (slice_set st p x)
 signals_kept f armed bells st p x flags event bell s = record {
   no_flags = λ on. flags ∙ s.no_flags on;
+  no_event = λ off. event ∙ s.no_event off;
+  bit = omega (arith, flags, s.bit);
   flags = λ n is off. flags ∙ s.flags n is off;
   event = λ n is on. event ∙ s.event n is on;
   bell = other_word st p (call_at f) x (λ w. w) bell ∙ s.bell;

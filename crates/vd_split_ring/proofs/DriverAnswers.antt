@@ -17,12 +17,14 @@ use Rattle.vd_ring.specs.declared.frame.Frame.{Frame}
 use Rattle.vd_ring.specs.declared.frame.Put.{Put}
 use Rattle.vd_ring.specs.declared.frame.Used.{Used}
 use Rattle.vd_ring.specs.declared.driver.DriverDone.{DriverDone}
-use Rattle.vd_ring.specs.declared.driver.DriverDone.TheVariants.{Offer}
+use Rattle.vd_ring.specs.declared.driver.DriverDone.TheVariants.{Offer, Collect}
 use Rattle.vd_ring.specs.declared.driver.DriverNow.{DriverNow}
 use Rattle.vd_ring.specs.declared.driver.DriverNow.TheVariants.{Idle, Offering, Entered, Collecting}
 use Rattle.vd_ring.specs.declared.driver.DriverView.{DriverView}
 use Rattle.vd_ring.specs.declared.device.DeviceDone.{DeviceDone}
 use Rattle.vd_ring.specs.declared.device.DeviceView.{DeviceView}
+use Rattle.vd_ring.specs.Lists.{Collects}
+use Rattle.vd_ring.proofs.ListSteps.{collects_next}
 use Rattle.vd_ring.specs.History.{offers, collects, gives, open_at, head, next_head, chain, entry, used_at, last_used, collected}
 use Rattle.vd_ring.specs.Bag.{State}
 use Rattle.vd_ring.specs.Steps.{StandsFor}
@@ -129,9 +131,7 @@ collects_entry ws d e g w p r at =
     let last : last_used us ≡ u = ap last_used c.0 in
     let n : NamesOpen f o (lane32 w 1) = (collects_last ws d e g w (slice_index ws p) r len).1 in
     record {
-      more = c.1;
-      is_entry = sym last;
-      collected = ap (λ (vs : List Used). collects o ++ vs) (c.0 ∙ ap (λ (z : Used). z ∷ []) (sym last));
+      did = subst (λ (z : Used). Collects f o s (Collect us ∷ o) z.number z.len) (sym last) (collects_next f o s u (Collect us ∷ o) r.lists c.1 refl (ap (λ (vs : List Used). Collect vs ∷ o) c.0));
       is_head = r.driver_doing.1.is_id ∙ ap (λ (z : Used). head f o z.number) (sym (Rattle.vd_ring.proofs.ListSteps.entry_is f s m r.driver_doing.1.used r.lists.entries r.driver_doing.1.begins).1 ∙ sym last);
     }
 

@@ -18,7 +18,7 @@ use Rattle.vd_ring.specs.Places.{Places}
 use Rattle.vd_ring.specs.Lists.{Lists}
 use Rattle.vd_ring.proofs.Counts.{occurs_from, Contains_from, occurs_without, with_head_is}
 use Rattle.vd_ring.proofs.HeldPlaces.{collect_places, same_head}
-use Rattle.vd_ring.proofs.ListSteps.{same_used, batch_one, entry_is, next_open, given_within, lists_collected}
+use Rattle.vd_ring.proofs.ListSteps.{same_used, batch_one, entry_is, next_open, given_within, lists_collected, may_return}
 use Rattle.vd_ring.proofs.ControlSteps.{commands_collected, acks_collected}
 use Rattle.vd_split_ring.specs.SplitWords.{command_word, ack_word, shows, shown_from, ShowsIndex, used_id, used_len}
 use Rattle.vd_split_ring.specs.SplitDriver.{NamesOpen, driver_looks, driver_collects}
@@ -99,7 +99,7 @@ names_open f o s w p l below n =
       number = n.used.number;
       is_open = Contains_from n.used.number (open_at o) (subst (λ (u : Used). 1 ≤ occurs u.number (open_at o)) is (next_open f o s p l below));
       is_head = sym n.is_id;
-      in_order = λ on. ap (λ (u : Used). u.number) (sym is) ∙ l.in_order on (length (collects o)) below;
+      next = may_return f (chain o) (length (collects o)) n.used.number (λ on. ap (λ (u : Used). u.number) (sym is) ∙ l.in_order on (length (collects o)) below);
     }
 
 pub finds : (ws : List ℕ) (d : DriverView) (e : DeviceView) (g w : ℕ) → Ring ws (record d { doing = Collecting (g ∷ []) }) e → lane32 w 1 ≡ used_id d.frame e.stored (length (collects d.done))

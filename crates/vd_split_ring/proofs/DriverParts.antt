@@ -158,6 +158,8 @@ driver_words_published f o c ws pl d can l wide stand entry =
 pub signals_descriptor : (f : Frame) (armed : Option ℕ) (bells : ℕ) (ws : List ℕ) (p x : ℕ) → IsDescriptors f p → DriverSignals f armed bells ws → DriverSignals f armed bells (slice_set ws p x)
 signals_descriptor f armed bells ws p x own g = record {
   no_flags = λ on. lane_descriptor f ws p x 0 own (omega arith) ∙ g.no_flags on;
+  no_event = λ off. lane_descriptor f ws p x (event_lane f) own (omega arith) ∙ g.no_event off;
+  bit = omega (arith, g.bit, lane_descriptor f ws p x 0 own (omega arith));
   flags = λ s a off. lane_descriptor f ws p x 0 own (omega arith) ∙ g.flags s a off;
   event = λ s a on. lane_descriptor f ws p x (event_lane f) own (omega arith) ∙ g.event s a on;
   bell = get_or-set_other ws p (kick_at f) x 0 (λ e. omega (arith, areas f, descriptor_low f p own)) ∙ g.bell;
@@ -166,6 +168,8 @@ signals_descriptor f armed bells ws p x own g = record {
 pub signals_past : (f : Frame) (armed : Option ℕ) (bells : ℕ) (ws : List ℕ) (p x : ℕ) → used_from f ≤ p → kick_at f ≢ p → DriverSignals f armed bells ws → DriverSignals f armed bells (slice_set ws p x)
 signals_past f armed bells ws p x past apart g = record {
   no_flags = λ on. lane_past f ws p x 0 past (omega arith) ∙ g.no_flags on;
+  no_event = λ off. lane_past f ws p x (event_lane f) past (omega arith) ∙ g.no_event off;
+  bit = omega (arith, g.bit, lane_past f ws p x 0 past (omega arith));
   flags = λ s a off. lane_past f ws p x 0 past (omega arith) ∙ g.flags s a off;
   event = λ s a on. lane_past f ws p x (event_lane f) past (omega arith) ∙ g.event s a on;
   bell = get_or-set_other ws p (kick_at f) x 0 apart ∙ g.bell;
@@ -178,6 +182,8 @@ signals_lane f armed bells ws j v small wide some low g =
     let near : lane_word f j < used_from f = lane_inside f j (omega arith) in
     let inside : lane_word f j < length ws = omega arith in record {
       no_flags = λ on. lane_other f ws j 0 v small inside (λ e. omega arith) ∙ g.no_flags on;
+      no_event = λ off. lane_other f ws j (event_lane f) v small inside (λ e. omega arith) ∙ g.no_event off;
+      bit = omega (arith, g.bit, lane_other f ws j 0 v small inside (λ e. omega arith));
       flags = λ s a off. lane_other f ws j 0 v small inside (λ e. omega arith) ∙ g.flags s a off;
       event = λ s a on. lane_other f ws j (event_lane f) v small inside (λ e. omega arith) ∙ g.event s a on;
       bell = get_or-set_other ws (lane_word f j) (kick_at f) (with_lane f ws j v) 0 (λ e. omega (arith, areas f)) ∙ g.bell;

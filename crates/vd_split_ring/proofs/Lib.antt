@@ -22,4 +22,7 @@ pub mod DeviceViews
 pub mod DeviceKeeping
 pub mod DeviceBagSteps
 pub mod DeviceAnswers
+pub mod Seen
+pub mod Signalling
 mod Examples
+pub mod ControlFacts

@@ -1,17 +1,23 @@
 -- A fresh ring meets the ring invariant.
-use Rattle.std.proofs.Common.{◌≡◌, ℕ, ◌+◌, ◌<◌, length, replicate, slice_index, refl, sym, ap, arith}
+use Rattle.std.proofs.Common.{◌%◌, ◌≡◌, ℕ, ◌+◌, ◌<◌, length, replicate, slice_index, refl, sym, ap, arith, zero, suc, ◌∙◌}
 use Rattle.std.proofs.lemmas.List.{length-replicate, get_or-replicate}
 use Rattle.std.proofs.lemmas.List.Elements.{All-nil}
 use Rattle.vd_bits.specs.Lanes.{lane16}
 use Rattle.vd_ring.specs.declared.frame.Frame.{Frame}
 use Rattle.vd_ring.specs.Frames.{Fits}
 use Rattle.vd_ring.proofs.Counts.{one_above, length_upto, occurs_upto}
-use Rattle.vd_split_ring.specs.SplitWords.{IsLawful, IsBuilt, width, used_from, kick_at, call_at, command_word, ack_word, lane_word}
+use Rattle.vd_split_ring.specs.SplitWords.{IsLawful, IsBuilt, width, used_from, kick_at, call_at, command_word, ack_word, lane_word, event_lane}
 use Rattle.vd_split_ring.specs.SplitLaws.{IsFresh}
 use Rattle.vd_split_ring.proofs.Areas.{areas, lane_inside, drivers_inside, devices_inside, command_drivers, ack_devices}
 
 zeros : (n i : ℕ) → i < n → slice_index (replicate {A = ℕ} n 0) i ≡ 0
 zeros n i h = get_or-replicate n i 0 0 h
+
+zero_lane : (i : ℕ) → lane16 0 i ≡ 0
+zero_lane zero = refl
+zero_lane (suc zero) = refl
+zero_lane (suc (suc zero)) = refl
+zero_lane (suc (suc (suc i))) = refl
 
 pub opens : (f : Frame) → IsLawful f → IsBuilt f → IsFresh f
 opens f l b =
@@ -58,12 +64,16 @@ opens f l b =
       };
       driver_signals = record {
         no_flags = λ on. lane (lane_word f 0) 0 (omega (arith, areas f, lane_inside f 0 (omega arith)));
+        no_event = λ off. lane (lane_word f (event_lane f)) (event_lane f % 4) (omega (arith, areas f, lane_inside f (event_lane f) (omega arith))) ∙ zero_lane (event_lane f % 4);
+        bit = omega (arith, lane (lane_word f 0) 0 (omega (arith, areas f, lane_inside f 0 (omega arith))));
         flags = λ s a off. lane (lane_word f 0) 0 (omega (arith, areas f, lane_inside f 0 (omega arith)));
         event = λ s a on. absurd cc;
         bell = zeros n (kick_at f) (omega arith);
       };
       device_signals = record {
         no_flags = λ on. lane (used_from f) 0 (omega (arith, areas f));
+        no_event = λ off. lane (used_from f + f.size) 2 (omega (arith, areas f));
+        bit = omega (arith, lane (used_from f) 0 (omega (arith, areas f)));
         flags = λ s a off. lane (used_from f) 0 (omega (arith, areas f));
         event = λ s a on. absurd cc;
         bell = zeros n (call_at f) (omega arith);

@@ -19,7 +19,8 @@ use Rattle.vd_ring.specs.declared.device.DeviceNow.{DeviceNow}
 use Rattle.vd_ring.specs.declared.device.DeviceNow.TheVariants.{Idle, Taking, Giving}
 use Rattle.vd_ring.specs.declared.device.DeviceView.{DeviceView}
 use Rattle.vd_ring.specs.Frames.{Fits, lent, limit}
-use Rattle.vd_ring.specs.History.{takes, gives, running, running_size, taken_head, with_head, given, first, occurs, last_used, IsWhole}
+use Rattle.vd_ring.specs.Batches.{MayReturn}
+use Rattle.vd_ring.specs.History.{takes, gives, running, running_size, taken_head, with_head, given, first, occurs, last_used, IsWhole, chain_at}
 use Rattle.vd_ring.specs.Control.{IsControlChain, LoadsCommand, StoresAck}
 use Rattle.vd_split_ring.specs.SplitWords.{IsDevices, IsDescriptors, used_from, commands_from, acks_from, command_word, ack_word, id_word, len_word, lane_word, entry_lane, shows, shown_from, ShowsIndex, words_of, reading, is_whole, chain_of, cursor}
 
@@ -34,11 +35,11 @@ pub record LoadsChain (f : Frame) (h : ℕ) (ws : List ℕ) (p : ℕ) : Type 0 w
   pub place : p ≡ cursor f h ws
   pub inside : IsDescriptors f p
 
--- the store of a used entry's id: the head of a chain taken and not given, under IN_ORDER of the first of them
+-- the store of a used entry's id: the head of a chain taken and not given, whose entry may come next
 pub record Names (f : Frame) (s : List DeviceDone) (stored : List ℕ) (p x : ℕ) : Type 0 where
   pub number : ℕ
   pub runs : Contains (running s) number
-  pub in_order : f.features.in_order ≡ true → number ≡ length (gives s)
+  pub next : MayReturn f (chain_at (takes s)) (length (gives s)) number
   pub place : p ≡ id_word f (length (gives s))
   pub word : x ≡ set_lane32 (slice_index stored p) 1 (taken_head s number)
 

@@ -21,7 +21,8 @@ use Rattle.vd_ring.specs.declared.driver.DriverNow.{DriverNow}
 use Rattle.vd_ring.specs.declared.driver.DriverNow.TheVariants.{Idle, Offering, Entered, Collecting}
 use Rattle.vd_ring.specs.declared.driver.DriverView.{DriverView}
 use Rattle.vd_ring.specs.Frames.{Fits, lent, limit}
-use Rattle.vd_ring.specs.History.{offers, collects, free, head, next_head, open_at, collected, last_used}
+use Rattle.vd_ring.specs.Batches.{MayReturn}
+use Rattle.vd_ring.specs.History.{offers, collects, free, head, next_head, open_at, collected, last_used, chain}
 use Rattle.vd_ring.specs.Control.{IsControlChain, StoresCommand, LoadsAck, last_collected}
 use Rattle.vd_split_ring.specs.SplitWords.{IsDrivers, used_from, commands_from, command_word, ack_word, id_word, len_word, lane_word, with_lane, entry_lane, shows, shown_from, ShowsIndex, put, words_of, spelling, staged_chain}
 
@@ -127,12 +128,12 @@ driver_after v op a r = driver_after_at v.doing v op a r
 
 -- ---- tells
 
--- a used id is the head of a chain offered and not collected; under IN_ORDER it is the first of them
+-- a used id is the head of a chain offered and not collected, whose entry may come next
 pub record NamesOpen (f : Frame) (o : List DriverDone) (id : ℕ) : Type 0 where
   pub number : ℕ
   pub is_open : Contains (open_at o) number
   pub is_head : head f o number ≡ id
-  pub in_order : f.features.in_order ≡ true → number ≡ length (collects o)
+  pub next : MayReturn f (chain o) (length (collects o)) number
 
 abbrev pub DriverTellsAt : DriverNow → DriverView → Op → Access → ℕ → Type 0
 DriverTellsAt Idle v op.Collect (Load p) r =

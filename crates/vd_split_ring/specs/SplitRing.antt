@@ -14,7 +14,8 @@ use Rattle.vd_ring.specs.declared.device.DeviceDone.{DeviceDone}
 use Rattle.vd_ring.specs.declared.device.DeviceNow.{DeviceNow}
 use Rattle.vd_ring.specs.declared.device.DeviceNow.TheVariants as device
 use Rattle.vd_ring.specs.declared.device.DeviceView.{DeviceView}
-use Rattle.vd_ring.specs.History.{offers, collects, takes, gives, taken_head, running, open_at, places, head, next_head, chain}
+use Rattle.vd_ring.specs.Batches.{MayReturn}
+use Rattle.vd_ring.specs.History.{offers, collects, takes, gives, taken_head, running, open_at, places, head, next_head, chain, chain_at}
 use Rattle.vd_ring.specs.Control.{Commands, Acks}
 use Rattle.vd_ring.specs.Places.{Places}
 use Rattle.vd_ring.specs.Lists.{Lists, Rested, entry_at}
@@ -48,10 +49,14 @@ pub record DeviceWords (f : Frame) (o : List DriverDone) (s : List DeviceDone) (
   pub ids : (j : ℕ) (u : Used) → length (collects o) ≤ j → entry_at s j ≡ Some u → used_id f stored j ≡ head f o u.number
   pub lens : (j : ℕ) (u : Used) → length (collects o) ≤ j → entry_at s j ≡ Some u → used_len f stored j ≡ u.len
 
--- the driver's flags, used_event and bell: where it is armed, the event word stands at its count (VIRTIO 1.2, 2.7.7 and 2.7.10)
+-- the driver's flags, used_event and bell, armed or not: with EVENT_IDX the flags stay 0, without it used_event does; where it is
+-- armed, the event word stands at its count (VIRTIO 1.2, 2.7.7 and 2.7.10). That it rings no more often than it publishes is no
+-- part of these: it belongs to what holds of sleeping sides
 pub record DriverSignals (f : Frame) (armed : Option ℕ) (bells : ℕ) (stored : List ℕ) : Type 0 where
-  -- with EVENT_IDX the flags stay 0
   pub no_flags : f.features.event_idx ≡ true → lane_at f stored 0 ≡ 0
+  pub no_event : f.features.event_idx ≡ false → lane_at f stored (event_lane f) ≡ 0
+  -- bit 0 alone is ever set
+  pub bit : lane_at f stored 0 ≤ 1
   pub flags : (s : ℕ) → armed ≡ Some s → f.features.event_idx ≡ false → lane_at f stored 0 ≡ 0
   pub event : (s : ℕ) → armed ≡ Some s → f.features.event_idx ≡ true → lane_at f stored (event_lane f) ≡ s % 65536
   -- the bell is the number of bells stored
@@ -60,6 +65,8 @@ pub record DriverSignals (f : Frame) (armed : Option ℕ) (bells : ℕ) (stored 
 -- the device's flags, avail_event and bell
 pub record DeviceSignals (f : Frame) (armed : Option ℕ) (bells : ℕ) (stored : List ℕ) : Type 0 where
   pub no_flags : f.features.event_idx ≡ true → lane16 (slice_index stored (used_from f)) 0 ≡ 0
+  pub no_event : f.features.event_idx ≡ false → lane16 (slice_index stored (used_from f + f.size)) 2 ≡ 0
+  pub bit : lane16 (slice_index stored (used_from f)) 0 ≤ 1
   pub flags : (s : ℕ) → armed ≡ Some s → f.features.event_idx ≡ false → lane16 (slice_index stored (used_from f)) 0 ≡ 0
   pub event : (s : ℕ) → armed ≡ Some s → f.features.event_idx ≡ true → lane16 (slice_index stored (used_from f + f.size)) 2 ≡ s % 65536
   pub bell : slice_index stored (call_at f) ≡ bells % 18446744073709551616
@@ -109,7 +116,7 @@ pub record Loads (f : Frame) (o : List DriverDone) (k w : ℕ) (ws : List ℕ) :
 pub record Gives (f : Frame) (s : List DeviceDone) (stored : List ℕ) (a : ℕ) : Type 0 where
   pub number : ℕ
   pub runs : Contains (running s) number
-  pub in_order : f.features.in_order ≡ true → number ≡ length (gives s)
+  pub next : MayReturn f (chain_at (takes s)) (length (gives s)) number
   pub is_id : lane32 a 1 ≡ taken_head s number
   pub stands : used_id f stored (length (gives s)) ≡ lane32 a 1
 

@@ -25,6 +25,10 @@ answered ws (Store p x) = 0
 abbrev pub PlainMoves : RingWords → Access → ℕ → RingWords → Type 0
 PlainMoves s a r t = (t.ring ≡ s.ring) × (t.words ≡ written s.words a) × (r ≡ answered s.words a)
 
+-- the same ring number and as many words
+abbrev pub AreAlike : RingWords → RingWords → Type 0
+AreAlike s t = (s.ring ≡ t.ring) × (length s.words ≡ length t.words)
+
 -- ---- lemmas
 
 pub length_written : (ws : List ℕ) (a : Access) → length (written ws a) ≡ length ws
@@ -45,3 +49,9 @@ words_at ws s t r a is m = m.1 ∙ ap (λ (xs : List ℕ). written xs a) is
 
 pub answer_at : (ws : List ℕ) (s t : RingWords) (r : ℕ) (a : Access) → s.words ≡ ws → PlainMoves s a r t → r ≡ answered ws a
 answer_at ws s t r a is m = m.2 ∙ ap (λ (xs : List ℕ). answered xs a) is
+
+pub alike_trans : (s t u : RingWords) → AreAlike s t → AreAlike t u → AreAlike s u
+alike_trans s t u p q = (p.0 ∙ q.0, p.1 ∙ q.1)
+
+pub alike_after : (s t : RingWords) (a : Access) (r : ℕ) → PlainMoves s a r t → AreAlike s t
+alike_after s t a r m = (sym m.0, sym (stays_plain s t a r m).1)

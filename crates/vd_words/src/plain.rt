@@ -86,7 +86,7 @@ pub struct PlainPort<'a> {
 impl Port for PlainPort<'_> {
     ghost use Rattle.std.specs.Prelude.{◌≡◌, ◌<◌, length, refl};
     ghost use Rattle.std.proofs.Common.{◌∙◌};
-    ghost use Rattle.vd_words.specs.Step.{place_of, written, answered, PlainMoves, fits_at, words_at, answer_at, stays_plain, count_at};
+    ghost use Rattle.vd_words.specs.Step.{place_of, written, answered, PlainMoves, AreAlike, fits_at, words_at, answer_at, stays_plain, count_at, alike_trans, alike_after};
 
     ghost port = { record {
       ring = λ s. s.at.now.ring;
@@ -94,16 +94,17 @@ impl Port for PlainPort<'_> {
       allows = λ s op a. place_of a < length s.at.now.words;
       moves = λ s op a r t. (t.at.ghost_name ≡ s.at.ghost_name) × PlainMoves s.at.now a r t.at.now;
       plain = λ s ws. s.at.now.words ≡ ws;
-      same = λ s t. t.at.ghost_name ≡ s.at.ghost_name;
+      same = λ s t. (t.at.ghost_name ≡ s.at.ghost_name) × AreAlike s.at.now t.at.now;
     } };
 
     ghost lawful = { record {
       stays = λ s op a r t m. stays_plain s.at.now t.at.now a r m.1;
       counted = λ s ws is. count_at s.at.now.words ws is;
       may = λ s ws op a is fits. fits_at ws s.at.now.words a is fits;
-      does = λ s ws op a r t is m. (words_at ws s.at.now t.at.now r a is m.1, answer_at ws s.at.now t.at.now r a is m.1, m.0);
-      same_refl = λ s. refl;
-      same_trans = λ s t u p q. q ∙ p;
+      does = λ s ws op a r t is m. (words_at ws s.at.now t.at.now r a is m.1, answer_at ws s.at.now t.at.now r a is m.1, (m.0, alike_after s.at.now t.at.now a r m.1));
+      alike = λ s t p. p.1;
+      same_refl = λ s. (refl, (refl, refl));
+      same_trans = λ s t u p q. (q.0 ∙ p.0, alike_trans s.at.now t.at.now u.at.now p.1 q.1);
     } };
 
     fn ring(&self) -> u32 {

@@ -17,6 +17,7 @@ struct Tracked {
 
 impl Port for Tracked {
     ghost use Rattle.std.specs.Prelude.{◌≡◌, refl};
+    ghost use Rattle.std.proofs.Common.{◌∙◌};
     ghost use Rattle.vd_split.specs.Tracked.{MayTrack, TrackMoves};
 
     ghost port = { record {
@@ -25,7 +26,7 @@ impl Port for Tracked {
       allows = λ s op a. MayTrack s.size s.words.words s.log.items op a;
       moves = λ s op a r t. (t.count ≡ s.count) × TrackMoves s.size t.size s.words.words t.words.words s.log.items t.log.items op a r;
       plain = λ s ws. ⊥;
-      same = λ s t. Unit {0};
+      same = λ s t. s.count ≡ t.count;
     } };
 
     ghost lawful = { record {
@@ -33,8 +34,9 @@ impl Port for Tracked {
       counted = λ s ws is. absurd is;
       may = λ s ws op a is fits. absurd is;
       does = λ s ws op a r t is m. absurd is;
-      same_refl = λ s. tt;
-      same_trans = λ s t u p q. tt;
+      alike = λ s t p. (refl, p);
+      same_refl = λ s. refl;
+      same_trans = λ s t u p q. p ∙ q;
     } };
 
     fn ring(&self) -> u32 {

@@ -20,5 +20,4 @@ returns g c =
           let made = c.finish_device.ensures on.device_view on.serves own in
           device_did g.P.Port.port g.met.P.Port.lawful g.L.Driver.DriverEnd.driver g.L.Device.DeviceEnd.device g.L.Layout.layout g.met.L.Layout.lawful fr c.args.port.now c.finish_device.new.port ws c.args.driver.now c.args.device.now c.finish_device.new.end c.finish_device.result plain on made;
       rests = f.rests;
-      says = (h.3.device_view.frame, h.3.device_view.done, f.view.done, f.says);
     }

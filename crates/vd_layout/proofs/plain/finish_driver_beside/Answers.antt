@@ -19,5 +19,4 @@ returns g c =
           let own = driver_owns g.P.Port.port g.met.P.Port.lawful g.L.Driver.DriverEnd.driver g.L.Device.DeviceEnd.device g.L.Layout.layout g.met.L.Layout.lawful f c.args.port.now ws c.args.driver.now c.args.device.now plain on in
           let made = c.finish_driver.ensures on.view on.drives own in
           driver_did g.P.Port.port g.met.P.Port.lawful g.L.Driver.DriverEnd.driver g.L.Device.DeviceEnd.device g.L.Layout.layout g.met.L.Layout.lawful f c.args.port.now c.finish_driver.new.port ws c.args.driver.now c.finish_driver.new.end c.args.device.now c.finish_driver.result plain on made;
-      says = (h.3.view.frame, h.3.view.done, ends.view.done, ends.says);
     }

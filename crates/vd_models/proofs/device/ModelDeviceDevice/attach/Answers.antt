@@ -19,9 +19,9 @@ returns g c =
     let full : 0 < c.in-Some-held.held.capacity = room_some m.held c.in-Some-held.held m.journal.events.room c.in-Some-held.is (omega arith) in
     let cleared : c.clear.new.self.capacity ≡ c.in-Some-held.held.capacity = ap (λ (z : Buffer Held). z.capacity) c.clear.ensures in
     let count = ap (λ (z : Terms). z.count) c.copy-2.ensures in
-    let settings : c.match-control.settings ≡ control_settings (λ (z : ModelDevice g.row.L.Denot g.row.L-Driver.Denot g.row.L-Device.Denot). z.settings) (option_copied c.args.control) = elim c.match-control.branch [
-      | in-Some w ↦ w.settings-is ∙ sym (ap (λ o. control_settings {X = ModelDevice g.row.L.Denot g.row.L-Driver.Denot g.row.L-Device.Denot} (λ z. z.settings) (option_copied o)) w.in-Some.is)
-      | in-None w ↦ w.settings-is ∙ w.new-settings.ensures.value ∙ sym (ap (λ o. control_settings {X = ModelDevice g.row.L.Denot g.row.L-Driver.Denot g.row.L-Device.Denot} (λ z. z.settings) (option_copied o)) w.in-None.is)
+    let settings : c.match-control.settings ≡ control_settings (λ (z : ModelDevice g.row.L.Denot g.row.L-Driver.Denot g.row.L-Device.Denot g.L.Layout g.L.Driver.DriverEnd g.L.Device.DeviceEnd). z.settings) (option_copied c.args.control) = elim c.match-control.branch [
+      | in-Some w ↦ w.settings-is ∙ sym (ap (λ o. control_settings {X = ModelDevice g.row.L.Denot g.row.L-Driver.Denot g.row.L-Device.Denot g.L.Layout g.L.Driver.DriverEnd g.L.Device.DeviceEnd} (λ z. z.settings) (option_copied o)) w.in-Some.is)
+      | in-None w ↦ w.settings-is ∙ w.new-settings.ensures.value ∙ sym (ap (λ o. control_settings {X = ModelDevice g.row.L.Denot g.row.L-Driver.Denot g.row.L-Device.Denot g.L.Layout g.L.Driver.DriverEnd g.L.Device.DeviceEnd} (λ z. z.settings) (option_copied o)) w.in-None.is)
     ] in
     record {
       from = c.taken.result;
@@ -36,7 +36,7 @@ returns g c =
         at_held = refl;
         serves = starts e g.met.L.Layout.lawful.device_end c.args.end c.resume.new.self (record { order = c.copy-2.result; at = c.len-at.result; from = c.taken.result }) c.clear.new.self m.journal.begun w st c.requires.still (stands w st)
             (ok_of c.resume.result _ ok c.resume.ensures.begun) (ok_of c.resume.result _ ok c.resume.ensures.awake) c.len-at.ensures.value (c.taken.ensures w (stands w st)) (ap (λ (z : Buffer Held). z.items) c.clear.ensures) (omega arith)
-            (omega (arith, count, c.requires.chains)) (omega (arith, count, c.requires.few, c.len-at.ensures.value));
+            (omega (arith, count, c.requires.chains)) (omega (arith, count, c.requires.few, c.len-at.ensures.value)) m.lens;
         event = omega (arith, events, room_most m.held m.journal.events.room, c.push.ensures.room);
       };
       live = λ d. cc;

@@ -23,7 +23,7 @@ returns-in-Some-clause-drives g c = λ offered returned capacity v h.
         few = h.drives.few;
         fits = h.drives.fits;
         control = h.drives.control;
-        begun = subst (λ o. BegunIs o (next_at c.args.script.now.runs c.args.at) v.frame v.done) (sym c.begin_offer.ensures.begun) next;
+        begun = subst (λ o. BegunIs c.args.turn o (next_at c.args.script.now.runs c.args.at) v.frame v.done) (sym c.begin_offer.ensures.begun) next;
         done = h.drives.done;
       };
       live = refl;

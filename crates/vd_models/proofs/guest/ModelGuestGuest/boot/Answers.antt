@@ -18,7 +18,7 @@ returns g c =
     record {
       holds = λ v s is stands can. record {
         is_end = c.args.end;
-        is_loaded = record { script = y.script; total = y.total; at = c.settle-at.result; offered = y.offered; returned = y.returned; done = y.total == 0 };
+        is_loaded = record { script = y.script; total = y.total; at = c.settle-at.result; offered = y.offered; returned = y.returned; done = y.total == 0; turn = y.turn };
         at_end = refl;
         at_loaded = refl;
         plan = record { total = plan.total; few = plan.few; room = plan.room };

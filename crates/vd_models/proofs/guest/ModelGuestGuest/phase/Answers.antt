@@ -26,7 +26,7 @@ returns g c = λ ws v w plain ring holds.
       ring = t.ring;
       holds = record {
         is_end = n.end;
-        is_loaded = record { script = y.script; total = y.total; at = n.at; offered = n.offered; returned = n.returned; done = n.done };
+        is_loaded = record { script = y.script; total = y.total; at = n.at; offered = n.offered; returned = n.returned; done = n.done; turn = n.turn };
         at_end = refl;
         at_loaded = refl;
         plan = record { total = plan.total; few = plan.few; room = omega (arith, t.drives.room, total_is y plan) };
@@ -39,8 +39,8 @@ returns g c = λ ws v w plain ring holds.
         | inl f ↦ inl f
         | inr x ↦ inr (
           x.0,
-          λ z is k. fewer d y.script z n.end n.at n.offered n.returned.items (vec_capacity n.returned) n.done t.view t.drives x.1 (same_script m.loaded y z is_y (sym same ∙ is)),
-          λ z p is k get. stuck d y.script z n.end n.at n.offered n.returned.items (vec_capacity n.returned) n.done t.view t.drives (same_script m.loaded y z is_y (sym same ∙ is)) x.2 p get,
+          λ z is k. fewer d y.script z n.end n.at n.offered n.returned.items (vec_capacity n.returned) n.done n.turn t.view t.drives x.1 (same_script m.loaded y z is_y (sym same ∙ is)),
+          λ z p is k get. stuck d y.script z n.end n.at n.offered n.returned.items (vec_capacity n.returned) n.done n.turn t.view t.drives (same_script m.loaded y z is_y (sym same ∙ is)) x.2 p get,
         )
       ];
     }

@@ -25,7 +25,7 @@ returns g c = λ v holds own.
       moved = t.moved;
       holds = record {
         is_end = n.end;
-        is_loaded = record { script = y.script; total = y.total; at = n.at; offered = n.offered; returned = n.returned; done = n.done };
+        is_loaded = record { script = y.script; total = y.total; at = n.at; offered = n.offered; returned = n.returned; done = n.done; turn = n.turn };
         at_end = refl;
         at_loaded = refl;
         plan = record { total = plan.total; few = plan.few; room = omega (arith, t.drives.room, total_is y plan) };

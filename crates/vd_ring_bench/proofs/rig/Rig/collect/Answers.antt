@@ -11,7 +11,7 @@ pub shape_of-self-inside : goal.shape_of-self-inside
 shape_of-self-inside g c =
     let h = c.self.invariant in
     let on = begun_driver g.L.Driver.DriverEnd.driver g.L.Device.DeviceEnd.device g.L.Layout.layout c.self.inside.driver c.begin_collect.new.self c.self.inside.device c.port.result.at.now.words c.self.inside.words.words c.self.inside.count c.self.inside.asleep h (c.begin_collect.ensures.stands h.on.view h.on.drives) (ap (λ z. z.words) c.port.ensures.words) in
-    sym ((c.finish_driver_beside.ensures.on h.frame c.port.result.at.now.words refl on).same ∙ c.port.ensures.same)
+    sym ((c.finish_driver_beside.ensures.on h.frame c.port.result.at.now.words refl on).same.0 ∙ c.port.ensures.same)
 
 pub invariant_of-self : goal.invariant_of-self
 invariant_of-self g c =

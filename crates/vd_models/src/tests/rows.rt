@@ -1,0 +1,252 @@
+//! Six chains on a ring of 8 places, and fewer.
+use super::pair::Pair;
+use crate::{FaultyDevice, ModelDevice, ModelGuest, SingleDevice, TurnGuest};
+use std::test::*;
+use vd_bus::{Device, Event, Guest, Journal};
+use vd_layout::Move;
+use vd_model::{Base, Chain, Features, Mode, Piece, Return};
+use vd_split::Split;
+
+const PLAIN: Features = Features {
+    indirect: false,
+    event_idx: false,
+    in_order: false,
+};
+
+const IN_ORDER: Features = Features {
+    indirect: false,
+    event_idx: false,
+    in_order: true,
+};
+
+fn chain_of(read: u32, write: u32) -> Chain {
+    let mut chain = Chain::new(Piece {
+        addr: 4096,
+        len: read,
+        write: false,
+    });
+    let _ = chain.push(Piece {
+        addr: 8192,
+        len: write,
+        write: true,
+    });
+    chain
+}
+
+/// Phases of the guest and the device in turn, six of each.
+fn play<G: Guest<Split>, V: Device<Split>>(pair: &mut Pair<Split, G, V>) {
+    for _ in 0..6 {
+        pair.guest_phase();
+        pair.device_phase();
+    }
+    pair.guest_phase();
+}
+
+fn came_back(returned: &[Return], numbers: &[u32], len: u32) -> bool {
+    if returned.len() != numbers.len() {
+        return false;
+    }
+    for (i, number) in numbers.iter().enumerate() {
+        if i >= returned.len() {
+            return false;
+        }
+        if returned[i]
+            != (Return {
+                number: *number,
+                len,
+                ack: 0,
+            })
+        {
+            return false;
+        }
+    }
+    true
+}
+
+fn all_begun(journal: &Journal, count: usize, len: u32) -> bool {
+    for begun in journal.begun.as_slice() {
+        if begun.len != len || begun.bytes.len() != 0 {
+            return false;
+        }
+    }
+    journal.begun.len() == count
+}
+
+#[test]
+fn the_last_begun_is_given_first(rt: HostRuntime) -> Result<(), Fail> {
+    let guest = ModelGuest::<Split>::new(rt.alloc());
+    let device = ModelDevice::<Split>::new(rt.alloc(), 1);
+    let mut pair = Pair::new(rt.alloc(), 8, PLAIN, 4, &chain_of(10, 64), 6, guest, device)?;
+    assert!(rt; pair.attach(0, 6) == Some(true));
+    play(&mut pair);
+    assert!(rt; pair.guest_done() && pair.device_done());
+    assert!(rt; came_back(pair.returned(), &[3, 2, 1, 0, 5, 4], 10));
+    assert!(rt; all_begun(pair.journal(), 6, 10));
+    Ok(())
+}
+
+#[test]
+fn in_order_the_first_begun_is_given_first(rt: HostRuntime) -> Result<(), Fail> {
+    let guest = ModelGuest::<Split>::new(rt.alloc());
+    let device = ModelDevice::<Split>::new(rt.alloc(), 1);
+    let mut pair = Pair::new(
+        rt.alloc(),
+        8,
+        IN_ORDER,
+        4,
+        &chain_of(64, 10),
+        6,
+        guest,
+        device,
+    )?;
+    assert!(rt; pair.attach(0, 6) == Some(true));
+    play(&mut pair);
+    assert!(rt; pair.guest_done() && pair.device_done());
+    assert!(rt; came_back(pair.returned(), &[0, 1, 2, 3, 4, 5], 10));
+    Ok(())
+}
+
+#[test]
+fn a_window_of_one_and_a_single_device_give_each_at_once(rt: HostRuntime) -> Result<(), Fail> {
+    let guest = ModelGuest::<Split>::new(rt.alloc());
+    let device = ModelDevice::<Split>::new(rt.alloc(), 64);
+    let mut pair = Pair::new(rt.alloc(), 8, PLAIN, 1, &chain_of(10, 64), 6, guest, device)?;
+    assert!(rt; pair.attach(0, 6) == Some(true));
+    play(&mut pair);
+    assert!(rt; came_back(pair.returned(), &[0, 1, 2, 3, 4, 5], 10));
+    let guest = ModelGuest::<Split>::new(rt.alloc());
+    let device = SingleDevice::<Split>::new(rt.alloc());
+    let mut pair = Pair::new(rt.alloc(), 8, PLAIN, 4, &chain_of(10, 64), 6, guest, device)?;
+    assert!(rt; pair.attach(0, 6) == Some(true));
+    play(&mut pair);
+    assert!(rt; pair.guest_done() && pair.device_done());
+    assert!(rt; came_back(pair.returned(), &[0, 1, 2, 3, 4, 5], 10));
+    Ok(())
+}
+
+#[test]
+fn no_chain_at_all(rt: HostRuntime) -> Result<(), Fail> {
+    let guest = ModelGuest::<Split>::new(rt.alloc());
+    let device = ModelDevice::<Split>::new(rt.alloc(), 4);
+    let mut pair = Pair::new(rt.alloc(), 2, PLAIN, 4, &chain_of(10, 64), 0, guest, device)?;
+    assert!(rt; pair.guest_done());
+    assert!(rt; pair.attach(0, 0) == Some(true));
+    assert!(rt; pair.device_phase());
+    assert!(rt; pair.device_done());
+    assert!(rt; pair.suspend() == Some(Base(0)));
+    assert!(rt; pair.returned().is_empty());
+    Ok(())
+}
+
+/// The device answers each offer at once, so no second chain is open where the guest collects before it offers again.
+#[test]
+fn a_guest_that_takes_turns_collects_between_its_offers(rt: HostRuntime) -> Result<(), Fail> {
+    let guest = TurnGuest::<Split>::new(rt.alloc());
+    let device = SingleDevice::<Split>::new(rt.alloc());
+    let mut pair = Pair::new(rt.alloc(), 8, PLAIN, 4, &chain_of(10, 64), 3, guest, device)?;
+    assert!(rt; pair.attach(0, 3) == Some(true));
+    let mut most = 0;
+    for _ in 0..1000 {
+        let _ = pair.guest_step();
+        for _ in 0..60 {
+            let _ = pair.device_step();
+        }
+        let open = (pair.offered() as usize).saturating_sub(pair.returned().len());
+        if open > most {
+            most = open;
+        }
+    }
+    assert_eq!(rt; most, 1);
+    assert!(rt; pair.guest_done() && pair.device_done());
+    assert!(rt; came_back(pair.returned(), &[0, 1, 2], 10));
+    Ok(())
+}
+
+#[test]
+fn single_steps_to_the_end(rt: HostRuntime) -> Result<(), Fail> {
+    let guest = ModelGuest::<Split>::new(rt.alloc());
+    let device = ModelDevice::<Split>::new(rt.alloc(), 4);
+    let mut pair = Pair::new(rt.alloc(), 8, PLAIN, 4, &chain_of(10, 4), 6, guest, device)?;
+    assert!(rt; pair.attach(0, 6) == Some(true));
+    let mut guest_finished = 0;
+    let mut device_finished = 0;
+    for _ in 0..1000 {
+        if pair.guest_step() == Some(Move::Finished) {
+            guest_finished = 1;
+        }
+        if pair.device_step() == Some(Move::Finished) {
+            device_finished = 1;
+        }
+    }
+    assert_eq!(rt; (guest_finished, device_finished), (1, 1));
+    assert!(rt; pair.guest_done() && pair.device_done());
+    assert!(rt; pair.returned().len() == 6);
+    assert!(rt; all_begun(pair.journal(), 6, 4));
+    Ok(())
+}
+
+#[test]
+fn events_stand_in_the_journal(rt: HostRuntime) -> Result<(), Fail> {
+    let guest = ModelGuest::<Split>::new(rt.alloc());
+    let device = FaultyDevice::new(ModelDevice::<Split>::new(rt.alloc(), 4), 2);
+    let mut pair = Pair::new(rt.alloc(), 8, PLAIN, 4, &chain_of(10, 64), 6, guest, device)?;
+    assert!(rt; pair.attach(0, 4) == Some(true));
+    play(&mut pair);
+    assert!(rt; pair.suspend() == Some(Base(4)));
+    assert!(rt; pair.reset());
+    assert_eq!(rt; pair.faults(), 0);
+    assert!(rt; pair.attach(0, 2) == Some(false));
+    assert_eq!(rt; pair.faults(), 1);
+    assert!(rt; pair.journal().events.len() == 3);
+    assert!(rt; pair.attach(0, 2) == Some(true));
+    play(&mut pair);
+    assert!(rt; pair.suspend() == Some(Base(6)));
+    assert!(rt; pair.attach(0, 0) == Some(true));
+    assert_eq!(rt; pair.faults(), 1);
+    assert!(rt; pair.guest_done());
+    assert!(rt; came_back(pair.returned(), &[3, 2, 1, 0, 5, 4], 10));
+    let events = pair.journal().events.as_slice();
+    assert!(rt; events.len() == 6);
+    assert!(rt;
+        matches!(
+            events[0],
+            Event::Attach {
+                at: 0,
+                ring: 0,
+                base: Base(0),
+                mode: Mode::Pass,
+                ..
+            }
+        )
+    );
+    assert!(rt;
+        matches!(
+            events[1],
+            Event::Suspend {
+                at: 4,
+                base: Base(4)
+            }
+        )
+    );
+    assert!(rt; matches!(events[2], Event::Reset { at: 4 }));
+    assert!(rt;
+        matches!(
+            events[3],
+            Event::Attach {
+                at: 4,
+                base: Base(4),
+                ..
+            }
+        )
+    );
+    assert!(rt;
+        matches!(
+            events[4],
+            Event::Suspend {
+                at: 6,
+                base: Base(6)
+            }
+        )
+    );
+    Ok(())
+}

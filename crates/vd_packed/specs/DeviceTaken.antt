@@ -1,0 +1,187 @@
+-- The load by which a whole chain is taken: the end stands for the view after it.
+use Rattle.std.proofs.Common.{◌≡◌, ◌≢◌, ℕ, ◌+◌, ◌*◌, ◌<◌, ◌≤◌, Bool, true, false, not, List, [], ◌∷◌, ◌++◌, length, Option, Some, None, if◌then◌else◌, nat_lt, slice_index, slice_index_or, slice_set, refl, sym, ap, ◌∙◌, subst, arith, inl, inr}
+use Rattle.std.specs.Vec.{with_item}
+use Rattle.std.proofs.lemmas.Bool.{cases_lt, cases_eq}
+use Rattle.std.proofs.lemmas.List.{length_push, length-append, length-set, get_or_append_left, get_or_push, get_or-set_same, get_or-set_other, append-nil, append_assoc}
+use Rattle.vd_model.specs.declared.chain.Piece.{Piece}
+use Rattle.vd_model.specs.Chains.{needs}
+use Rattle.vd_words.specs.declared.access.Access.TheVariants.{Load}
+use Rattle.vd_words.specs.declared.access.Op.TheVariants as op
+use Rattle.vd_ring.specs.declared.act.DeviceAct.TheVariants as act
+use Rattle.vd_ring.specs.declared.frame.Frame.{Frame}
+use Rattle.vd_ring.specs.declared.device.DeviceDone.{DeviceDone}
+use Rattle.vd_ring.specs.declared.device.DeviceDone.TheVariants.{Take}
+use Rattle.vd_ring.specs.declared.device.DeviceNow.TheVariants as now
+use Rattle.vd_ring.specs.declared.device.DeviceView.{DeviceView}
+use Rattle.vd_ring.specs.History.{takes, gives, heads, running, taken_head, chain_at, used_at, occurs}
+use Rattle.vd_ring.proofs.Counts.{one, one_same, one_other, one_more, one_above, occurs_push, Contains_from}
+use Rattle.vd_ring.proofs.ListSteps.{number_in}
+use Rattle.vd_packed_ring.specs.PackedWords.{id_of, goes_on}
+use Rattle.vd_packed_ring.specs.PackedChains.{piece_of, is_whole, chain_of}
+use Rattle.vd_packed_ring.specs.PackedPositions.{tpos, upos}
+use Rattle.vd_packed_ring.specs.PackedDevice.{IsNewHead, device_after, device_after_at, device_takes, device_act_at}
+use Rattle.vd_packed_ring.proofs.Positions.{sum_entries}
+use Rattle.vd_packed_ring.proofs.Spelled.{needs_pieces, chain_is}
+use Rattle.vd_layout.specs.Begun.{DeviceOp}
+use Rattle.vd_layout.specs.Device.{DeviceSays, IsTaken}
+use Rattle.vd_packed.specs.declared.device.PackedDevice.{PackedDevice}
+use Rattle.vd_packed.specs.declared.device.DeviceStep.TheVariants as step
+use Rattle.vd_packed.specs.DriverEnd.{packed_words}
+use Rattle.vd_packed.specs.DeviceEnd.{TakesOnce, HoldsRunning, number_at, DeviceStands, DeviceStepStands, device_begun, device_left}
+use Rattle.vd_packed.specs.DeviceGiving.{Goes}
+use Rattle.vd_packed.specs.Places.{same_at}
+use Rattle.vd_packed.specs.Spots.{forward}
+use Rattle.vd_packed.specs.DeviceTaking.{Loaded, address_next, is_ended, spelled_more, spot_more, whole_chain}
+
+-- it leaves the position of what was given
+take_upos : (f : Frame) (s : List DeviceDone) (c : List Piece) (h : ℕ) → TakesOnce s → upos f (Take c h ∷ s) ≡ upos f s
+take_upos f s c h once = sum_entries (λ u. needs f.features (chain_at (takes (Take c h ∷ s)) u.number)) (λ u. needs f.features (chain_at (takes s) u.number)) (gives s) (λ j a. ap (needs f.features) (get_or_append_left (takes s) (c ∷ []) [] (used_at (gives s) j).number (below j a)))
+  where
+    below : (j : ℕ) → j < length (gives s) → (used_at (gives s) j).number < length (takes s)
+    below j a = elim (cases_lt (used_at (gives s) j).number (length (takes s))) [
+      | inl b ↦ b
+      | inr b ↦ absurd (omega (arith, once.each (used_at (gives s) j).number, number_in (gives s) j a, one_above (used_at (gives s) j).number (length (takes s)) b))
+    ]
+
+-- it runs at its head
+pub holds_more : (table : List (Option ℕ)) (counts : List ℕ) (guesses guesses' h n : ℕ) (f : Frame) (s : List DeviceDone) (c : List Piece) → HoldsRunning table counts guesses f s → IsNewHead f s h → 0 < guesses' → n ≡ needs f.features c → needs f.features c ≤ f.size
+    → HoldsRunning (slice_set table h (Some (length (takes s)))) (slice_set counts h n) guesses' f (Take c h ∷ s)
+holds_more table counts guesses guesses' h n f s c held new guess sized few = record {
+  once = record {
+    each = λ k. omega (arith, held.once.each k, occurs_push k (running s) t, one_more k t, ap (λ m. one (nat_lt k m)) longer);
+    count = omega (arith, held.once.count, longer, length_push (running s) t);
+    as_many = omega (arith, length_push (heads s) h, longer, held.once.as_many);
+  };
+  places = length-set table h (Some t) ∙ held.places;
+  as_many = length-set counts h n ∙ held.as_many;
+  guessed = guess;
+  kept = λ k a. elim (cases_eq k t) [
+    | inl e ↦ ap (number_at (slice_set table h (Some t))) (ap (slice_index (heads s ++ h ∷ [])) e ∙ new_head) ∙ here ∙ ap Some (sym e)
+    | inr ne ↦ (
+        let old = old_runs k ne a in
+        ap (number_at (slice_set table h (Some t))) (old_head k (below k old)) ∙ get_or-set_other table h (taken_head s k) (Some t) None (new.apart k (Contains_from k (running s) old)) ∙ held.kept k old
+        )
+  ];
+  named = λ i k there. elim (cases_eq i h) [
+    | inl e ↦ (
+        let is : t ≡ k = some_same t k (sym here ∙ ap (number_at (slice_set table h (Some t))) (sym e) ∙ there) in
+        (omega (arith, occurs_push k (running s) t, one_same t k is), ap (slice_index (heads s ++ h ∷ [])) (sym is) ∙ new_head ∙ sym e)
+        )
+    | inr ne ↦ (
+        let was = held.named i k (sym (get_or-set_other table h i (Some t) None ne) ∙ there) in
+        (omega (arith, was.0, occurs_push k (running s) t), old_head k (below k was.0) ∙ was.1)
+        )
+  ];
+  counted = λ k d a. elim (cases_eq k t) [
+    | inl e ↦ (
+        let head : slice_index (heads s ++ h ∷ []) k ≡ h = ap (slice_index (heads s ++ h ∷ [])) e ∙ new_head in
+        let chain : chain_at (takes s ++ c ∷ []) k ≡ c = ap (chain_at (takes s ++ c ∷ [])) e ∙ get_or_push (takes s) c [] t refl in
+        (ap (λ i. slice_index_or (slice_set counts h n) i d) head ∙ (get_or-set_same counts h n d (omega (arith, new.inside, held.as_many)) ∙ (sized ∙ ap (needs f.features) (sym chain))), subst (λ (x : List Piece). needs f.features x ≤ f.size) (sym chain) few)
+        )
+    | inr ne ↦ (
+        let old = old_runs k ne a in
+        let chain : chain_at (takes s ++ c ∷ []) k ≡ chain_at (takes s) k = get_or_append_left (takes s) (c ∷ []) [] k (below k old) in
+        let was = held.counted k d old in (
+          ap (λ i. slice_index_or (slice_set counts h n) i d) (old_head k (below k old)) ∙ (get_or-set_other counts h (taken_head s k) n d (new.apart k (Contains_from k (running s) old)) ∙ (was.0 ∙ ap (needs f.features) (sym chain))),
+          subst (λ (x : List Piece). needs f.features x ≤ f.size) (sym chain) was.1,
+        )
+        )
+  ];
+}
+  where
+    t : ℕ
+    t = length (takes s)
+
+    longer : length (takes s ++ c ∷ []) ≡ length (takes s) + 1
+    longer = length_push (takes s) c
+
+    some_same : (j k : ℕ) → Some j ≡ Some k → j ≡ k
+    some_same j k e = cc
+
+    here : number_at (slice_set table h (Some (length (takes s)))) h ≡ Some (length (takes s))
+    here = get_or-set_same table h (Some (length (takes s))) None (omega (arith, new.inside, held.places))
+
+    below : (k : ℕ) → 1 ≤ occurs k (running s) → k < length (takes s)
+    below k a = elim (cases_lt k (length (takes s))) [ inl b ↦ b | inr b ↦ absurd (omega (arith, held.once.each k, one_above k (length (takes s)) b)) ]
+
+    old_head : (k : ℕ) → k < length (takes s) → slice_index (heads s ++ h ∷ []) k ≡ taken_head s k
+    old_head k a = get_or_append_left (heads s) (h ∷ []) 0 k (omega (arith, held.once.as_many))
+
+    new_head : slice_index (heads s ++ h ∷ []) (length (takes s)) ≡ h
+    new_head = get_or_push (heads s) h 0 (length (takes s)) held.once.as_many
+
+    old_runs : (k : ℕ) → k ≢ length (takes s) → 1 ≤ occurs k (running s ++ length (takes s) ∷ []) → 1 ≤ occurs k (running s)
+    old_runs k ne a = omega (arith, a, occurs_push k (running s) (length (takes s)), one_other (length (takes s)) k (λ e. ne (sym e)))
+
+pub address_last : (e e2 : PackedDevice) (v : DeviceView) (h x n : ℕ) (cs : List Piece) → (l : Loaded e v h x) → DeviceStands e v → e.doing ≡ step.Address h → goes_on e.second ≡ false
+    → cs ≡ e.pieces.items ++ piece_of x e.second ∷ [] → n ≡ length e.pieces.items + 1 → 0 < length e2.guesses.items
+    → Goes e (record e { taken = e.taken + 1; next = forward e.at 1 e.size; running = with_item e.running h (Some e.taken); counts = with_item e.counts h n; guesses = e2.guesses; pieces = e2.pieces; at = forward e.at 1 e.size; doing = step.Idle }) v op.Take (Load (2 * e.at.place)) x (act.Taken e.taken cs)
+address_last e e2 v h x n cs l st is off spelled many guesses =
+    let f : Frame = v.frame in let s : List DeviceDone = v.done in let t : ℕ = length (takes s) in
+    let had = l.had in let w : ℕ = had.word in let ws : List ℕ = had.words in
+    let p : ℕ = 2 * e.at.place in
+    let end : is_whole f (w ∷ ws ++ x ∷ []) ≡ true = is_ended e v h x st l ∙ ap not off in
+    let is_chain : chain_of f (w ∷ ws ++ x ∷ []) ≡ cs = chain_is f (w ∷ ws ++ x ∷ []) st.made.built ∙ (spelled_more e v h x l ∙ sym spelled) in
+    let is_told : cs ≡ l.told.chain = spelled ∙ whole_chain e v h x off st l in
+    let longer = length_push (takes s) cs in
+    let count : needs f.features cs ≡ length e.pieces.items + 1 = needs_pieces f cs st.made.built ∙ (ap (λ (ps : List Piece). length ps) spelled ∙ length_push e.pieces.items (piece_of x e.second)) in
+    let few : needs f.features cs ≤ f.size = subst (λ (c : List Piece). needs f.features c ≤ f.size) (sym is_told) l.told.fits.size in
+    let s2 : List DeviceDone = Take cs h ∷ s in
+    let past : tpos f s2 ≡ tpos f s + needs f.features cs = Rattle.std.proofs.lemmas.List.Sums.sum_by_push (needs f.features) (takes s) cs in
+    let v2 : DeviceView = record v { done = s2; shown = false; doing = now.Idle } in
+    let is_after : device_after v op.Take (Load p) x ≡ v2 =
+    ap (λ u. device_after_at u v op.Take (Load p) x) had.is ∙ (ap (λ b. if b then device_takes v (w ∷ ws ++ x ∷ []) else record v { doing = now.Taking (w ∷ ws ++ x ∷ []) }) end
+    ∙ (ap (λ (c : List Piece). record v { done = Take c (id_of w) ∷ s; shown = false; doing = now.Idle }) is_chain ∙ ap (λ k. record v { done = Take cs k ∷ s; shown = false; doing = now.Idle }) had.is_head)) in
+    let spot = spot_more e v h x st l in
+    let e' : PackedDevice = record e { taken = e.taken + 1; next = forward e.at 1 e.size; running = with_item e.running h (Some e.taken); counts = with_item e.counts h n; guesses = e2.guesses; pieces = e2.pieces; at = forward e.at 1 e.size; doing = step.Idle } in
+    record {
+      next = (address_next e v h is st).0;
+      stands = subst (λ u. DeviceStands e' u) (sym is_after) record {
+        made = st.made;
+        counts = record {
+          takes = omega (arith, st.counts.takes, longer);
+          gives = st.counts.gives;
+          next_at = same_at (forward e.at 1 e.size) f.size (tpos f s + (length e.pieces.items + 1)) (tpos f s2) (omega (arith, past, count)) spot;
+          used_at = same_at e.used f.size (upos f s) (upos f s2) (sym (take_upos f s cs h st.holds.once)) st.counts.used_at;
+        };
+        holds = subst (λ k. HoldsRunning (slice_set e.running.items h (Some k)) (slice_set e.counts.items h n) (length e2.guesses.items) f s2) (sym st.counts.takes)
+            (holds_more e.running.items e.counts.items (length e.guesses.items) (length e2.guesses.items) h n f s cs st.holds had.new guesses (many ∙ sym count) few);
+        shown = refl;
+        silent = record { unarmed = st.silent.unarmed; unheard = st.silent.unheard; unrung = st.silent.unrung };
+        doing = refl;
+      };
+      is = ap (λ k. act.Taken k cs) st.counts.takes ∙ (ap (act.Taken t) (sym is_chain) ∙ sym (ap (λ u. device_act_at u v op.Take (Load p) x) had.is ∙ ap (λ b. if b then act.Taken t (chain_of f (w ∷ ws ++ x ∷ [])) else act.Moved) end));
+      left = subst (λ u. 0 < device_left u (length e.pieces.items)) (sym is) (omega arith);
+      says = subst (λ u. DeviceSays packed_words (act.Taken e.taken cs) (device_begun u) DeviceOp.idle f s (device_after v op.Take (Load p) x).done) (sym is) (
+        h,
+        refl,
+        refl,
+        st.counts.takes,
+        ap (λ (y : DeviceView). y.done) is_after,
+        subst (λ (c : List Piece). IsTaken packed_words f s c h) (sym is_told) record {
+          fits = l.told.fits;
+          limited = had.limited;
+          room = l.told.room;
+          inside = had.new.inside;
+          apart = had.new.apart;
+          control = λ on. subst (λ k. Rattle.vd_ring.specs.Control.IsControlChain (packed_words.command f k) (packed_words.ack f k) l.told.chain) had.is_head (l.told.control on);
+        },
+      );
+      rests = refl;
+    }
+
+pub address_facts : (e : PackedDevice) (v : DeviceView) (h : ℕ) → e.doing ≡ step.Address h → DeviceStands e v → (h < length e.running.items) × (h < length e.counts.items) × (0 < length e.guesses.items)
+address_facts e v h is st =
+    let n : DeviceStepStands (step.Address h) e.pieces.items e.second e.at v.frame v.done v.doing = subst (λ t. DeviceStepStands t e.pieces.items e.second e.at v.frame v.done v.doing) is st.doing in
+    (omega (arith, n.new.inside, st.holds.places), omega (arith, n.new.inside, st.holds.as_many), st.holds.guessed)
+
+-- a chain that was taken will be counted in 32 bits
+pub taken_small : (e : PackedDevice) (v : DeviceView) (h x : ℕ) → DeviceStands e v → Loaded e v h x → e.taken < 4294967295
+taken_small e v h x st l = omega (arith, l.had.limited, st.counts.takes, least v.frame.ring)
+  where
+    either : (b : Bool) → (if b then 4000000000 else 4294967295) ≤ 4294967295
+    either true = omega arith
+    either false = omega arith
+
+    least : (n : ℕ) → (if nat_lt n 16 then 4000000000 else 4294967295) ≤ 4294967295
+    least n = either (nat_lt n 16)

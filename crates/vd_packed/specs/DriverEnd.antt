@@ -1,0 +1,108 @@
+-- For which views the driver's end of a packed ring stands, and what it has begun.
+use Rattle.std.specs.Prelude.{◌≡◌, ℕ, zero, suc, ◌+◌, ◌-◌, ◌*◌, ◌/◌, ◌<◌, ◌≤◌, false, List, length, take, None, slice_index_or}
+use Rattle.vd_model.specs.declared.chain.Piece.{Piece}
+use Rattle.vd_model.specs.declared.features.Features.{Features}
+use Rattle.vd_model.specs.Chains.{needs}
+use Rattle.vd_ring.specs.declared.frame.Frame.{Frame}
+use Rattle.vd_ring.specs.declared.frame.Put.{Put}
+use Rattle.vd_ring.specs.declared.driver.DriverDone.{DriverDone}
+use Rattle.vd_ring.specs.declared.driver.DriverNow.{DriverNow}
+use Rattle.vd_ring.specs.declared.driver.DriverNow.TheVariants as now
+use Rattle.vd_ring.specs.declared.driver.DriverView.{DriverView}
+use Rattle.vd_ring.specs.History.{offers, collects, open_at, open_size, free, chain, head, occurs}
+use Rattle.vd_ring.specs.Places.{Places}
+use Rattle.vd_packed_ring.specs.PackedWords.{IsLawful, IsBuilt, command_word, ack_word}
+use Rattle.vd_packed_ring.specs.PackedPositions.{opos, cpos}
+use Rattle.vd_packed_ring.specs.PackedDriver.{CanOffer, plan, driver_side, driver_act}
+use Rattle.vd_layout.specs.Begun.{DriverOp}
+use Rattle.vd_layout.specs.Control.{ControlWords}
+use Rattle.vd_layout.specs.Driver.{DriverModel}
+use Rattle.vd_packed.specs.declared.driver.PackedDriver.{PackedDriver}
+use Rattle.vd_packed.specs.declared.driver.Slot.{Slot}
+use Rattle.vd_packed.specs.declared.driver.DriverStep.{DriverStep}
+use Rattle.vd_packed.specs.declared.driver.DriverStep.TheVariants as step
+use Rattle.vd_packed.specs.declared.spot.Spot.{Spot}
+use Rattle.vd_packed.specs.Spots.{IsAt}
+
+-- where commands and acks stand in a packed ring
+abbrev pub packed_words : ControlWords
+packed_words = record { command = command_word; ack = ack_word }
+
+-- what the end was made with is what the ring was made with
+pub record IsMadeFor (size : ℕ) (features : Features) (f : Frame) : Type 0 where
+  pub sized : size ≡ f.size
+  pub featured : features ≡ f.features
+  pub lawful : IsLawful f
+  pub built : IsBuilt f
+
+-- the counts, where the two positions stand, and how many places the open chains leave
+pub record DriverCounts (offered collected : ℕ) (next used : Spot) (space : ℕ) (f : Frame) (o : List DriverDone) : Type 0 where
+  pub offers : offered ≡ length (offers o)
+  pub collects : collected ≡ length (collects o)
+  pub next_at : IsAt next f.size (opos f o)
+  pub used_at : IsAt used f.size (cpos f o)
+  pub left : space + open_size f o ≡ f.size
+
+-- a slot keeps the open chain k
+abbrev pub Keeps : Slot → Frame → List DriverDone → ℕ → Type 0
+Keeps s f o k = (s.number ≡ k) × (s.count ≡ needs f.features (chain o k))
+
+-- the queue of free ids, and each open chain in the slot of its id
+pub record HoldsIds (queue : List ℕ) (capacity : ℕ) (slots : List Slot) (f : Frame) (o : List DriverDone) : Type 0 where
+  pub held : Places f o
+  pub queued : queue ≡ free f o
+  pub room : capacity ≡ f.size
+  pub as_many : length slots ≡ f.size
+  pub open_chains : (k : ℕ) (d : Slot) → 1 ≤ occurs k (open_at o) → Keeps (slice_index_or slots (head f o k) d) f o k
+
+-- the operation in a view after so many stores of an offer
+abbrev pub offering : ℕ → List Put → DriverNow
+offering zero ps = now.Idle
+offering (suc n) ps = now.Offering ps
+
+-- an offer's next store is number `at`; `spot` is where its descriptor stands
+abbrev pub DriverStepStands : DriverStep → List Piece → Spot → Frame → List DriverDone → DriverNow → Type 0
+DriverStepStands step.Idle c spot f o d = d ≡ now.Idle
+DriverStepStands (step.Describe at) c spot f o d = CanOffer f o c × (at + 1 < 2 * length c) × IsAt spot f.size (opos f o + (at + 1) / 2) × (d ≡ offering at (take at (plan f o c)))
+DriverStepStands step.Publish c spot f o d = CanOffer f o c × IsAt spot f.size (opos f o + length c) × (d ≡ now.Offering (plan f o c))
+DriverStepStands step.Look c spot f o d = d ≡ now.Idle
+
+-- no event word is stored, no bell rung or heard, and each look that showed an entry collected it
+pub record IsSilent (v : DriverView) : Type 0 where
+  pub unarmed : v.armed ≡ None
+  pub unheard : v.heard ≡ 0
+  pub unrung : v.bells ≡ 0
+  pub unshown : v.shown ≡ false
+
+pub record DriverStands (e : PackedDriver) (v : DriverView) : Type 0 where
+  pub made : IsMadeFor e.size e.features v.frame
+  pub counts : DriverCounts e.offered e.collected e.next e.used e.space v.frame v.done
+  pub holds : HoldsIds e.free.items e.free.capacity e.slots.items v.frame v.done
+  pub silent : IsSilent v
+  pub doing : DriverStepStands e.doing e.pieces.items e.at v.frame v.done v.doing
+
+-- ---- the operation that is begun, and the accesses that it still takes at most
+
+abbrev pub driver_begun : DriverStep → List Piece → DriverOp
+driver_begun step.Idle c = DriverOp.idle
+driver_begun (step.Describe at) c = DriverOp.offer c
+driver_begun step.Publish c = DriverOp.offer c
+driver_begun step.Look c = DriverOp.collect
+
+abbrev pub driver_left : DriverStep → List Piece → ℕ
+driver_left step.Idle c = 0
+driver_left (step.Describe at) c = 2 * length c - at + 1
+driver_left step.Publish c = 1
+driver_left step.Look c = 1
+
+abbrev pub packed_driver : DriverModel PackedDriver
+packed_driver = record {
+  side = driver_side;
+  act = driver_act;
+  stands = DriverStands;
+  begun = λ e. driver_begun e.doing e.pieces.items;
+  left = λ e. driver_left e.doing e.pieces.items;
+  size = λ e. e.size;
+  features = λ e. e.features;
+  words = packed_words;
+}

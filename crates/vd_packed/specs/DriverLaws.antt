@@ -1,0 +1,133 @@
+-- The laws of the driver's end of a packed ring.
+use Rattle.std.proofs.Common.{◌≡◌, ℕ, ◌+◌, ◌-◌, ◌/◌, ◌%◌, ◌<◌, ◌≤◌, List, ◌∷◌, length, slice_set, refl, sym, subst, arith}
+use Rattle.std.specs.Prelude.{unwrap_or}
+use Rattle.vd_model.specs.declared.chain.Piece.{Piece}
+use Rattle.vd_words.specs.declared.access.Access.{Access}
+use Rattle.vd_words.specs.declared.access.Access.TheVariants.{Load, Store}
+use Rattle.vd_words.specs.declared.access.Op.TheVariants as op
+use Rattle.vd_ring.specs.declared.frame.Frame.{Frame}
+use Rattle.vd_ring.specs.declared.driver.DriverDone.{DriverDone}
+use Rattle.vd_ring.specs.declared.driver.DriverDone.TheVariants.{StoreCommand, LoadAck}
+use Rattle.vd_ring.specs.declared.driver.DriverNow.{DriverNow}
+use Rattle.vd_ring.specs.declared.driver.DriverNow.TheVariants as now
+use Rattle.vd_ring.specs.declared.driver.DriverView.{DriverView}
+use Rattle.vd_ring.specs.Control.{last_collected}
+use Rattle.vd_ring.specs.Places.{Places}
+use Rattle.vd_packed_ring.specs.PackedWords.{commands_from}
+use Rattle.vd_packed_ring.specs.PackedPositions.{opos}
+use Rattle.vd_packed_ring.specs.PackedDriver.{CanOffer, DriverNextAt, driver_after_at}
+use Rattle.vd_packed_ring.proofs.ControlFacts.{driver_controls}
+use Rattle.vd_packed_ring.proofs.DriverViews.{driver_frame}
+use Rattle.vd_packed_ring.proofs.Positions.{driver_span}
+use Rattle.vd_packed_ring.proofs.Spelled.{needs_pieces}
+use Rattle.vd_layout.specs.Begun.{DriverOp}
+use Rattle.vd_layout.specs.Driver.{HasRoom, MayOffer, IsLawfulDriver}
+use Rattle.vd_packed.specs.declared.driver.PackedDriver.{PackedDriver}
+use Rattle.vd_packed.specs.declared.driver.DriverStep.{DriverStep}
+use Rattle.vd_packed.specs.declared.driver.DriverStep.TheVariants as step
+use Rattle.vd_packed.specs.declared.spot.Spot.{Spot}
+use Rattle.vd_packed.specs.DriverEnd.{DriverStands, DriverStepStands, driver_begun, driver_left, packed_driver, packed_words}
+use Rattle.vd_packed.specs.Places.{same_at}
+
+pub room_from : (e : PackedDriver) (v : DriverView) (c : List Piece) → DriverStands e v → length c ≤ e.space → HasRoom v.frame v.done c
+room_from e v c st h = omega (arith, st.counts.left, needs_pieces v.frame c st.made.built)
+
+pub room_to : (e : PackedDriver) (v : DriverView) (c : List Piece) → DriverStands e v → HasRoom v.frame v.done c → length c ≤ e.space
+room_to e v c st h = omega (arith, st.counts.left, needs_pieces v.frame c st.made.built)
+
+pub can_offer : (e : PackedDriver) (v : DriverView) (c : List Piece) → DriverStands e v → MayOffer packed_words v c → CanOffer v.frame v.done c
+can_offer e v c st m = record {
+  fits = m.fits;
+  room = omega (arith, m.room, driver_span v.frame v.done st.holds.held.is_open);
+  limited = m.limited;
+  control = m.control;
+}
+
+rests_at : (t : DriverStep) (c : List Piece) (s : Spot) (f : Frame) (o : List DriverDone) (d : DriverNow) → DriverStepStands t c s f o d → driver_begun t c ≡ DriverOp.idle → d ≡ now.Idle
+rests_at step.Idle c s f o d h e = h
+rests_at (step.Describe at) c s f o d h e = absurd (cc e)
+rests_at step.Publish c s f o d h e = absurd (cc e)
+rests_at step.Look c s f o d h e = absurd (cc e)
+
+-- the end stands after the beginning of an offer that may be made
+pub begins_offer : (e e' : PackedDriver) (v : DriverView) (c : List Piece) → driver_begun e.doing e.pieces.items ≡ DriverOp.idle → DriverStands e v → MayOffer packed_words v c → e'.pieces.items ≡ c → DriverStands (record e { pieces = e'.pieces; at = e.next; doing = step.Describe 0 }) v
+begins_offer e e' v c idle st may same = record {
+  made = st.made;
+  counts = st.counts;
+  holds = st.holds;
+  silent = st.silent;
+  doing = subst (λ (ps : List Piece). DriverStepStands (step.Describe 0) ps e.next v.frame v.done v.doing) (sym same) (
+    can_offer e v c st may,
+    let some : 0 < length c = may.fits.chain.0 in omega arith,
+    same_at e.next v.frame.size (opos v.frame v.done) (opos v.frame v.done + (0 + 1) / 2) (omega arith) st.counts.next_at,
+    rests_at e.doing e.pieces.items e.at v.frame v.done v.doing st.doing idle,
+  );
+}
+
+-- ---- the laws
+
+ends_at : (t : DriverStep) (c : List Piece) → driver_left t c ≡ 0 → driver_begun t c ≡ DriverOp.idle
+ends_at step.Idle c h = refl
+ends_at (step.Describe at) c h = absurd (omega arith)
+ends_at step.Publish c h = absurd (omega arith)
+ends_at step.Look c h = absurd (omega arith)
+
+-- ---- acts that neither offer nor collect leave what the end stands for
+
+places_loaded : (f : Frame) (o : List DriverDone) (l y : ℕ) → Places f o → Places f (LoadAck l y ∷ o)
+places_loaded f o l y p = record { once = p.once; sizes = p.sizes; as_many = p.as_many; listed = p.listed; is_open = p.is_open; count = p.count; fits = p.fits; limited = p.limited }
+
+can_loaded : (f : Frame) (o : List DriverDone) (c : List Piece) (l y : ℕ) → CanOffer f o c → CanOffer f (LoadAck l y ∷ o) c
+can_loaded f o c l y can = record { fits = can.fits; room = can.room; limited = can.limited; control = can.control }
+
+step_loaded : (t : DriverStep) (c : List Piece) (s : Spot) (f : Frame) (o : List DriverDone) (d : DriverNow) (l y : ℕ) → DriverStepStands t c s f o d → DriverStepStands t c s f (LoadAck l y ∷ o) d
+step_loaded step.Idle c s f o d l y h = h
+step_loaded (step.Describe at) c s f o d l y h = (can_loaded f o c l y h.0, h.1, h.2, h.3)
+step_loaded step.Publish c s f o d l y h = (can_loaded f o c l y h.0, h.1, h.2)
+step_loaded step.Look c s f o d l y h = h
+
+places_stored : (f : Frame) (o : List DriverDone) (h i y : ℕ) → Places f o → Places f (StoreCommand h i y ∷ o)
+places_stored f o h i y p = record { once = p.once; sizes = p.sizes; as_many = p.as_many; listed = p.listed; is_open = p.is_open; count = p.count; fits = p.fits; limited = p.limited }
+
+can_stored : (f : Frame) (o : List DriverDone) (c : List Piece) (h i y : ℕ) → CanOffer f o c → CanOffer f (StoreCommand h i y ∷ o) c
+can_stored f o c h i y can = record { fits = can.fits; room = can.room; limited = can.limited; control = can.control }
+
+step_stored : (t : DriverStep) (c : List Piece) (s : Spot) (f : Frame) (o : List DriverDone) (d : DriverNow) (i j y : ℕ) → DriverStepStands t c s f o d → DriverStepStands t c s f (StoreCommand i j y ∷ o) d
+step_stored step.Idle c s f o d i j y h = h
+step_stored (step.Describe at) c s f o d i j y h = (can_stored f o c i j y h.0, h.1, h.2, h.3)
+step_stored step.Publish c s f o d i j y h = (can_stored f o c i j y h.0, h.1, h.2)
+step_stored step.Look c s f o d i j y h = h
+
+after_ack : (e : PackedDriver) (v : DriverView) (l y : ℕ) → DriverStands e v → DriverStands e (record v { done = LoadAck l y ∷ v.done })
+after_ack e v l y st = record {
+  made = st.made;
+  counts = record { offers = st.counts.offers; collects = st.counts.collects; next_at = st.counts.next_at; used_at = st.counts.used_at; left = st.counts.left };
+  holds = record { held = places_loaded v.frame v.done l y st.holds.held; queued = st.holds.queued; room = st.holds.room; as_many = st.holds.as_many; open_chains = st.holds.open_chains };
+  silent = record { unarmed = st.silent.unarmed; unheard = st.silent.unheard; unrung = st.silent.unrung; unshown = st.silent.unshown };
+  doing = step_loaded e.doing e.pieces.items e.at v.frame v.done v.doing l y st.doing;
+}
+
+after_command : (e : PackedDriver) (v : DriverView) (h i y : ℕ) (us : List ℕ) → DriverStands e v → DriverStands e (record v { done = StoreCommand h i y ∷ v.done; stored = us })
+after_command e v h i y us st = record {
+  made = st.made;
+  counts = record { offers = st.counts.offers; collects = st.counts.collects; next_at = st.counts.next_at; used_at = st.counts.used_at; left = st.counts.left };
+  holds = record { held = places_stored v.frame v.done h i y st.holds.held; queued = st.holds.queued; room = st.holds.room; as_many = st.holds.as_many; open_chains = st.holds.open_chains };
+  silent = record { unarmed = st.silent.unarmed; unheard = st.silent.unheard; unrung = st.silent.unrung; unshown = st.silent.unshown };
+  doing = step_stored e.doing e.pieces.items e.at v.frame v.done v.doing h i y st.doing;
+}
+
+control_at : (d : DriverNow) (e : PackedDriver) (v : DriverView) (a : Access) (r : ℕ) → DriverStands e v → DriverNextAt d v op.Control a → DriverStands e (driver_after_at d v op.Control a r)
+control_at now.Idle e v (Load p) r st n = after_ack e v (unwrap_or (last_collected v.done) 0) r st
+control_at now.Idle e v (Store p x) r st n = after_command e v ((p - commands_from v.frame) / 2) ((p - commands_from v.frame) % 2) x (slice_set v.stored p x) st
+control_at _ e v a r st n = absurd n
+
+pub driver_laws : IsLawfulDriver packed_driver
+driver_laws = record {
+  sized = λ e v st. (st.made.sized, st.made.featured);
+  at_rest = λ e v st idle. rests_at e.doing e.pieces.items e.at v.frame v.done v.doing st.doing idle;
+  ends = λ e none. ends_at e.doing e.pieces.items none;
+  control = λ e v a r st n. control_at v.doing e v a r st n;
+  framed = λ v o a r. driver_frame v o a r;
+  places = λ e v st. st.holds.held;
+  controls = driver_controls;
+}

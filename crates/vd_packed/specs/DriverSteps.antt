@@ -1,0 +1,293 @@
+-- The steps of an offer: each is next in a view that the end stands for, and the end stands for the view after it.
+use Rattle.std.proofs.Common.{◌≡◌, ◌≢◌, ℕ, zero, suc, ◌+◌, ◌-◌, ◌*◌, ◌/◌, ◌%◌, ◌<◌, ◌≤◌, ◌==◌, Bool, true, false, List, [], ◌∷◌, ◌++◌, length, take, drop, None, if◌then◌else◌, nat_lt, slice_index, slice_index_or, slice_set, refl, sym, ap, ◌∙◌, subst, arith, inl, inr}
+use Rattle.std.proofs.lemmas.Bool.{cases_eq, eq-eqb, ne_eqb, ltb-true, ltb-false}
+use Rattle.std.proofs.lemmas.List.{length-set, length_push, take_all, take_more, get_or-set_same, get_or-set_other, get_or-take}
+use Rattle.std.specs.Vec.{with_item}
+use Rattle.vd_model.specs.declared.chain.Piece.{Piece}
+use Rattle.vd_model.specs.Chains.{blank, needs}
+use Rattle.vd_words.specs.declared.access.Access.{Access}
+use Rattle.vd_words.specs.declared.access.Access.TheVariants.{Store}
+use Rattle.vd_words.specs.declared.access.Op.{Op}
+use Rattle.vd_words.specs.declared.access.Op.TheVariants as op
+use Rattle.vd_words.specs.Model.{PortModel}
+use Rattle.vd_ring.specs.declared.act.DriverAct.{DriverAct}
+use Rattle.vd_ring.specs.declared.act.DriverAct.TheVariants as act
+use Rattle.vd_ring.specs.declared.frame.Frame.{Frame}
+use Rattle.vd_ring.specs.declared.frame.Put.{Put}
+use Rattle.vd_ring.specs.declared.driver.DriverDone.{DriverDone}
+use Rattle.vd_ring.specs.declared.driver.DriverDone.TheVariants.{Offer}
+use Rattle.vd_ring.specs.declared.driver.DriverNow.TheVariants as now
+use Rattle.vd_ring.specs.declared.driver.DriverView.{DriverView}
+use Rattle.vd_ring.specs.Frames.{lent}
+use Rattle.vd_ring.specs.History.{offers, open_at, open_size, free, next_head, head, first, occurs}
+use Rattle.vd_ring.specs.Places.{Places}
+use Rattle.vd_ring.proofs.Counts.{one_same, one_other, occurs_push}
+use Rattle.vd_ring.proofs.HeldInside.{next_low}
+use Rattle.vd_ring.proofs.HeldPlaces.{open_below, offer_places, places_before, places_new, chain_before, chain_new, head_inside, same_head}
+use Rattle.vd_packed_ring.specs.PackedWords.{IsLawful, IsBuilt, second_word, put, words_of}
+use Rattle.vd_packed_ring.specs.PackedChains.{direct, staged, publishing, staged_chain, staged_pieces}
+use Rattle.vd_packed_ring.specs.PackedPositions.{opos, cpos}
+use Rattle.vd_packed_ring.specs.PackedDriver.{CanOffer, Begins, DriverNextAt, DriverNext, driver_after_at, driver_after, driver_act, driver_act_at, driver_offers, plan, last_put, stores}
+use Rattle.vd_packed_ring.proofs.Clear.{plan_is}
+use Rattle.vd_packed_ring.proofs.Positions.{driver_span, opos_offered, cpos_offered, free_some}
+use Rattle.vd_packed_ring.proofs.Spelled.{needs_pieces, lent_one, publishing_is, staged_is, staged_back}
+use Rattle.vd_layout.specs.Begun.{DriverOp}
+use Rattle.vd_layout.specs.Driver.{DriverSays, IsDriverStep}
+use Rattle.vd_packed.specs.declared.driver.PackedDriver.{PackedDriver}
+use Rattle.vd_packed.specs.declared.driver.Slot.{Slot}
+use Rattle.vd_packed.specs.declared.driver.DriverStep.TheVariants as step
+use Rattle.vd_packed.specs.declared.spot.Spot.{Spot}
+use Rattle.vd_packed.specs.DriverEnd.{HoldsIds, DriverStands, DriverStepStands, Keeps, offering, driver_begun, driver_left, packed_driver}
+use Rattle.vd_packed.specs.Offers.{plan_length, begins_at, apart_at, word_at}
+use Rattle.vd_packed.specs.Places.{spot_below, second_at, same_at, forward_at}
+use Rattle.vd_packed.specs.Seconds.{available_word, described_step, spot_after}
+use Rattle.vd_packed.specs.Spots.{IsAt, forward}
+
+-- what one step of the end owes in a view
+pub record Goes (e e' : PackedDriver) (v : DriverView) (o : Op) (a : Access) (r : ℕ) (answer : DriverAct) : Type 0 where
+  pub next : DriverNext v o a
+  pub stands : DriverStands e' (driver_after v o a r)
+  pub is : answer ≡ driver_act v o a r
+  pub left : driver_left e'.doing e'.pieces.items < driver_left e.doing e.pieces.items
+  pub says : DriverSays answer (driver_begun e.doing e.pieces.items) (driver_begun e'.doing e'.pieces.items) v.frame v.done (driver_after v o a r).done
+
+pub made : {P : Type 0} (port : PortModel P) (p q : P) (e e' : PackedDriver) (v : DriverView) (o : Op) (a : Access) (r : ℕ) (answer : DriverAct) → Goes e e' v o a r answer → port.moves p o a r q → IsDriverStep port packed_driver p q v e e' answer
+made port p q e e' v o a r answer go moved = record { op = o; access = a; got = r; was_next = go.next; moved = moved; now_stands = go.stands; is_answer = go.is; left = go.left; says = go.says }
+
+pub size_facts : (e : PackedDriver) (v : DriverView) → DriverStands e v → (0 < e.size) × (e.size ≤ 32768) × (e.size ≡ v.frame.size)
+size_facts e v st = (omega (arith, st.made.sized, st.made.lawful.least), omega (arith, st.made.sized, st.made.lawful.most), st.made.sized)
+
+-- an id is free, and the next one is below the size
+pub next_id_facts : (e : PackedDriver) (v : DriverView) (c : List Piece) → DriverStands e v → CanOffer v.frame v.done c → (0 < length e.free.items) × (slice_index e.free.items 0 < e.size) × (slice_index e.free.items 0 ≡ next_head v.frame v.done)
+next_id_facts e v c st can =
+    let some = free_some v.frame v.done c st.made.lawful st.holds.held can.fits can.room in
+    let same : slice_index e.free.items 0 ≡ next_head v.frame v.done = ap first st.holds.queued in
+    (omega (arith, some, ap (λ (l : List ℕ). length l) st.holds.queued), omega (arith, same, next_low v.frame v.done (omega (arith, st.made.lawful.least)), st.made.sized), same)
+
+-- ---- the store of a descriptor's word
+
+none_yet : (pl : List Put) (at : ℕ) → at ≡ 0 → take at pl ≡ []
+none_yet pl at e = ap (λ k. take k pl) e
+
+next_at : (v : DriverView) (at : ℕ) (ps : List Put) (s : Put) → v.armed ≡ None → (at ≡ 0 → ps ≡ []) → Begins v.frame v.done (ps ++ s ∷ []) → DriverNextAt (offering at ps) v op.Offer (Store s.place s.word)
+next_at v zero ps s armed none h = (armed, subst (λ (us : List Put). Begins v.frame v.done (us ++ s ∷ [])) (none refl) h)
+next_at v (suc n) ps s armed none h = inl h
+
+after_at : (v : DriverView) (at : ℕ) (ps : List Put) (s : Put) (r : ℕ) → (at ≡ 0 → ps ≡ []) → s.place ≢ second_word v.frame.size (opos v.frame v.done) → driver_after_at (offering at ps) v op.Offer (Store s.place s.word) r ≡ stores v s.place s.word (now.Offering (ps ++ s ∷ []))
+after_at v zero ps s r none ne = ap (λ (us : List Put). stores v s.place s.word (now.Offering (us ++ s ∷ []))) (sym (none refl))
+after_at v (suc n) ps s r none ne = ap (λ (b : Bool). if b then driver_offers v ps s.place s.word else stores v s.place s.word (now.Offering (ps ++ s ∷ []))) (ne_eqb s.place (second_word v.frame.size (opos v.frame v.done)) ne)
+
+act_at : (v : DriverView) (at : ℕ) (ps : List Put) (p x r : ℕ) → p ≢ second_word v.frame.size (opos v.frame v.done) → driver_act_at (offering at ps) v op.Offer (Store p x) r ≡ act.Moved
+act_at v zero ps p x r ne = refl
+act_at v (suc n) ps p x r ne = ap (λ (b : Bool). if b then act.Offered (length (offers v.done)) else act.Moved) (ne_eqb p (second_word v.frame.size (opos v.frame v.done)) ne)
+
+offering_some : (n : ℕ) (ps : List Put) → offering (n + 1) ps ≡ now.Offering ps
+offering_some n ps = ap (λ m. offering m ps) (let e : n + 1 ≡ suc n = omega arith in e)
+
+-- the spot after a store
+spot_on : (s : Spot) (n q at : ℕ) → 0 < n → IsAt s n (q + (at + 1) / 2) → IsAt (spot_after s at n) n (q + (at + 1 + 1) / 2)
+spot_on s n q at pos h = elim (cases_eq (at % 2) 0) [
+  | inl e ↦ subst (λ (b : Bool). IsAt (if b then forward s 1 n else s) n (q + (at + 1 + 1) / 2)) (sym (eq-eqb (at % 2) 0 e)) (same_at (forward s 1 n) n (q + (at + 1) / 2 + 1) (q + (at + 1 + 1) / 2) (omega arith) (forward_at s n (q + (at + 1) / 2) 1 pos (omega arith) h))
+  | inr ne ↦ subst (λ (b : Bool). IsAt (if b then forward s 1 n else s) n (q + (at + 1 + 1) / 2)) (sym (ne_eqb (at % 2) 0 ne)) (same_at s n (q + (at + 1) / 2) (q + (at + 1 + 1) / 2) (omega arith) h)
+]
+
+-- the step after store number j stands with one store more
+stands_on : (b : Bool) (j : ℕ) (c : List Piece) (spot : Spot) (f : Frame) (o : List DriverDone) (ps : List Put) → CanOffer f o c → j + 1 < 2 * length c → length (plan f o c) + 1 ≡ 2 * length c → nat_lt (j + 2) (2 * length c) ≡ b → ps ≡ take (j + 1) (plan f o c)
+    → IsAt spot f.size (opos f o + (j + 1 + 1) / 2) → DriverStepStands (if b then step.Describe (j + 1) else step.Publish) c spot f o (now.Offering ps)
+stands_on true j c spot f o ps can below many eq is here = (can, omega (arith, ltb-true (j + 2) (2 * length c) eq), here, ap now.Offering is ∙ sym (offering_some j (take (j + 1) (plan f o c))))
+stands_on false j c spot f o ps can below many eq is here =
+    let last : 2 * length c ≤ j + 2 = ltb-false (j + 2) (2 * length c) eq in
+    (can, same_at spot f.size (opos f o + (j + 1 + 1) / 2) (opos f o + length c) (omega arith) here, ap now.Offering (is ∙ take_all (j + 1) (plan f o c) (omega arith)))
+
+shorter : (b : Bool) (j : ℕ) (c : List Piece) → nat_lt (j + 2) (2 * length c) ≡ b → j + 1 < 2 * length c → driver_left (if b then step.Describe (j + 1) else step.Publish) c < 2 * length c - j + 1
+shorter true j c eq below = omega (arith, ltb-true (j + 2) (2 * length c) eq)
+shorter false j c eq below = omega arith
+
+goes_on : (b : Bool) (j : ℕ) (c : List Piece) → driver_begun (if b then step.Describe (j + 1) else step.Publish) c ≡ DriverOp.offer c
+goes_on true j c = refl
+goes_on false j c = refl
+
+pub describe_goes : (e : PackedDriver) (v : DriverView) (j r : ℕ) → e.doing ≡ step.Describe j → DriverStands e v
+    → let s = slice_index_or (plan v.frame v.done e.pieces.items) j (put 0 0) in Goes e (record e { at = spot_after e.at j e.size; doing = described_step j (length e.pieces.items) }) v op.Offer (Store s.place s.word) r act.Moved
+describe_goes e v j r is st =
+    let f : Frame = v.frame in let o : List DriverDone = v.done in let c : List Piece = e.pieces.items in
+    let pl : List Put = plan f o c in
+    let s : Put = slice_index_or pl j (put 0 0) in
+    let ps : List Put = take j pl in
+    let l : IsLawful f = st.made.lawful in let b : IsBuilt f = st.made.built in
+    let n : DriverStepStands (step.Describe j) c e.at f o v.doing = subst (λ t. DriverStepStands t c e.at f o v.doing) is st.doing in
+    let can : CanOffer f o c = n.0 in
+    let below : j + 1 < 2 * length c = n.1 in
+    let len = plan_length f o c b can in
+    let low : j < length pl = omega arith in
+    let ne = apart_at f o c j l b can low in
+    let none = none_yet pl j in
+    let is_after = ap (λ t. driver_after_at t v op.Offer (Store s.place s.word) r) n.3 ∙ after_at v j ps s r none ne in
+    let e' : PackedDriver = record e { at = spot_after e.at j e.size; doing = described_step j (length c) } in
+    let more : ps ++ s ∷ [] ≡ take (j + 1) pl = sym (take_more pl j (put 0 0) low) in
+    let spot : IsAt (spot_after e.at j e.size) f.size (opos f o + (j + 1 + 1) / 2) = subst (λ (k : ℕ). IsAt (spot_after e.at j k) f.size (opos f o + (j + 1 + 1) / 2)) (sym st.made.sized) (spot_on e.at f.size (opos f o) j (omega (arith, l.least)) n.2) in
+    record {
+      next = subst (λ t. DriverNextAt t v op.Offer (Store s.place s.word)) (sym n.3) (next_at v j ps s st.silent.unarmed none (begins_at f o c j can low));
+      stands = subst (λ w. DriverStands e' w) (sym is_after) record {
+        made = st.made;
+        counts = st.counts;
+        holds = st.holds;
+        silent = record { unarmed = st.silent.unarmed; unheard = st.silent.unheard; unrung = st.silent.unrung; unshown = st.silent.unshown };
+        doing = stands_on (nat_lt (j + 2) (2 * length c)) j c (spot_after e.at j e.size) f o (ps ++ s ∷ []) can below len refl more spot;
+      };
+      is = sym (ap (λ t. driver_act_at t v op.Offer (Store s.place s.word) r) n.3 ∙ act_at v j ps s.place s.word r ne);
+      left = subst (λ t. driver_left (described_step j (length c)) c < driver_left t c) (sym is) (shorter (nat_lt (j + 2) (2 * length c)) j c refl below);
+      says = subst (λ t. DriverSays act.Moved (driver_begun t c) (driver_begun (described_step j (length c)) c) f o (driver_after v op.Offer (Store s.place s.word) r).done) (sym is)
+          (goes_on (nat_lt (j + 2) (2 * length c)) j c, ap (λ (w : DriverView). w.done) is_after);
+    }
+
+-- the word as the end computes it
+pub describe_goes_at : (e : PackedDriver) (v : DriverView) (j r id p x : ℕ) → e.doing ≡ step.Describe j → DriverStands e v → id ≡ slice_index e.free.items 0
+    → ((n q : ℕ) → IsAt e.at n (q + (j + 1) / 2) → p ≡ (slice_index_or (staged n q (direct id e.pieces.items)) j (put 0 0)).place)
+    → ((n q : ℕ) → IsAt e.at n (q + (j + 1) / 2) → x ≡ (slice_index_or (staged n q (direct id e.pieces.items)) j (put 0 0)).word)
+    → Goes e (record e { at = spot_after e.at j e.size; doing = described_step j (length e.pieces.items) }) v op.Offer (Store p x) r act.Moved
+describe_goes_at e v j r id p x is st first_id place word =
+    let f : Frame = v.frame in let o : List DriverDone = v.done in let c : List Piece = e.pieces.items in
+    let e' : PackedDriver = record e { at = spot_after e.at j e.size; doing = described_step j (length c) } in
+    let n : DriverStepStands (step.Describe j) c e.at f o v.doing = subst (λ t. DriverStepStands t c e.at f o v.doing) is st.doing in
+    let same : staged f.size (opos f o) (direct id c) ≡ plan f o c = ap (λ (i : ℕ). staged f.size (opos f o) (direct i c)) (first_id ∙ ap first st.holds.queued) ∙ sym (plan_is f o c st.made.built) in
+    subst (λ q. Goes e e' v op.Offer (Store q x) r act.Moved) (sym (place f.size (opos f o) n.2 ∙ ap (λ (pl : List Put). (slice_index_or pl j (put 0 0)).place) same))
+    (subst (λ y. Goes e e' v op.Offer (Store (slice_index_or (plan f o c) j (put 0 0)).place y) r act.Moved) (sym (word f.size (opos f o) n.2 ∙ ap (λ (pl : List Put). (slice_index_or pl j (put 0 0)).word) same))
+    (describe_goes e v j r is st))
+
+pub describe_facts : (e : PackedDriver) (v : DriverView) (j : ℕ) → e.doing ≡ step.Describe j → DriverStands e v
+    → (0 < length e.free.items) × (slice_index e.free.items 0 < 65536) × (j + 1 < 2 * length e.pieces.items) × (length e.pieces.items ≤ 16) × (e.at.place < e.size) × (e.size ≤ 32768)
+describe_facts e v j is st =
+    let f : Frame = v.frame in
+    let n : DriverStepStands (step.Describe j) e.pieces.items e.at f v.done v.doing = subst (λ t. DriverStepStands t e.pieces.items e.at f v.done v.doing) is st.doing in
+    let id = next_id_facts e v e.pieces.items st n.0 in
+    let small = size_facts e v st in
+    (id.0, omega (arith, id.1, small.1), n.1, n.0.fits.chain.1, omega (arith, spot_below e.at f.size (opos f v.done + (j + 1) / 2) (omega (arith, st.made.lawful.least)) n.2, st.made.sized), small.1)
+
+-- ---- the store of the first second word
+
+-- a chain that is offered now is kept in the slot of its id
+pub holds_more : (queue : List ℕ) (capacity : ℕ) (slots : List Slot) (f : Frame) (o : List DriverDone) (c : List Piece) (s : Slot) → HoldsIds queue capacity slots f o → IsLawful f → CanOffer f o c
+    → s.number ≡ length (offers o) → s.count ≡ needs f.features c → HoldsIds (drop 1 queue) capacity (slice_set slots (slice_index queue 0) s) f (Offer c ∷ o)
+holds_more queue capacity slots f o c s h l can number count =
+    let m : ℕ = length (offers o) in
+    let one : lent f c ≡ 1 = lent_one f c l in
+    let some = free_some f o c l h.held can.fits can.room in
+    let placed : Places f (Offer c ∷ o) = offer_places f o c h.held can.fits (omega arith) can.limited in
+    let at : ℕ = slice_index queue 0 in
+    let is_head : head f (Offer c ∷ o) m ≡ at = ap first (places_new f o c h.held) ∙ get_or-take (lent f c) (free f o) 0 0 (omega arith) ∙ ap (λ (q : List ℕ). slice_index q 0) (sym h.queued) in
+    let here : 1 ≤ occurs m (open_at (Offer c ∷ o)) = omega (arith, occurs_push m (open_at o) m, one_same m m refl) in
+    let inside : at < f.size = subst (λ k. k < f.size) is_head (head_inside f (Offer c ∷ o) m placed here) in
+    record {
+      held = placed;
+      queued = ap (λ (q : List ℕ). drop 1 q) h.queued ∙ ap (λ k. drop k (free f o)) (sym one);
+      room = h.room;
+      as_many = length-set slots at s ∙ h.as_many;
+      open_chains = λ k d a. elim (cases_eq m k) [
+        | inl e ↦ subst (λ q. Keeps (slice_index_or (slice_set slots at s) (head f (Offer c ∷ o) q) d) f (Offer c ∷ o) q) e
+            (subst (λ q. Keeps q f (Offer c ∷ o) m)
+            (sym (ap (λ q. slice_index_or (slice_set slots at s) q d) is_head ∙ get_or-set_same slots at s d (omega (arith, h.as_many)))) (number, count ∙ ap (needs f.features) (sym (chain_new o c))))
+        | inr ne ↦ (
+            let old : 1 ≤ occurs k (open_at o) = omega (arith, a, occurs_push k (open_at o) m, one_other m k ne) in
+            let below : k < m = open_below f o k h.held old in
+            let before : head f (Offer c ∷ o) k ≡ head f o k = ap first (places_before f o c k h.held below) in
+            let apart : head f o k ≢ at = λ e. ne (sym (same_head f (Offer c ∷ o) k m placed a here (before ∙ e ∙ sym is_head))) in
+            let kept = h.open_chains k d old in
+            subst (λ q. Keeps q f (Offer c ∷ o) k) (sym (ap (λ q. slice_index_or (slice_set slots at s) q d) before ∙ get_or-set_other slots at (head f o k) s d apart)) (kept.0, kept.1 ∙ ap (needs f.features) (sym (chain_before o c k below)))
+            )
+      ];
+    }
+
+-- the open chains have as many descriptors more
+open_offered : (f : Frame) (o : List DriverDone) (c : List Piece) → Places f o → Places f (Offer c ∷ o) → open_size f (Offer c ∷ o) ≡ open_size f o + needs f.features c
+open_offered f o c p p' = omega (arith, driver_span f o p.is_open, driver_span f (Offer c ∷ o) p'.is_open, opos_offered f o c, cpos_offered f o c p)
+
+pub publish_facts : (e : PackedDriver) (v : DriverView) → e.doing ≡ step.Publish → DriverStands e v
+    → (0 < length e.free.items) × (slice_index e.free.items 0 < 65536) × (0 < length e.pieces.items) × (length e.pieces.items ≤ 16) × (e.next.place < 32768) × (slice_index e.free.items 0 < length e.slots.items) × (length e.pieces.items ≤ e.space)
+publish_facts e v is st =
+    let f : Frame = v.frame in let o : List DriverDone = v.done in let c : List Piece = e.pieces.items in
+    let n : DriverStepStands step.Publish c e.at f o v.doing = subst (λ t. DriverStepStands t c e.at f o v.doing) is st.doing in
+    let id = next_id_facts e v c st n.0 in
+    let small = size_facts e v st in (
+      id.0,
+      omega (arith, id.1, small.1),
+      n.0.fits.chain.0,
+      n.0.fits.chain.1,
+      omega (arith, spot_below e.next f.size (opos f o) (omega (arith, st.made.lawful.least)) st.counts.next_at, st.made.lawful.most),
+      omega (arith, id.1, st.holds.as_many, st.made.sized),
+      omega (arith, n.0.room, needs_pieces f c st.made.built, driver_span f o st.holds.held.is_open, st.counts.left),
+    )
+
+-- the number of a chain that is offered now fits 32 bits
+pub offered_small : (e : PackedDriver) (v : DriverView) → e.doing ≡ step.Publish → DriverStands e v → e.offered < 4294967295
+offered_small e v is st =
+    let n : DriverStepStands step.Publish e.pieces.items e.at v.frame v.done v.doing = subst (λ t. DriverStepStands t e.pieces.items e.at v.frame v.done v.doing) is st.doing in
+    omega (arith, n.0.limited, st.counts.offers, least v.frame.ring)
+  where
+    either : (b : Bool) → (if b then 4000000000 else 4294967295) ≤ 4294967295
+    either true = omega arith
+    either false = omega arith
+
+    least : (n : ℕ) → (if nat_lt n 16 then 4000000000 else 4294967295) ≤ 4294967295
+    least n = either (nat_lt n 16)
+
+publish_at : (e : PackedDriver) (v : DriverView) (r p x : ℕ) (e' : PackedDriver) (s : Slot) → e.doing ≡ step.Publish → DriverStands e v
+    → p ≡ second_word v.frame.size (opos v.frame v.done) → x ≡ (publishing v.frame.size (opos v.frame v.done) (direct (next_head v.frame v.done) e.pieces.items)).word
+    → e'.free.items ≡ drop 1 e.free.items → e'.free.capacity ≡ e.free.capacity → s.number ≡ e.offered → s.count ≡ length e.pieces.items
+    → Goes e (record e { offered = e.offered + 1; next = e.at; space = e.space - length e.pieces.items; free = e'.free; slots = with_item e.slots (slice_index e.free.items 0) s; doing = step.Idle }) v op.Offer (Store p x) r (act.Offered e.offered)
+publish_at e v r p x e' s is st place word left capacity number count =
+    let f : Frame = v.frame in let o : List DriverDone = v.done in let c : List Piece = e.pieces.items in
+    let m : ℕ = length (offers o) in let id : ℕ = next_head f o in let q : ℕ = opos f o in
+    let l : IsLawful f = st.made.lawful in let b : IsBuilt f = st.made.built in
+    let n : DriverStepStands step.Publish c e.at f o v.doing = subst (λ t. DriverStepStands t c e.at f o v.doing) is st.doing in
+    let can : CanOffer f o c = n.0 in
+    let ps : List Put = plan f o c in
+    let low = (next_id_facts e v c st can) in
+    let small = size_facts e v st in
+    let spelled : staged_chain f (words_of ps) x ≡ c = staged_is f (words_of ps) x b ∙ (ap (λ (us : List Put). staged_pieces (words_of us) x) (plan_is f o c b) ∙ (ap (λ (y : ℕ). staged_pieces (words_of (staged f.size q (direct id c))) y) word ∙ staged_back f.size q id c can.fits.chain.0 (omega (arith, low.1, low.2, small.1)) can.fits.chain.3)) in
+    let whole : put p x ≡ last_put f o c = ap (λ (k : ℕ). put k x) place ∙ (ap (λ (k : ℕ). put (second_word f.size q) k) word ∙ sym (publishing_is f q id c b)) in
+    let on : (p == second_word f.size q) ≡ true = eq-eqb p (second_word f.size q) place in
+    let e2 : PackedDriver = record e { offered = e.offered + 1; next = e.at; space = e.space - length c; free = e'.free; slots = with_item e.slots (slice_index e.free.items 0) s; doing = step.Idle } in
+    let longer = length_push (offers o) c in
+    let many = needs_pieces f c b in
+    let is_after : driver_after v op.Offer (Store p x) r ≡ record v { done = Offer c ∷ o; stored = slice_set v.stored p x; doing = now.Idle } =
+    ap (λ t. driver_after_at t v op.Offer (Store p x) r) n.2 ∙ (ap (λ (i : Bool). if i then driver_offers v ps p x else stores v p x (now.Offering (ps ++ put p x ∷ []))) on
+    ∙ ap (λ (cs : List Piece). record v { done = Offer cs ∷ o; stored = slice_set v.stored p x; doing = now.Idle }) spelled) in
+    let held0 = holds_more e.free.items e.free.capacity e.slots.items f o c s st.holds l can (number ∙ st.counts.offers) (count ∙ sym many) in
+    let held : HoldsIds e'.free.items e'.free.capacity (slice_set e.slots.items (slice_index e.free.items 0) s) f (Offer c ∷ o) =
+    subst (λ u. HoldsIds u e'.free.capacity (slice_set e.slots.items (slice_index e.free.items 0) s) f (Offer c ∷ o)) (sym left)
+    (subst (λ k. HoldsIds (drop 1 e.free.items) k (slice_set e.slots.items (slice_index e.free.items 0) s) f (Offer c ∷ o)) (sym capacity) held0) in
+    let fits = publish_facts e v is st in
+    record {
+      next = subst (λ t. DriverNextAt t v op.Offer (Store p x)) (sym n.2) (inr record { chain = c; can = can; whole = refl; last = whole });
+      stands = subst (λ w. DriverStands e2 w) (sym is_after) record {
+        made = st.made;
+        counts = record {
+          offers = omega (arith, st.counts.offers, longer);
+          collects = st.counts.collects;
+          next_at = same_at e.at f.size (q + length c) (opos f (Offer c ∷ o)) (omega (arith, opos_offered f o c, many)) n.1;
+          used_at = same_at e.used f.size (cpos f o) (cpos f (Offer c ∷ o)) (sym (cpos_offered f o c st.holds.held)) st.counts.used_at;
+          left = omega (arith, fits, st.counts.left, open_offered f o c st.holds.held held0.held, many);
+        };
+        holds = held;
+        silent = record { unarmed = st.silent.unarmed; unheard = st.silent.unheard; unrung = st.silent.unrung; unshown = st.silent.unshown };
+        doing = refl;
+      };
+      is = ap act.Offered st.counts.offers ∙ sym (ap (λ t. driver_act_at t v op.Offer (Store p x) r) n.2 ∙ ap (λ (i : Bool). if i then act.Offered m else act.Moved) on);
+      left = subst (λ t. 0 < driver_left t c) (sym is) (let z : 0 < 1 = omega arith in z);
+      says = subst (λ t. DriverSays (act.Offered e.offered) (driver_begun t c) DriverOp.idle f o (driver_after v op.Offer (Store p x) r).done) (sym is)
+          (c, refl, inl refl, st.counts.offers, ap (λ (w : DriverView). w.done) is_after);
+    }
+
+-- the word as the end computes it
+pub publish_goes : (e : PackedDriver) (v : DriverView) (r x id : ℕ) (e' : PackedDriver) (s : Slot) → e.doing ≡ step.Publish → DriverStands e v
+    → id ≡ slice_index e.free.items 0 → x ≡ available_word e.next.wrap id (slice_index_or e.pieces.items 0 blank) (if nat_lt (0 + 1) (length e.pieces.items) then 1 else 0)
+    → e'.free.items ≡ drop 1 e.free.items → e'.free.capacity ≡ e.free.capacity → s.number ≡ e.offered → s.count ≡ length e.pieces.items
+    → Goes e (record e { offered = e.offered + 1; next = e.at; space = e.space - length e.pieces.items; free = e'.free; slots = with_item e.slots id s; doing = step.Idle }) v op.Offer (Store (2 * e.next.place + 1) x) r (act.Offered e.offered)
+publish_goes e v r x id e' s is st first_id word left capacity number count =
+    let f : Frame = v.frame in let o : List DriverDone = v.done in let c : List Piece = e.pieces.items in let q : ℕ = opos f o in
+    let fits = publish_facts e v is st in
+    let is_id : id ≡ next_head f o = first_id ∙ ap first st.holds.queued in
+    let value : x ≡ (publishing f.size q (direct (next_head f o) c)).word = word ∙ (word_at e.next f.size q id c 0 fits.2 st.counts.next_at ∙ ap (λ (i : ℕ). (publishing f.size q (direct i c)).word) is_id) in
+    subst (λ i. Goes e (record e { offered = e.offered + 1; next = e.at; space = e.space - length c; free = e'.free; slots = with_item e.slots i s; doing = step.Idle }) v op.Offer (Store (2 * e.next.place + 1) x) r (act.Offered e.offered)) (sym first_id)
+    (publish_at e v r (2 * e.next.place + 1) x e' s is st (second_at e.next f.size q st.counts.next_at) value left capacity number count)

@@ -1,0 +1,179 @@
+//! Both ends against the format, over many operations.
+use super::format::{Format, chain_of, mixed, piece_of, pieces_of};
+use super::rig::Rig;
+use crate::Packed;
+use std::test::*;
+use vd_layout::{BadBase, DeviceAct, DriverAct, Layout};
+use vd_model::{Base, Chain, Features};
+
+/// What one case does: the ring's size, how many eighths of the gives are out of order, whether it rests, and how many
+/// operations there are.
+#[derive(Drop)]
+struct Case {
+    size: u32,
+    disorder: u32,
+    rests: bool,
+    operations: u32,
+}
+
+/// Whether every word of the ring is as the format has it.
+fn words_agree<L: Layout>(rig: &Rig<L>, format: &Format) -> bool {
+    for i in 0..32u32 {
+        if rig.word(i) != format.word(i) {
+            return false;
+        }
+    }
+    true
+}
+
+/// Whether the chain is number `k`.
+fn is_chain(size: u32, k: u32, c: &Chain) -> bool {
+    let pieces = c.pieces();
+    if pieces.len() != pieces_of(size, k) as usize {
+        return false;
+    }
+    for (i, p) in pieces.iter().enumerate() {
+        if *p != piece_of(size, k, (i & 15) as u32) {
+            return false;
+        }
+    }
+    true
+}
+
+fn offer<L: Layout>(rig: &mut Rig<L>, format: &mut Format, size: u32) -> bool {
+    let k = format.offered;
+    let room = format.room();
+    match rig.offer(&chain_of(size, k)) {
+        Some(answer) => {
+            format.offer();
+            room && answer == DriverAct::Offered(k)
+        }
+        None => !room,
+    }
+}
+
+fn take<L: Layout>(rig: &mut Rig<L>, format: &mut Format, size: u32) -> bool {
+    let k = format.taken;
+    let shown = k != format.offered;
+    match rig.take() {
+        Some(DeviceAct::Taken(number, c)) => {
+            format.take();
+            shown && number == k && is_chain(size, k, &c)
+        }
+        Some(DeviceAct::Nothing) => !shown,
+        _ => false,
+    }
+}
+
+fn give<L: Layout>(rig: &mut Rig<L>, format: &mut Format, j: u32, len: u32) -> bool {
+    if format.runs() == 0 {
+        return true;
+    }
+    let i = if j < format.runs() { j } else { 0 };
+    let k = format.running(i);
+    match rig.give(k, len) {
+        Some(DeviceAct::Given(number)) => {
+            format.give(i, len);
+            number == k
+        }
+        _ => false,
+    }
+}
+
+fn collect<L: Layout>(rig: &mut Rig<L>, format: &mut Format) -> bool {
+    let shown = format.collected != format.given;
+    match rig.collect() {
+        DriverAct::Collected { number, len, head } => {
+            if shown {
+                format.collect() == (number, len, head)
+            } else {
+                false
+            }
+        }
+        DriverAct::Nothing => !shown,
+        _ => false,
+    }
+}
+
+fn rest<L: Layout>(rig: &mut Rig<L>, format: &mut Format) -> bool {
+    if !format.whole() {
+        return rig.rest().is_none();
+    }
+    if !matches!(rig.rest(), Some(DeviceAct::Rested)) {
+        return false;
+    }
+    format.rest();
+    let kept = Base(format.base());
+    let other = Base(kept.0 ^ 1);
+    if rig.base() != Some(kept) {
+        return false;
+    }
+    if rig.resume(other) != Some(Err(BadBase { kept, given: other })) {
+        return false;
+    }
+    rig.resume(kept) == Some(Ok(()))
+}
+
+/// One operation, chosen by a number.
+fn operate<L: Layout>(rig: &mut Rig<L>, format: &mut Format, case: &Case, x: u32) -> bool {
+    let which = x & 31;
+    if which < 10 {
+        offer(rig, format, case.size)
+    } else if which < 17 {
+        take(rig, format, case.size)
+    } else if which < 24 {
+        let j = if x >> 5 & 7 < case.disorder {
+            x >> 8 & 7
+        } else {
+            0
+        };
+        give(rig, format, j, x >> 11)
+    } else if which < 31 || !case.rests {
+        collect(rig, format)
+    } else {
+        rest(rig, format)
+    }
+}
+
+#[test]
+fn words_are_as_the_format_has_them(rt: HostRuntime) -> Result<(), Fail> {
+    for size in [2, 3, 5, 7] {
+        for (in_order, disorder, rests) in [
+            (false, 0, true),
+            (false, 4, true),
+            (false, 8, false),
+            (true, 0, true),
+        ] {
+            let f = Features {
+                indirect: false,
+                event_idx: false,
+                in_order,
+            };
+            let case = Case {
+                size,
+                disorder,
+                rests,
+                operations: 4000,
+            };
+            let mut rig = Rig::<Packed>::new(rt.alloc(), 0, size, f)?;
+            let mut format = Format::new(size);
+            for i in 0..case.operations {
+                assert!(rt; operate(&mut rig, &mut format, &case, mixed(i)));
+                assert!(rt; words_agree(&rig, &format));
+                assert!(rt; rig.whole() == format.whole());
+            }
+            assert!(rt;
+                rig.counts()
+                    == (
+                        format.offered,
+                        format.collected,
+                        format.taken,
+                        format.given,
+                        format.runs()
+                    )
+            );
+            assert!(rt; format.collected > 100);
+        }
+    }
+    Ok(())
+}

@@ -1,0 +1,5 @@
+use Rattle.vd_split_ring.proofs.Agreement.{account}
+use Rattle.vd_split_ring.proofs.laws.account_law.Goals as goal
+
+pub returns : goal.returns
+returns c = account
