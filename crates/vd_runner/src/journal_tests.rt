@@ -64,6 +64,7 @@ fn one_chain_is_begun_and_returned(rt: HostRuntime) -> Result<(), Fail> {
         "layout = \"split\"\nsize = 4\nregions = [{ addr = 4096, size = 8192 }]\nqueues = [[\"r4096+10 w8192+64\"]]\n";
     let (status, bench) = play_on_models(rt.alloc(), file, 200)?;
     assert!(rt; status == Status::Ok);
+    assert!(rt; bench.guests.len() == 1 && bench.devices.len() == 1);
     let journal = bench.devices[0].journal();
     assert!(rt; are_two_epochs(journal.events.as_slice(), 1, 1));
     let begun = journal.begun.as_slice();
@@ -84,6 +85,7 @@ fn a_queue_without_chains_has_two_empty_epochs(rt: HostRuntime) -> Result<(), Fa
         "layout = \"split\"\nsize = 4\nregions = [{ addr = 4096, size = 8192 }]\nqueues = [[]]\n";
     let (status, bench) = play_on_models(rt.alloc(), file, 200)?;
     assert!(rt; status == Status::Ok);
+    assert!(rt; bench.guests.len() == 1 && bench.devices.len() == 1);
     let journal = bench.devices[0].journal();
     assert!(rt; are_two_epochs(journal.events.as_slice(), 0, 0));
     assert_eq!(rt; bench.guests[0].returned().len(), 0);
@@ -105,6 +107,7 @@ fn a_window_is_given_back_last_begun_first_unless_in_order(rt: HostRuntime) -> R
         file.push_str("]\n")?;
         let (status, bench) = play_on_models(alloc, file.as_str(), 300)?;
         assert!(rt; status == Status::Ok);
+        assert!(rt; bench.guests.len() == 1 && bench.devices.len() == 1);
         let events = bench.devices[0].journal().events.as_slice();
         assert!(rt; are_two_epochs(events, 6, 6));
         let returned = bench.guests[0].returned();
@@ -125,6 +128,7 @@ fn bases_wrap_at_65536(rt: HostRuntime) -> Result<(), Fail> {
         "layout = \"split\"\nsize = 4\nregions = [{ addr = 4096, size = 8192 }]\nqueues = [[\"70000*r4096+10 w8192+64\"]]\n";
     let (status, bench) = play_on_models(rt.alloc(), file, 2_000_000)?;
     assert!(rt; status == Status::Ok);
+    assert!(rt; bench.guests.len() == 1 && bench.devices.len() == 1);
     let journal = bench.devices[0].journal();
     assert!(rt; are_two_epochs(journal.events.as_slice(), 70_000, 4464));
     let returned = bench.guests[0].returned();
@@ -151,6 +155,7 @@ fn a_refused_second_attach_leaves_the_first_epoch(rt: HostRuntime) -> Result<(),
     );
     assert!(rt; status == Status::DeviceFault(0));
     assert!(rt; sink.held().is_empty());
+    assert!(rt; bench.guests.len() == 1 && bench.devices.len() == 1);
     let journal = bench.devices[0].journal();
     let begun = journal.begun.as_slice();
     assert_eq!(rt; begun.len(), 1);

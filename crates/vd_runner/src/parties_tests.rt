@@ -72,6 +72,7 @@ fn a_packed_machine_is_played_on_the_packed_bench(rt: HostRuntime) -> Result<(),
     );
     assert!(rt; status == Status::Ok);
     assert!(rt; sink.held() == REPORT.as_bytes());
+    assert!(rt; bench.guests.len() == 1 && bench.devices.len() == 1);
     let events = bench.devices[0].journal().events.as_slice();
     assert_eq!(rt; events.len(), 4);
     // place and wrap of a fresh ring, and after four descriptors in a ring of three
@@ -108,6 +109,7 @@ fn a_machine_wants_the_parties_of_its_own_layout(rt: HostRuntime) -> Result<(), 
         devices: 0,
     };
     assert!(rt; status == few);
+    assert!(rt; bench.guests.len() == 1 && bench.devices.len() == 1);
     assert_eq!(rt; bench.guests[0].offered(), 0);
     Ok(())
 }
@@ -148,6 +150,7 @@ fn other_parties_than_the_models_play_too(rt: HostRuntime) -> Result<(), Fail> {
     );
     assert!(rt; status == Status::Ok);
     assert!(rt; sink.held() == SIX.as_bytes());
+    assert!(rt; bench.guests.len() == 1 && bench.devices.len() == 1);
     let returned = bench.guests[0].returned();
     assert_eq!(rt; returned.len(), 6);
     assert!(rt;
@@ -180,6 +183,7 @@ fn other_parties_play_on_a_packed_ring(rt: HostRuntime) -> Result<(), Fail> {
     );
     assert!(rt; status == Status::Ok);
     assert!(rt; sink.held() == SIX.as_bytes());
+    assert!(rt; bench.guests.len() == 1 && bench.devices.len() == 1);
     assert_eq!(rt; bench.guests[0].returned().len(), 6);
     Ok(())
 }
@@ -201,6 +205,7 @@ fn a_refused_attach_on_a_packed_ring_is_told(rt: HostRuntime) -> Result<(), Fail
     );
     assert!(rt; status == Status::DeviceFault(0));
     assert!(rt; sink.held().is_empty());
+    assert!(rt; bench.guests.len() == 1 && bench.devices.len() == 1);
     let journal = bench.devices[0].journal();
     assert_eq!(rt; journal.events.len(), 2);
     assert_eq!(rt; journal.begun.len(), 2);
