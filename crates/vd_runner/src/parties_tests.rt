@@ -20,8 +20,8 @@ fn bench_with<L: Layout, G: Guest<L>, V: Device<L>>(
     guest: G,
     device: V,
 ) -> Result<Bench<G, V>, AllocError>
-    requires guest { G.party.script guest ≡ None }
-    requires device { IsEmptyDevice V.party device }
+    requires unloaded { G.party.script guest ≡ None }
+    requires empty { IsEmptyDevice V.party device }
     ensures { IfOk result (λ b. IsEmptyBench G.party V.party b) }
 {
     let mut guests = Vec::new(alloc);
