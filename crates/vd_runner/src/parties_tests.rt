@@ -1,5 +1,5 @@
 //! Commands over packed rings, and over parties that aren't the models.
-ghost use Rattle.std.specs.Prelude.{None, IfOk};
+ghost use Rattle.std.specs.Prelude.{◌≡◌, None, IfOk};
 ghost use Rattle.vd_play.specs.Prepared.{IsEmptyBench, IsEmptyDevice};
 
 use super::tests::no_parties;
