@@ -1,4 +1,4 @@
-//! Chains through a split ring, timed from outside. Prints a checksum of what came back, and no time.
+//! Chains through a split or a packed ring, timed from outside. Prints a checksum of what came back, and no time.
 #![tactic(auto)]
 
 mod rig;
@@ -6,11 +6,13 @@ mod words;
 
 use anyhow::{Context, Result};
 use rig::Rig;
+use std::alloc::{AllocError, Global};
 use std::env;
-use vd_layout::{DeviceAct, DriverAct};
+use vd_layout::{DeviceAct, DriverAct, Layout};
 use vd_model::{Chain, Features, Piece};
+use vd_packed::Packed;
 use vd_split::Split;
-use words::Size;
+use words::{Kind, Size, Workload};
 
 /// How many chains stand on the ring at once, but for a ring of four.
 const WINDOW: u32 = 16;
@@ -41,7 +43,7 @@ fn chain(k: u32, most: u32) -> Chain {
 }
 
 /// Offers, takes, gives and collects so many chains.
-fn round(rig: &mut Rig<Split>, window: u32, most: u32) -> u64 {
+fn round<L: Layout>(rig: &mut Rig<L>, window: u32, most: u32) -> u64 {
     let mut sum = 0u64;
     for k in 0..window {
         let _ = rig.offer(&chain(k, most));
@@ -60,7 +62,7 @@ fn round(rig: &mut Rig<Split>, window: u32, most: u32) -> u64 {
     sum
 }
 
-fn run(rig: &mut Rig<Split>, rounds: u32, window: u32, most: u32) -> u64 {
+fn run<L: Layout>(rig: &mut Rig<L>, rounds: u32, window: u32, most: u32) -> u64 {
     let mut sum = 0u64;
     for _ in 0..rounds {
         sum = sum.wrapping_add(round(rig, window, most));
@@ -68,14 +70,57 @@ fn run(rig: &mut Rig<Split>, rounds: u32, window: u32, most: u32) -> u64 {
     sum
 }
 
+fn split(alloc: Global, w: Workload) -> Result<u64, AllocError> {
+    let (rounds, most) = (w.rounds, w.most);
+    Ok(match w.size {
+        Size::Four => run(&mut Rig::<Split>::new(alloc, 0, 4, PLAIN)?, rounds, 1, most),
+        Size::Middle => run(
+            &mut Rig::<Split>::new(alloc, 0, 256, PLAIN)?,
+            rounds,
+            WINDOW,
+            most,
+        ),
+        Size::Large => run(
+            &mut Rig::<Split>::new(alloc, 0, 1024, PLAIN)?,
+            rounds,
+            WINDOW,
+            most,
+        ),
+    })
+}
+
+fn packed(alloc: Global, w: Workload) -> Result<u64, AllocError> {
+    let (rounds, most) = (w.rounds, w.most);
+    Ok(match w.size {
+        Size::Four => run(
+            &mut Rig::<Packed>::new(alloc, 0, 4, PLAIN)?,
+            rounds,
+            1,
+            most,
+        ),
+        Size::Middle => run(
+            &mut Rig::<Packed>::new(alloc, 0, 256, PLAIN)?,
+            rounds,
+            WINDOW,
+            most,
+        ),
+        Size::Large => run(
+            &mut Rig::<Packed>::new(alloc, 0, 1024, PLAIN)?,
+            rounds,
+            WINDOW,
+            most,
+        ),
+    })
+}
+
 fn main(rt: HostRuntime) -> Result<()> {
-    let workload = words::read(env::args(&rt)?).context("usage: vd_ring_bench SIZE ROUNDS MOST")?;
-    let (rounds, most) = (workload.rounds, workload.most);
+    let workload = words::read(env::args(&rt)?).context(
+        "usage: vd_ring_bench LAYOUT SIZE ROUNDS MOST",
+    )?;
     let alloc = rt.alloc();
-    let sum = match workload.size {
-        Size::Four => run(&mut Rig::new(alloc, 0, 4, PLAIN)?, rounds, 1, most),
-        Size::Middle => run(&mut Rig::new(alloc, 0, 256, PLAIN)?, rounds, WINDOW, most),
-        Size::Large => run(&mut Rig::new(alloc, 0, 1024, PLAIN)?, rounds, WINDOW, most),
+    let sum = match workload.kind {
+        Kind::Split => split(alloc, workload)?,
+        Kind::Packed => packed(alloc, workload)?,
     };
     println!(rt; "{}", sum)?;
     Ok(())

@@ -1,12 +1,20 @@
 //! The command line of the benchmark.
 use std::env::Args;
 
-/// What is to be run: a ring's size, rounds of 16 chains, and the most pieces of a chain.
+/// What is to be run: a ring's layout and size, rounds of 16 chains, and the most pieces of a chain.
 #[derive(Copy, Clone, Drop)]
 pub struct Workload {
+    pub kind: Kind,
     pub size: Size,
     pub rounds: u32,
     pub most: u32,
+}
+
+/// The layout of the ring.
+#[derive(Copy, Clone)]
+pub enum Kind {
+    Split,
+    Packed,
 }
 
 /// The size of the ring.
@@ -15,6 +23,14 @@ pub enum Size {
     Four,
     Middle,
     Large,
+}
+
+fn kind_of(name: &str) -> Option<Kind> {
+    match name {
+        "split" => Some(Kind::Split),
+        "packed" => Some(Kind::Packed),
+        _ => None,
+    }
 }
 
 fn size_of(places: u32) -> Option<Size> {
@@ -29,11 +45,17 @@ fn size_of(places: u32) -> Option<Size> {
 /// The workload that the words after the program's name ask for.
 pub fn read(mut words: Args) -> Option<Workload> {
     let _program = words.next()?;
+    let kind = kind_of(words.next()?.as_str())?;
     let size = size_of(words.next()?.as_str().parse().ok()?)?;
     let rounds = words.next()?.as_str().parse().ok()?;
     let most = words.next()?.as_str().parse().ok()?;
     if words.next().is_some() {
         return None;
     }
-    Some(Workload { size, rounds, most })
+    Some(Workload {
+        kind,
+        size,
+        rounds,
+        most,
+    })
 }

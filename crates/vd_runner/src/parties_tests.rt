@@ -20,8 +20,8 @@ fn bench_with<L: Layout, G: Guest<L>, V: Device<L>>(
     guest: G,
     device: V,
 ) -> Result<Bench<G, V>, AllocError>
-    requires guest { G.party.script guest ≡ None }
-    requires device { IsEmptyDevice V.party device }
+    requires unloaded { G.party.script guest ≡ None }
+    requires empty { IsEmptyDevice V.party device }
     ensures { IfOk result (λ b. IsEmptyBench G.party V.party b) }
 {
     let mut guests = Vec::new(alloc);
@@ -72,7 +72,7 @@ fn a_packed_machine_is_played_on_the_packed_bench(rt: HostRuntime) -> Result<(),
     );
     assert!(rt; status == Status::Ok);
     assert!(rt; sink.held() == REPORT.as_bytes());
-    assert_eq!(rt; bench.devices.len(), 1);
+    assert!(rt; bench.guests.len() == 1 && bench.devices.len() == 1);
     let events = bench.devices[0].journal().events.as_slice();
     assert_eq!(rt; events.len(), 4);
     // place and wrap of a fresh ring, and after four descriptors in a ring of three
@@ -109,7 +109,7 @@ fn a_machine_wants_the_parties_of_its_own_layout(rt: HostRuntime) -> Result<(), 
         devices: 0,
     };
     assert!(rt; status == few);
-    assert_eq!(rt; bench.guests.len(), 1);
+    assert!(rt; bench.guests.len() == 1 && bench.devices.len() == 1);
     assert_eq!(rt; bench.guests[0].offered(), 0);
     Ok(())
 }
@@ -150,7 +150,7 @@ fn other_parties_than_the_models_play_too(rt: HostRuntime) -> Result<(), Fail> {
     );
     assert!(rt; status == Status::Ok);
     assert!(rt; sink.held() == SIX.as_bytes());
-    assert_eq!(rt; bench.guests.len(), 1);
+    assert!(rt; bench.guests.len() == 1 && bench.devices.len() == 1);
     let returned = bench.guests[0].returned();
     assert_eq!(rt; returned.len(), 6);
     assert!(rt;
@@ -183,7 +183,7 @@ fn other_parties_play_on_a_packed_ring(rt: HostRuntime) -> Result<(), Fail> {
     );
     assert!(rt; status == Status::Ok);
     assert!(rt; sink.held() == SIX.as_bytes());
-    assert_eq!(rt; bench.guests.len(), 1);
+    assert!(rt; bench.guests.len() == 1 && bench.devices.len() == 1);
     assert_eq!(rt; bench.guests[0].returned().len(), 6);
     Ok(())
 }
@@ -205,7 +205,7 @@ fn a_refused_attach_on_a_packed_ring_is_told(rt: HostRuntime) -> Result<(), Fail
     );
     assert!(rt; status == Status::DeviceFault(0));
     assert!(rt; sink.held().is_empty());
-    assert_eq!(rt; bench.devices.len(), 1);
+    assert!(rt; bench.guests.len() == 1 && bench.devices.len() == 1);
     let journal = bench.devices[0].journal();
     assert_eq!(rt; journal.events.len(), 2);
     assert_eq!(rt; journal.begun.len(), 2);
