@@ -1,6 +1,7 @@
 #!/bin/sh
 # Times `vdpa play` on machine files with many chains, beside a plain Rust program that moves as many chains over the same
-# words, one access a step (baseline.rs, rows `stepped plain split` and `packed`). Medians of five runs, interleaved. It tests nothing.
+# words (baseline.rs: `stepped plain split`, one access a step, and `play plain packed`, a whole operation a call). Medians
+# of five runs, interleaved. It tests nothing.
 #
 # usage: bench/play.sh        (after `rt run` or `rt ci` has left the proved program)
 set -eu
@@ -30,6 +31,8 @@ echo "# $(uname -m), $(grep -m 1 'model name' /proc/cpuinfo | cut -d: -f2-), loa
 for row in "split texts 149780" "split count 50000" "split count 200000" "packed count 50000" "packed count 200000"; do
     set -- $row
     layout=$1 kind=$2 chains=$3
+    way=stepped
+    [ "$layout" = packed ] && way=play
     "write_$kind" "$chains" "$layout" >"$work/file"
     : >"$work/play"
     : >"$work/base"
@@ -38,7 +41,7 @@ for row in "split texts 149780" "split count 50000" "split count 200000" "packed
         "$program" play <"$work/file" >/dev/null
         to=$(now)
         echo $(((to - from) / chains)) >>"$work/play"
-        "$work/baseline" stepped plain "$layout" journal=1 chains="$chains" runs=1 window=16 size=256 |
+        "$work/baseline" "$way" plain "$layout" journal=1 chains="$chains" runs=1 window=16 size=256 |
             sed -n 's/.*(\([0-9.]*\) ns a chain.*/\1/p' >>"$work/base"
     done
     bytes=$(wc -c <"$work/file")

@@ -1,7 +1,8 @@
 #!/bin/sh
 # Times chains through a split and a packed ring, by whole operations of both ends, beside a plain Rust program that makes
-# the same accesses one a step (baseline.rs, rows `stepped plain split` and `packed`, which have chains of one piece alone). 200,000 chains a run,
-# medians of five runs, interleaved, less the median of an empty run. Builds the program first. It tests nothing.
+# the same accesses (baseline.rs: `stepped plain split`, one access a step, and `play plain packed`, a whole operation a call;
+# both have chains of one piece alone). 200,000 chains a run, medians of five runs, interleaved, less the median of an empty
+# run. Builds the program first. It tests nothing.
 # usage: bench/ring.sh
 set -eu
 cd "$(dirname "$0")"
@@ -28,6 +29,8 @@ echo "# $(uname -m), $(grep -m 1 'model name' /proc/cpuinfo | cut -d: -f2-), loa
 for row in "split 4 1" "split 256 16" "split 1024 16" "packed 4 1" "packed 256 16" "packed 1024 16"; do
     set -- $row
     layout=$1 size=$2 window=$3
+    way=stepped
+    [ "$layout" = packed ] && way=play
     for most in 1 3; do
         : >"$work/empty"
         : >"$work/ring"
@@ -35,7 +38,7 @@ for row in "split 4 1" "split 256 16" "split 1024 16" "packed 4 1" "packed 256 1
         for round in 1 2 3 4 5; do
             time_of "$layout" "$size" 0 "$most" >>"$work/empty"
             time_of "$layout" "$size" $((chains / window)) "$most" >>"$work/ring"
-            "$work/baseline" stepped plain "$layout" journal=0 chains="$chains" runs=1 window="$window" size="$size" |
+            "$work/baseline" "$way" plain "$layout" journal=0 chains="$chains" runs=1 window="$window" size="$size" |
                 sed -n 's/.*(\([0-9.]*\) ns a chain.*/\1/p' >>"$work/base"
         done
         spent=$(($(median <"$work/ring") - $(median <"$work/empty")))
