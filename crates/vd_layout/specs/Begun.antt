@@ -7,6 +7,9 @@ pub data DriverOp : Type 0 where
   idle : DriverOp
   offer : List Piece → DriverOp
   collect : DriverOp
+  arm : DriverOp
+  hear : DriverOp
+  disarm : DriverOp
   signal : DriverOp
 
 -- of a device's end; a give has the chain's number and the length in bytes
@@ -15,6 +18,9 @@ pub data DeviceOp : Type 0 where
   take : DeviceOp
   give : ℕ → ℕ → DeviceOp
   rest : DeviceOp
+  arm : DeviceOp
+  hear : DeviceOp
+  disarm : DeviceOp
   signal : DeviceOp
 
 -- after a publishing store the end is idle, or goes on with its check and bell
@@ -23,6 +29,19 @@ DriverPublished b = (b ≡ DriverOp.idle) ⊎ (b ≡ DriverOp.signal)
 
 abbrev pub DevicePublished : DeviceOp → Type 0
 DevicePublished b = (b ≡ DeviceOp.idle) ⊎ (b ≡ DeviceOp.signal)
+
+-- an operation that may end with Awake
+abbrev pub MayWake : DriverOp → Type 0
+MayWake DriverOp.arm = Unit {0}
+MayWake DriverOp.hear = Unit {0}
+MayWake DriverOp.disarm = Unit {0}
+MayWake _ = ⊥
+
+abbrev pub DeviceMayWake : DeviceOp → Type 0
+DeviceMayWake DeviceOp.arm = Unit {0}
+DeviceMayWake DeviceOp.hear = Unit {0}
+DeviceMayWake DeviceOp.disarm = Unit {0}
+DeviceMayWake _ = ⊥
 
 -- the operation after an access that ends none but a signal
 abbrev pub DriverGoesOn : DriverOp → DriverOp → Type 0

@@ -1,5 +1,5 @@
 -- What a device's end is, as one record, and what one step of it is.
-use Rattle.std.specs.Prelude.{◌≡◌, ◌≢◌, ◌⊎◌, ℕ, ◌+◌, ◌<◌, ◌≤◌, Bool, true, false, List, [], ◌∷◌, length, None, if◌then◌else◌, nat_lt}
+use Rattle.std.specs.Prelude.{◌≡◌, ◌≢◌, ◌⊎◌, ℕ, ◌+◌, ◌<◌, ◌≤◌, Bool, true, false, List, [], ◌∷◌, length, None, if◌then◌else◌, nat_lt, Some}
 use Rattle.std.specs.List.{Contains}
 use Rattle.vd_model.specs.declared.chain.Piece.{Piece}
 use Rattle.vd_model.specs.declared.features.Features.{Features}
@@ -23,7 +23,7 @@ use Rattle.vd_ring.specs.Control.{IsControlChain}
 use Rattle.vd_ring.specs.ControlLaws.{DeviceControls, HasOwnHead}
 use Rattle.vd_layout.specs.Control.{ControlWords}
 use Rattle.vd_layout.specs.Pairs.{WereGiven}
-use Rattle.vd_layout.specs.Begun.{DeviceOp, DevicePublished, DeviceGoesOn}
+use Rattle.vd_layout.specs.Begun.{DeviceOp, DevicePublished, DeviceGoesOn, DeviceMayWake}
 
 -- the chain runs, and may be given next
 pub record MayGive (f : Frame) (s : List DeviceDone) (k : ℕ) : Type 0 where
@@ -57,6 +57,7 @@ pub record DeviceModel (E : Type 0) : Type 1 where
   pub act : DeviceView → Op → Access → ℕ → DeviceAct
   pub stands : E → DeviceView → Type 0
   pub begun : E → DeviceOp
+  pub armed : E → Bool
   pub left : E → ℕ
   pub size : E → ℕ
   pub features : E → Features
@@ -74,7 +75,9 @@ DeviceSays words act.Nothing b b' f s s' = (b ≡ DeviceOp.take) × (b' ≡ Devi
 DeviceSays words (act.Taken k c) b b' f s s' = (h : ℕ) × (b ≡ DeviceOp.take) × (b' ≡ DeviceOp.idle) × (k ≡ length (takes s)) × (s' ≡ Take c h ∷ s) × IsTaken words f s c h
 DeviceSays words (act.Given k) b b' f s s' = (n : ℕ) × (us : List Used) × (b ≡ DeviceOp.give k n) × DevicePublished b' × (s' ≡ Give us ∷ s) × WereGiven f s us k n
 DeviceSays words act.Rested b b' f s s' = (b ≡ DeviceOp.rest) × (b' ≡ DeviceOp.idle) × (s' ≡ Rest ∷ s) × IsWhole s
-DeviceSays words _ b b' f s s' = ⊥
+DeviceSays words act.Armed b b' f s s' = (b ≡ DeviceOp.arm) × (b' ≡ DeviceOp.idle) × (s' ≡ s)
+DeviceSays words act.Awake b b' f s s' = DeviceMayWake b × (b' ≡ DeviceOp.idle) × (s' ≡ s)
+DeviceSays words act.Asleep b b' f s s' = (b ≡ DeviceOp.hear) × (b' ≡ DeviceOp.idle) × (s' ≡ s)
 
 abbrev pub is_rested : DeviceAct → Bool
 is_rested act.Rested = true
@@ -108,7 +111,11 @@ pub record IsLawfulDevice {E : Type 0} (m : DeviceModel E) : Type 0 where
   pub still : (e : E) → IsStill m e → m.begun e ≡ DeviceOp.idle
   pub whole : (e : E) (v : DeviceView) → m.stands e v → IsStill m e → (running v.done ≡ []) × (length (takes v.done) ≡ length (gives v.done)) × IsWhole v.done
   pub based : (e : E) (v : DeviceView) → m.stands e v → IsStill m e → m.base e ≡ m.base_of v.frame (takes v.done)
-  -- it is not armed
+  -- whether it is armed is what its side knows
+  pub armed : (e : E) (v : DeviceView) → m.stands e v → m.armed e ≡ true → (t : ℕ) × (v.armed ≡ Some t)
+  pub not_armed : (e : E) (v : DeviceView) → m.stands e v → m.armed e ≡ false → v.armed ≡ None
+  -- a still end is not armed
+  pub unarmed_still : (e : E) (v : DeviceView) → m.stands e v → IsStill m e → m.armed e ≡ false
   pub unarmed : (e : E) (v : DeviceView) → m.stands e v → IsStill m e → v.armed ≡ None
   -- from a fresh end nothing was taken
   pub unused : (e : E) (v : DeviceView) → m.stands e v → m.fresh e ≡ true → takes v.done ≡ []

@@ -6,7 +6,7 @@ use Rattle.vd_ring.specs.declared.act.DeviceAct.TheVariants as act
 use Rattle.vd_ring.specs.declared.device.DeviceDone.{DeviceDone}
 use Rattle.vd_ring.specs.declared.device.DeviceView.{DeviceView}
 use Rattle.vd_ring.specs.declared.frame.Frame.{Frame}
-use Rattle.vd_layout.specs.Begun.{DeviceOp, DevicePublished, DeviceGoesOn}
+use Rattle.vd_layout.specs.Begun.{DeviceOp, DevicePublished, DeviceGoesOn, DeviceMayWake}
 use Rattle.vd_layout.specs.Control.{ControlWords}
 use Rattle.vd_layout.specs.Device.{DeviceModel, DeviceSays, IsDeviceStep, IsLawfulDevice, is_rested}
 use Rattle.vd_layout.specs.Run.{Made, IsRun, IsToldAt}
@@ -16,6 +16,9 @@ abbrev pub IsDeviceWork : DeviceOp → Type 0
 IsDeviceWork DeviceOp.take = Unit {0}
 IsDeviceWork (DeviceOp.give k n) = Unit {0}
 IsDeviceWork DeviceOp.rest = Unit {0}
+IsDeviceWork DeviceOp.arm = Unit {0}
+IsDeviceWork DeviceOp.hear = Unit {0}
+IsDeviceWork DeviceOp.disarm = Unit {0}
 IsDeviceWork _ = ⊥
 
 -- the answer that the steps so far have told: the last one that isn't Moved
@@ -61,15 +64,18 @@ said : (words : ControlWords) (x : DeviceAct) (b b' : DeviceOp) (f : Frame) (s s
 said words act.Moved DeviceOp.take b' f s s' r w h e = inl (refl, h.0, h.1)
 said words act.Moved (DeviceOp.give k n) b' f s s' r w h e = inl (refl, h.0, h.1)
 said words act.Moved DeviceOp.rest b' f s s' r w h e = inl (refl, h.0, h.1)
+said words act.Moved DeviceOp.arm b' f s s' r w h e = inl (refl, h.0, h.1)
+said words act.Moved DeviceOp.hear b' f s s' r w h e = inl (refl, h.0, h.1)
+said words act.Moved DeviceOp.disarm b' f s s' r w h e = inl (refl, h.0, h.1)
 said words act.Moved DeviceOp.idle b' f s s' r w h e = absurd w
 said words act.Moved DeviceOp.signal b' f s s' r w h e = absurd w
 said words act.Nothing b b' f s s' r w h e = inr (λ z. cc, inl (h.1, e), (h.0, refl, h.2))
 said words (act.Taken k c) b b' f s s' r w h e = inr (λ z. cc, inl (h.2, e), (h.0, h.1, refl, h.3, h.4, h.5))
 said words (act.Given k) b b' f s s' r w h e = inr (λ z. cc, elim h.3 as (λ _. DeviceToldStage (act.Given k) b' r) [ inl i ↦ inl (i, e) | inr i ↦ inr (i, refl) ], (h.0, h.1, h.2, inl refl, h.4, h.5))
 said words act.Rested b b' f s s' r w h e = inr (λ z. cc, inl (h.1, e), (h.0, refl, h.2, h.3))
-said words act.Armed b b' f s s' r w h e = absurd h
-said words act.Awake b b' f s s' r w h e = absurd h
-said words act.Asleep b b' f s s' r w h e = absurd h
+said words act.Armed b b' f s s' r w h e = inr (λ z. cc, inl (h.1, e), (h.0, refl, h.2))
+said words act.Awake b b' f s s' r w h e = inr (λ z. cc, inl (h.1, e), (h.0, refl, h.2))
+said words act.Asleep b b' f s s' r w h e = inr (λ z. cc, inl (h.1, e), (h.0, refl, h.2))
 
 -- once it was told only a signal is made
 signalled : (words : ControlWords) (x : DeviceAct) (b b' : DeviceOp) (f : Frame) (s s' : List DeviceDone) → b ≡ DeviceOp.signal → DeviceSays words x b b' f s s' → (x ≡ act.Moved) × DevicePublished b' × (s' ≡ s)
@@ -78,9 +84,9 @@ signalled words act.Nothing b b' f s s' is h = absurd (cc (is, h.0))
 signalled words (act.Taken k c) b b' f s s' is h = absurd (cc (is, h.1))
 signalled words (act.Given k) b b' f s s' is h = absurd (cc (is, h.2))
 signalled words act.Rested b b' f s s' is h = absurd (cc (is, h.0))
-signalled words act.Armed b b' f s s' is h = absurd h
-signalled words act.Awake b b' f s s' is h = absurd h
-signalled words act.Asleep b b' f s s' is h = absurd h
+signalled words act.Armed b b' f s s' is h = absurd (cc (is, h.0))
+signalled words act.Awake b b' f s s' is h = absurd (subst (λ y. DeviceMayWake y) is h.0)
+signalled words act.Asleep b b' f s s' is h = absurd (cc (is, h.0))
 
 told_first : (x y : DeviceAct) → x ≡ act.Moved → y ≢ act.Moved → device_told x y ≡ y
 told_first x act.Moved is ne = absurd (ne refl)
@@ -152,6 +158,9 @@ device_ends port m p q v e e' answer work g idle = elim g.phase [
     no DeviceOp.take w is = cc is
     no (DeviceOp.give k n) w is = cc is
     no DeviceOp.rest w is = cc is
+    no DeviceOp.arm w is = cc is
+    no DeviceOp.hear w is = cc is
+    no DeviceOp.disarm w is = cc is
     no DeviceOp.idle w is = w
     no DeviceOp.signal w is = w
 

@@ -1,5 +1,5 @@
 -- What a driver's end is, as one record, and what one step of it is.
-use Rattle.std.specs.Prelude.{◌≡◌, ℕ, ◌+◌, ◌<◌, ◌≤◌, true, List, ◌∷◌, length}
+use Rattle.std.specs.Prelude.{◌≡◌, ℕ, ◌+◌, ◌<◌, ◌≤◌, Bool, true, false, Some, None, List, ◌∷◌, length}
 use Rattle.vd_model.specs.declared.chain.Piece.{Piece}
 use Rattle.vd_model.specs.declared.features.Features.{Features}
 use Rattle.vd_words.specs.declared.access.Access.{Access}
@@ -23,7 +23,7 @@ use Rattle.vd_ring.specs.ControlLaws.{DriverControls}
 use Rattle.vd_ring.specs.Places.{Places}
 use Rattle.vd_layout.specs.Control.{ControlWords}
 use Rattle.vd_layout.specs.Pairs.{WereCollected}
-use Rattle.vd_layout.specs.Begun.{DriverOp, DriverPublished, DriverGoesOn}
+use Rattle.vd_layout.specs.Begun.{DriverOp, DriverPublished, DriverGoesOn, MayWake}
 
 -- there are as many free places as the chain needs
 abbrev pub HasRoom : Frame → List DriverDone → List Piece → Type 0
@@ -36,13 +36,14 @@ pub record MayOffer (words : ControlWords) (v : DriverView) (c : List Piece) : T
   pub limited : length (offers v.done) < limit v.frame
   pub control : v.frame.control ≡ true → IsControlChain (words.command v.frame (next_head v.frame v.done)) (words.ack v.frame (next_head v.frame v.done)) c
 
--- a driver's end: what its side may do, what its steps answer, for which views it stands, the operation that it has begun, a
--- bound of the steps that this still takes, what it was made with, and where its layout keeps commands and acks
+-- a driver's end: what its side may do, what its steps answer, for which views it stands, the operation that it has begun, whether it
+-- is armed, a bound of the steps that this still takes, what it was made with, and where its layout keeps commands and acks
 pub record DriverModel (E : Type 0) : Type 1 where
   pub side : SideModel DriverView
   pub act : DriverView → Op → Access → ℕ → DriverAct
   pub stands : E → DriverView → Type 0
   pub begun : E → DriverOp
+  pub armed : E → Bool
   pub left : E → ℕ
   pub size : E → ℕ
   pub features : E → Features
@@ -54,7 +55,9 @@ DriverSays act.Moved b b' f o o' = DriverGoesOn b b' × (o' ≡ o)
 DriverSays act.Nothing b b' f o o' = (b ≡ DriverOp.collect) × (b' ≡ DriverOp.idle) × (o' ≡ o)
 DriverSays (act.Offered k) b b' f o o' = (c : List Piece) × (b ≡ DriverOp.offer c) × DriverPublished b' × (k ≡ length (offers o)) × (o' ≡ Offer c ∷ o)
 DriverSays (act.Collected k n h) b b' f o o' = (us : List Used) × (b ≡ DriverOp.collect) × (b' ≡ DriverOp.idle) × (o' ≡ Collect us ∷ o) × WereCollected f o us k n × (h ≡ head f o k)
-DriverSays _ b b' f o o' = ⊥
+DriverSays act.Armed b b' f o o' = (b ≡ DriverOp.arm) × (b' ≡ DriverOp.idle) × (o' ≡ o)
+DriverSays act.Awake b b' f o o' = MayWake b × (b' ≡ DriverOp.idle) × (o' ≡ o)
+DriverSays act.Asleep b b' f o o' = (b ≡ DriverOp.hear) × (b' ≡ DriverOp.idle) × (o' ≡ o)
 
 -- one access of the port was made, which was next in the view; the end stands for the view after it, answers by it, and is
 -- nearer the operation's end
@@ -73,6 +76,9 @@ pub record IsLawfulDriver {E : Type 0} (m : DriverModel E) : Type 0 where
   pub sized : (e : E) (v : DriverView) → m.stands e v → (m.size e ≡ v.frame.size) × (m.features e ≡ v.frame.features)
   -- an idle end has no operation in progress
   pub at_rest : (e : E) (v : DriverView) → m.stands e v → m.begun e ≡ DriverOp.idle → v.doing ≡ now.Idle
+  -- whether it is armed is what its side knows
+  pub armed : (e : E) (v : DriverView) → m.stands e v → m.armed e ≡ true → (s : ℕ) × (v.armed ≡ Some s)
+  pub unarmed : (e : E) (v : DriverView) → m.stands e v → m.armed e ≡ false → v.armed ≡ None
   -- an end with no step left is idle
   pub ends : (e : E) → m.left e ≡ 0 → m.begun e ≡ DriverOp.idle
   -- after a control access of its holder the end stands for the view after it

@@ -6,7 +6,7 @@ use Rattle.vd_ring.specs.declared.act.DriverAct.TheVariants as driver_act
 use Rattle.vd_ring.specs.declared.driver.DriverDone.{DriverDone}
 use Rattle.vd_ring.specs.declared.driver.DriverView.{DriverView}
 use Rattle.vd_ring.specs.declared.frame.Frame.{Frame}
-use Rattle.vd_layout.specs.Begun.{DriverOp, DriverPublished, DriverGoesOn}
+use Rattle.vd_layout.specs.Begun.{DriverOp, DriverPublished, DriverGoesOn, MayWake}
 use Rattle.vd_layout.specs.Driver.{DriverModel, DriverSays, IsDriverStep, IsLawfulDriver}
 use Rattle.vd_layout.specs.Run.{Made, IsRun, IsToldAt}
 
@@ -14,6 +14,9 @@ use Rattle.vd_layout.specs.Run.{Made, IsRun, IsToldAt}
 abbrev pub IsDriverWork : DriverOp → Type 0
 IsDriverWork (DriverOp.offer c) = Unit {0}
 IsDriverWork DriverOp.collect = Unit {0}
+IsDriverWork DriverOp.arm = Unit {0}
+IsDriverWork DriverOp.hear = Unit {0}
+IsDriverWork DriverOp.disarm = Unit {0}
 IsDriverWork _ = ⊥
 
 -- the answer that the steps so far have told: the last one that isn't Moved
@@ -53,14 +56,17 @@ said : (x : DriverAct) (b b' : DriverOp) (f : Frame) (o o' : List DriverDone) �
     → ((x ≡ driver_act.Moved) × (b' ≡ b) × (o' ≡ o)) ⊎ ((x ≢ driver_act.Moved) × DriverPublished b' × DriverSays x b DriverOp.idle f o o')
 said driver_act.Moved (DriverOp.offer c) b' f o o' w s = inl (refl, s.0, s.1)
 said driver_act.Moved DriverOp.collect b' f o o' w s = inl (refl, s.0, s.1)
+said driver_act.Moved DriverOp.arm b' f o o' w s = inl (refl, s.0, s.1)
+said driver_act.Moved DriverOp.hear b' f o o' w s = inl (refl, s.0, s.1)
+said driver_act.Moved DriverOp.disarm b' f o o' w s = inl (refl, s.0, s.1)
 said driver_act.Moved DriverOp.idle b' f o o' w s = absurd w
 said driver_act.Moved DriverOp.signal b' f o o' w s = absurd w
 said driver_act.Nothing b b' f o o' w s = inr (λ e. cc, inl s.1, (s.0, refl, s.2))
 said (driver_act.Offered k) b b' f o o' w s = inr (λ e. cc, s.2, (s.0, s.1, inl refl, s.3, s.4))
 said (driver_act.Collected k n h) b b' f o o' w s = inr (λ e. cc, inl s.2, (s.0, s.1, refl, s.3, s.4, s.5))
-said driver_act.Armed b b' f o o' w s = absurd s
-said driver_act.Awake b b' f o o' w s = absurd s
-said driver_act.Asleep b b' f o o' w s = absurd s
+said driver_act.Armed b b' f o o' w s = inr (λ e. cc, inl s.1, (s.0, refl, s.2))
+said driver_act.Awake b b' f o o' w s = inr (λ e. cc, inl s.1, (s.0, refl, s.2))
+said driver_act.Asleep b b' f o o' w s = inr (λ e. cc, inl s.1, (s.0, refl, s.2))
 
 -- once it was told only a signal is made
 signalled : (x : DriverAct) (b b' : DriverOp) (f : Frame) (o o' : List DriverDone) → b ≡ DriverOp.signal → DriverSays x b b' f o o' → (x ≡ driver_act.Moved) × DriverPublished b' × (o' ≡ o)
@@ -68,9 +74,9 @@ signalled driver_act.Moved b b' f o o' is s = (refl, subst (λ y. DriverGoesOn y
 signalled driver_act.Nothing b b' f o o' is s = absurd (cc (is, s.0))
 signalled (driver_act.Offered k) b b' f o o' is s = absurd (cc (is, s.1))
 signalled (driver_act.Collected k n h) b b' f o o' is s = absurd (cc (is, s.1))
-signalled driver_act.Armed b b' f o o' is s = absurd s
-signalled driver_act.Awake b b' f o o' is s = absurd s
-signalled driver_act.Asleep b b' f o o' is s = absurd s
+signalled driver_act.Armed b b' f o o' is s = absurd (cc (is, s.0))
+signalled driver_act.Awake b b' f o o' is s = absurd (subst (λ y. MayWake y) is s.0)
+signalled driver_act.Asleep b b' f o o' is s = absurd (cc (is, s.0))
 
 told_first : (x y : DriverAct) → x ≡ driver_act.Moved → y ≢ driver_act.Moved → driver_told x y ≡ y
 told_first x driver_act.Moved is ne = absurd (ne refl)
@@ -129,5 +135,8 @@ driver_ends port m p q v e e' answer work g idle = elim g.phase [
     no : (b : DriverOp) → IsDriverWork b → b ≡ DriverOp.idle → ⊥
     no (DriverOp.offer c) w is = cc is
     no DriverOp.collect w is = cc is
+    no DriverOp.arm w is = cc is
+    no DriverOp.hear w is = cc is
+    no DriverOp.disarm w is = cc is
     no DriverOp.idle w is = w
     no DriverOp.signal w is = w

@@ -1,5 +1,5 @@
 -- What a layout of a ring is, as one record, and its laws.
-use Rattle.std.specs.Prelude.{◌≡◌, ℕ, ◌<◌, ◌≤◌, Bool, true, false, List, [], ◌∷◌, length, replicate, None}
+use Rattle.std.specs.Prelude.{◌≡◌, ℕ, ◌+◌, ◌<◌, ◌≤◌, Bool, true, false, List, [], ◌∷◌, length, replicate, None}
 use Rattle.vd_model.specs.declared.chain.Piece.{Piece}
 use Rattle.vd_model.specs.declared.features.Features.{Features}
 use Rattle.vd_words.specs.declared.access.Access.{Access}
@@ -21,6 +21,7 @@ use Rattle.vd_ring.specs.History.{offers, collects, takes, gives}
 use Rattle.vd_ring.specs.ControlLaws.{ControlStands}
 use Rattle.vd_ring.specs.Lists.{Lists, Rested}
 use Rattle.vd_ring.specs.Places.{Places}
+use Rattle.vd_ring.specs.Sleep.{RingSignals, DriverWaits, DeviceWaits, driver_hearings, device_hearings, driver_woken, device_woken}
 use Rattle.vd_ring.specs.Steps.{Keeps, StandsFor, DriverBagStep, DeviceBagStep}
 use Rattle.vd_layout.specs.Control.{ControlWords}
 use Rattle.vd_layout.specs.Begun.{DriverOp, DeviceOp}
@@ -51,11 +52,10 @@ pub record IsMadeWith (l : LayoutModel) (n : ℕ) (f : Features) (c : Bool) (g :
   pub features : g.features ≡ f
   pub control : g.control ≡ c
 
--- what a ring is made with today: neither tables nor the event index
+-- what a ring is made with today: no tables
 pub record CanMake (l : LayoutModel) (size : ℕ) (f : Features) : Type 0 where
   pub lawful : l.lawful_size size ≡ true
   pub direct : f.indirect ≡ false
-  pub flagged : f.event_idx ≡ false
 
 -- both ends of a fresh ring
 pub record IsFresh {D E : Type 0} (d : DriverModel D) (e : DeviceModel E) (l : LayoutModel) (size : ℕ) (f : Features) (control : Bool) (x : D) (y : E) : Type 0 where
@@ -67,7 +67,7 @@ pub record IsFresh {D E : Type 0} (d : DriverModel D) (e : DeviceModel E) (l : L
   pub device_sized : (e.size y ≡ size) × (e.features y ≡ f)
   pub awake : e.resting y ≡ false
   pub unused : e.fresh y ≡ true
-  pub driver_unarmed : (v : DriverView) → d.stands x v → v.armed ≡ None
+  pub driver_unarmed : d.armed x ≡ false
 
 -- what a device's answer is to the bag; the entries are those of the give that Given made
 pub record DeviceBags (in_order : Bool) (answer : DeviceAct) (o : List DriverDone) (s s' : List DeviceDone) (b : List State) : Type 0 where
@@ -100,6 +100,13 @@ pub record IsLawfulLayout {D E : Type 0} (d : DriverModel D) (e : DeviceModel E)
   -- where a look shows nothing, all that was offered is taken, and all that was given is collected
   pub driver_nothing : (ws : List ℕ) (v : DriverView) (w : DeviceView) (op : Op) (a : Access) → l.ring ws v w → d.side.next v op a → d.act v op a (answered ws a) ≡ driver_act.Nothing → collects v.done ≡ gives w.done
   pub device_nothing : (ws : List ℕ) (v : DriverView) (w : DeviceView) (op : Op) (a : Access) → l.ring ws v w → e.side.next w op a → e.act w op a (answered ws a) ≡ device_act.Nothing → takes w.done ≡ offers v.done
+  -- bells: what holds between each side that publishes and the other; a sleeper that answers Asleep has no signal, and has changed
+  -- nothing; a hearing that ends with Awake has heard a bell more
+  pub signals : (ws : List ℕ) (v : DriverView) (w : DeviceView) → l.ring ws v w → RingSignals v w
+  pub driver_asleep : (ws : List ℕ) (v : DriverView) (w : DeviceView) (op : Op) (a : Access) → l.ring ws v w → d.side.next v op a → d.act v op a (answered ws a) ≡ driver_act.Asleep → (d.side.after v op a (answered ws a) ≡ v) × DriverWaits v w
+  pub device_asleep : (ws : List ℕ) (v : DriverView) (w : DeviceView) (op : Op) (a : Access) → l.ring ws v w → e.side.next w op a → e.act w op a (answered ws a) ≡ device_act.Asleep → (e.side.after w op a (answered ws a) ≡ w) × DeviceWaits v w
+  pub driver_hears : (ws : List ℕ) (v : DriverView) (w : DeviceView) (op : Op) (a : Access) → l.ring ws v w → d.side.next v op a → driver_hearings v + driver_woken op (d.act v op a (answered ws a)) ≤ driver_hearings (d.side.after v op a (answered ws a))
+  pub device_hears : (ws : List ℕ) (v : DriverView) (w : DeviceView) (op : Op) (a : Access) → l.ring ws v w → e.side.next w op a → device_hearings w + device_woken op (e.act w op a (answered ws a)) ≤ device_hearings (e.side.after w op a (answered ws a))
   -- after an offer the words spell the chain; after a give the used entry stands
   pub spells : (ws : List ℕ) (v : DriverView) (w : DeviceView) (op : Op) (a : Access) (k : ℕ) → l.ring ws v w → d.side.next v op a → d.act v op a (answered ws a) ≡ driver_act.Offered k → l.spells_last v.frame (written ws a) (d.side.after v op a (answered ws a)).done
   pub uses : (ws : List ℕ) (v : DriverView) (w : DeviceView) (op : Op) (a : Access) (k : ℕ) → l.ring ws v w → e.side.next w op a → e.act w op a (answered ws a) ≡ device_act.Given k → l.has_last_used v.frame (written ws a) (e.side.after w op a (answered ws a)).done

@@ -1,5 +1,5 @@
 //! The device's end of a ring.
-ghost use Rattle.std.specs.Prelude.{◌≡◌, ◌<◌, ◌≤◌, ◌-◌, ◌↔◌, IsTrue, IsOk, OnOk, IfErr, length, false};
+ghost use Rattle.std.specs.Prelude.{◌≡◌, ◌<◌, ◌≤◌, ◌-◌, ◌↔◌, IsTrue, IsOk, OnOk, IfErr, length, true, false};
 ghost use Rattle.std.specs.List.{Contains};
 ghost use Rattle.vd_ring.specs.declared.device.DeviceView.{DeviceView};
 ghost use Rattle.vd_ring.specs.History.{takes, gives, running, IsWhole};
@@ -37,6 +37,10 @@ pub trait DeviceEnd: Send + Drop {
     fn idle(&self) -> bool
         ensures { IsTrue result ↔ (device.begun self.now ≡ DeviceOp.idle) };
 
+    /// Whether the end is armed.
+    fn armed(&self) -> bool
+        ensures { result ≡ device.armed self.now };
+
     /// How many chains were taken.
     fn taken(&self) -> u32
         ensures { (w : DeviceView) → device.stands self.now w → result ≡ length (takes w.done) };
@@ -60,6 +64,7 @@ pub trait DeviceEnd: Send + Drop {
     /// Begins a take of the next chain.
     fn begin_take(&mut self)
         requires idle { device.begun self.old ≡ DeviceOp.idle }
+        requires unarmed { device.armed self.old ≡ false }
         requires awake { device.resting self.old ≡ false }
         ensures begun { device.begun self.new ≡ DeviceOp.take }
         ensures awake { device.resting self.new ≡ false }
@@ -69,12 +74,43 @@ pub trait DeviceEnd: Send + Drop {
     /// Begins the give of chain number `k` with a length in bytes.
     fn begin_give(&mut self, k: u32, len: u32)
         requires idle { device.begun self.old ≡ DeviceOp.idle }
+        requires unarmed { device.armed self.old ≡ false }
         requires awake { device.resting self.old ≡ false }
         requires may { (w : DeviceView) × device.stands self.old w × MayGive w.frame w.done k }
         ensures begun { device.begun self.new ≡ DeviceOp.give k len }
         ensures awake { device.resting self.new ≡ false }
         ensures stands { (w : DeviceView) → device.stands self.old w → device.stands self.new w }
         ensures left { device.left self.new ≤ 5 };
+
+    /// Begins an arming: the event word is stored, and the end looks again.
+    fn begin_arm(&mut self)
+        requires idle { device.begun self.old ≡ DeviceOp.idle }
+        requires awake { device.resting self.old ≡ false }
+        requires unarmed { device.armed self.old ≡ false }
+        ensures begun { device.begun self.new ≡ DeviceOp.arm }
+        ensures awake { device.resting self.new ≡ false }
+        ensures stands { (w : DeviceView) → device.stands self.old w → device.stands self.new w }
+        ensures left { device.left self.new ≤ 3 };
+
+    /// Begins a hearing of the driver's bell.
+    fn begin_hear(&mut self)
+        requires idle { device.begun self.old ≡ DeviceOp.idle }
+        requires awake { device.resting self.old ≡ false }
+        requires armed { device.armed self.old ≡ true }
+        ensures begun { device.begun self.new ≡ DeviceOp.hear }
+        ensures awake { device.resting self.new ≡ false }
+        ensures stands { (w : DeviceView) → device.stands self.old w → device.stands self.new w }
+        ensures left { device.left self.new ≤ 2 };
+
+    /// Begins a disarming, of one access.
+    fn begin_disarm(&mut self)
+        requires idle { device.begun self.old ≡ DeviceOp.idle }
+        requires awake { device.resting self.old ≡ false }
+        requires armed { device.armed self.old ≡ true }
+        ensures begun { device.begun self.new ≡ DeviceOp.disarm }
+        ensures awake { device.resting self.new ≡ false }
+        ensures stands { (w : DeviceView) → device.stands self.old w → device.stands self.new w }
+        ensures left { device.left self.new ≤ 1 };
 
     /// Begins a rest. After it the chains taken and not given are offered still.
     fn begin_rest(&mut self)

@@ -1,5 +1,5 @@
 //! The driver's end of a ring.
-ghost use Rattle.std.specs.Prelude.{◌≡◌, ◌<◌, ◌≤◌, ◌↔◌, IsTrue, length};
+ghost use Rattle.std.specs.Prelude.{◌≡◌, ◌<◌, ◌≤◌, ◌↔◌, IsTrue, true, false, length};
 ghost use Rattle.vd_ring.specs.declared.driver.DriverView.{DriverView};
 ghost use Rattle.vd_ring.specs.History.{offers, collects, free, next_head};
 ghost use Rattle.vd_words.specs.Own.{IsOwn};
@@ -27,6 +27,10 @@ pub trait DriverEnd: Send + Drop {
     fn idle(&self) -> bool
         ensures { IsTrue result ↔ (driver.begun self.now ≡ DriverOp.idle) };
 
+    /// Whether the end is armed.
+    fn armed(&self) -> bool
+        ensures { result ≡ driver.armed self.now };
+
     /// How many chains were offered.
     fn offered(&self) -> u32
         ensures { (v : DriverView) → driver.stands self.now v → result ≡ length (offers v.done) };
@@ -47,6 +51,7 @@ pub trait DriverEnd: Send + Drop {
     /// Begins the offer of a chain.
     fn begin_offer(&mut self, c: &Chain)
         requires idle { driver.begun self.old ≡ DriverOp.idle }
+        requires unarmed { driver.armed self.old ≡ false }
         requires may { (v : DriverView) × driver.stands self.old v × MayOffer driver.words v c.now }
         ensures begun { driver.begun self.new ≡ DriverOp.offer c.now }
         ensures stands { (v : DriverView) → driver.stands self.old v → MayOffer driver.words v c.now → driver.stands self.new v }
@@ -55,9 +60,34 @@ pub trait DriverEnd: Send + Drop {
     /// Begins a collect of the next used entry.
     fn begin_collect(&mut self)
         requires idle { driver.begun self.old ≡ DriverOp.idle }
+        requires unarmed { driver.armed self.old ≡ false }
         ensures begun { driver.begun self.new ≡ DriverOp.collect }
         ensures stands { (v : DriverView) → driver.stands self.old v → driver.stands self.new v }
         ensures left { driver.left self.new ≤ 3 };
+
+    /// Begins an arming: the event word is stored, and the end looks again.
+    fn begin_arm(&mut self)
+        requires idle { driver.begun self.old ≡ DriverOp.idle }
+        requires unarmed { driver.armed self.old ≡ false }
+        ensures begun { driver.begun self.new ≡ DriverOp.arm }
+        ensures stands { (v : DriverView) → driver.stands self.old v → driver.stands self.new v }
+        ensures left { driver.left self.new ≤ 3 };
+
+    /// Begins a hearing of the device's bell.
+    fn begin_hear(&mut self)
+        requires idle { driver.begun self.old ≡ DriverOp.idle }
+        requires armed { driver.armed self.old ≡ true }
+        ensures begun { driver.begun self.new ≡ DriverOp.hear }
+        ensures stands { (v : DriverView) → driver.stands self.old v → driver.stands self.new v }
+        ensures left { driver.left self.new ≤ 2 };
+
+    /// Begins a disarming, of one access.
+    fn begin_disarm(&mut self)
+        requires idle { driver.begun self.old ≡ DriverOp.idle }
+        requires armed { driver.armed self.old ≡ true }
+        ensures begun { driver.begun self.new ≡ DriverOp.disarm }
+        ensures stands { (v : DriverView) → driver.stands self.old v → driver.stands self.new v }
+        ensures left { driver.left self.new ≤ 1 };
 
     /// Makes one access of the operation in progress, on the end's own ring.
     fn step<P: Port>(&mut self, port: &mut P) -> DriverAct

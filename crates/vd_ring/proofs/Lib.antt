@@ -1,4 +1,5 @@
 pub mod Counts
+pub mod Quiet
 pub mod HeldPlaces
 pub mod HeldInside
 pub mod ListSteps

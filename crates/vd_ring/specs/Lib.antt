@@ -11,3 +11,5 @@ pub mod Steps
 pub mod Fresh
 pub mod DriverSteps
 pub mod DeviceSteps
+pub mod Signals
+pub mod Sleep

@@ -25,8 +25,8 @@ pub enum DeviceNow {
     Giving(LinkedList<u64>),
     /// Published: the range, its end not included, whose event word is loaded next.
     Checking(u64, u64),
-    /// The bell is stored next.
-    Ringing,
+    /// The check of this range said Ring: the bell is stored next.
+    Ringing(u64, u64),
     /// The event word is stored; the look is next.
     Arming,
     /// The disarming access of this operation, an arming or a hearing, is next.

@@ -1,7 +1,10 @@
 -- For which views the device's end of a split ring stands, and what it has begun.
-use Rattle.std.specs.Prelude.{◌≡◌, ℕ, ◌+◌, ◌-◌, ◌*◌, ◌%◌, ◌<◌, ◌≤◌, ◌&&◌, nat_eq, Bool, true, false, List, [], ◌∷◌, ◌++◌, length, Option, None, Some, if◌then◌else◌, nat_lt, slice_index_or}
+use Rattle.std.specs.Prelude.{◌≡◌, ℕ, ◌+◌, ◌-◌, ◌*◌, ◌%◌, ◌<◌, ◌≤◌, ◌&&◌, nat_eq, Bool, true, false, List, [], ◌∷◌, ◌++◌, length, Option, None, Some, if◌then◌else◌, nat_lt, slice_index_or, not}
 use Rattle.vd_bits.specs.Lanes.{lane32}
 use Rattle.vd_model.specs.declared.chain.Piece.{Piece}
+use Rattle.std.proofs.Common.{ap, ◌∙◌}
+use Rattle.vd_words.specs.declared.access.Op.{Op}
+use Rattle.vd_words.specs.declared.access.Op.TheVariants as op
 use Rattle.vd_ring.specs.declared.frame.Frame.{Frame}
 use Rattle.vd_ring.specs.declared.device.DeviceDone.{DeviceDone}
 use Rattle.vd_ring.specs.declared.device.DeviceNow.{DeviceNow}
@@ -9,7 +12,7 @@ use Rattle.vd_ring.specs.declared.device.DeviceNow.TheVariants as now
 use Rattle.vd_ring.specs.declared.device.DeviceView.{DeviceView}
 use Rattle.vd_ring.specs.Frames.{limit}
 use Rattle.vd_ring.specs.History.{takes, gives, heads, running, taken_head, numbers, occurs, IsWhole}
-use Rattle.vd_split_ring.specs.SplitWords.{used_from, width, pieces_of, linked}
+use Rattle.vd_split_ring.specs.SplitWords.{kick_at, used_from, width, pieces_of, linked}
 use Rattle.vd_split_ring.specs.SplitDevice.{loaded_head, IsNewHead, device_side, device_act}
 use Rattle.vd_layout.specs.Begun.{DeviceOp}
 use Rattle.vd_layout.specs.Device.{DeviceModel}
@@ -78,13 +81,46 @@ DeviceStepStands (step.Second r h p) ps a f s d = IsTaking f s ps r h p (a ∷ [
 DeviceStepStands (step.Name k h n) ps a f s d = (d ≡ now.Idle) × IsNext f s k h n
 DeviceStepStands (step.Measure k h n) ps a f s d = (x : ℕ) × (d ≡ now.Giving (x ∷ [])) × (lane32 x 1 ≡ h) × IsNext f s k h n
 DeviceStepStands (step.Publish k h n) ps a f s d = (x y : ℕ) × (d ≡ now.Giving (x ∷ y ∷ [])) × (lane32 x 1 ≡ h) × (lane32 y 0 ≡ n) × IsNext f s k h n
+DeviceStepStands (step.Check old new) ps a f s d = (d ≡ now.Checking old new) × (old < new) × (new - old ≤ 32768)
+DeviceStepStands (step.Ring old new) ps a f s d = d ≡ now.Ringing old new
+DeviceStepStands step.Arm ps a f s d = d ≡ now.Idle
+DeviceStepStands step.LookAgain ps a f s d = d ≡ now.Arming
+DeviceStepStands step.Hear ps a f s d = d ≡ now.Idle
+DeviceStepStands step.WakeArming ps a f s d = (d ≡ now.Disarming op.Arm) × (f.features.event_idx ≡ false)
+DeviceStepStands step.WakeHearing ps a f s d = (d ≡ now.Disarming op.Hear) × (f.features.event_idx ≡ false)
+DeviceStepStands step.Disarm ps a f s d = d ≡ now.Idle
 DeviceStepStands step.Rest ps a f s d = (d ≡ now.Idle) × IsWhole s
+DeviceStepStands step.RestLook ps a f s d = (d ≡ now.Resting) × IsWhole s
 
--- no event word is stored, and no bell rung or heard
-pub record IsSilent (v : DeviceView) : Type 0 where
-  pub unarmed : v.armed ≡ None
-  pub unheard : v.heard ≡ 0
-  pub unrung : v.bells ≡ 0
+-- in which steps the end is armed
+abbrev pub DeviceStepArmed : DeviceStep → Bool → Type 0
+DeviceStepArmed step.Idle armed = Unit {0}
+DeviceStepArmed step.Rest armed = Unit {0}
+DeviceStepArmed step.LookAgain armed = armed ≡ true
+DeviceStepArmed step.Hear armed = armed ≡ true
+DeviceStepArmed step.Disarm armed = armed ≡ true
+DeviceStepArmed _ armed = armed ≡ false
+
+-- 1 where a bell may still be stored
+abbrev pub device_owes : DeviceStep → ℕ
+device_owes (step.Check old new) = 1
+device_owes (step.Ring old new) = 1
+device_owes _ = 0
+
+-- a step that ends with the disarming store, and its operation
+abbrev pub Wakes : DeviceStep → Op → Type 0
+Wakes step.WakeArming o = o ≡ op.Arm
+Wakes step.WakeHearing o = o ≡ op.Hear
+Wakes step.Disarm o = o ≡ op.Disarm
+Wakes _ o = ⊥
+
+-- where it is armed, what it heard, and how many bells it stored: no more than ranges it published
+pub record DeviceSignals (armed : Bool) (heard bells given : ℕ) (doing : DeviceStep) (v : DeviceView) : Type 0 where
+  pub is_armed : v.armed ≡ (if armed then Some (length (takes v.done)) else None)
+  pub hears : heard ≡ v.heard
+  pub rings : bells ≡ v.bells
+  pub few : bells + device_owes doing ≤ given
+  pub awake : DeviceStepArmed doing armed
 
 pub record DeviceStands (e : SplitDevice) (v : DeviceView) : Type 0 where
   pub made : IsMadeFor e.size e.features v.frame
@@ -93,8 +129,16 @@ pub record DeviceStands (e : SplitDevice) (v : DeviceView) : Type 0 where
   pub area : Copies e.area.items (used_from v.frame) (v.frame.size + 1) v.stored
   pub wide : length v.stored ≡ width v.frame
   pub shown : e.shown ≡ v.shown
-  pub silent : IsSilent v
+  pub kick : e.kick ≡ kick_at v.frame
+  pub signals : DeviceSignals e.armed e.heard e.bells e.given e.doing v
   pub doing : DeviceStepStands e.doing e.pieces.items e.addr v.frame v.done v.doing
+
+-- an end that is not armed stands for views that are not
+pub not_armed : (e : SplitDevice) (v : DeviceView) → DeviceStands e v → e.armed ≡ false → v.armed ≡ None
+not_armed e v st off = st.signals.is_armed ∙ ap (λ (b : Bool). if b then Some (length (takes v.done)) else None) off
+
+pub is_armed : (e : SplitDevice) (v : DeviceView) → DeviceStands e v → e.armed ≡ true → v.armed ≡ Some (length (takes v.done))
+is_armed e v st on = st.signals.is_armed ∙ ap (λ (b : Bool). if b then Some (length (takes v.done)) else None) on
 
 -- ---- the operation that is begun, and the accesses that it still takes at most
 
@@ -108,7 +152,16 @@ device_begun (step.Second r h p) = DeviceOp.take
 device_begun (step.Name k h n) = DeviceOp.give k n
 device_begun (step.Measure k h n) = DeviceOp.give k n
 device_begun (step.Publish k h n) = DeviceOp.give k n
+device_begun (step.Check old new) = DeviceOp.signal
+device_begun (step.Ring old new) = DeviceOp.signal
+device_begun step.Arm = DeviceOp.arm
+device_begun step.LookAgain = DeviceOp.arm
+device_begun step.Hear = DeviceOp.hear
+device_begun step.WakeArming = DeviceOp.arm
+device_begun step.WakeHearing = DeviceOp.hear
+device_begun step.Disarm = DeviceOp.disarm
 device_begun step.Rest = DeviceOp.rest
+device_begun step.RestLook = DeviceOp.rest
 
 -- by the number of pieces loaded so far
 abbrev pub device_left : DeviceStep → ℕ → ℕ
@@ -118,10 +171,19 @@ device_left step.Look n = 36
 device_left (step.Entry r) n = 35
 device_left (step.Address r h p) n = 2 * (16 - n) + 2
 device_left (step.Second r h p) n = 2 * (16 - n) + 1
-device_left (step.Name k h l) n = 3
-device_left (step.Measure k h l) n = 2
-device_left (step.Publish k h l) n = 1
-device_left step.Rest n = 1
+device_left (step.Name k h l) n = 5
+device_left (step.Measure k h l) n = 4
+device_left (step.Publish k h l) n = 3
+device_left (step.Check old new) n = 2
+device_left (step.Ring old new) n = 1
+device_left step.Arm n = 3
+device_left step.LookAgain n = 2
+device_left step.Hear n = 2
+device_left step.WakeArming n = 1
+device_left step.WakeHearing n = 1
+device_left step.Disarm n = 1
+device_left step.Rest n = 2
+device_left step.RestLook n = 1
 
 abbrev pub is_resting : DeviceStep → Bool
 is_resting step.Resting = true
@@ -141,11 +203,12 @@ split_device = record {
   act = device_act;
   stands = DeviceStands;
   begun = λ e. device_begun e.doing;
+  armed = λ e. e.armed;
   left = λ e. device_left e.doing (length e.pieces.items);
   size = λ e. e.size;
   features = λ e. e.features;
   resting = λ e. is_resting e.doing;
-  fresh = λ e. is_idle e.doing && (nat_eq e.taken 0 && nat_eq e.given 0);
+  fresh = λ e. (is_idle e.doing && (nat_eq e.taken 0 && nat_eq e.given 0)) && not e.armed;
   words = split_words;
   base = λ e. e.taken % 65536;
   base_of = base_of;

@@ -1,5 +1,5 @@
 -- The steps of a give and of a rest: each is next in a view that the end stands for, and the end stands for the view after it.
-use Rattle.std.proofs.Common.{◌≡◌, ℕ, ◌+◌, ◌*◌, ◌%◌, ◌<◌, ◌≤◌, true, nat_lt, List, [], ◌∷◌, ◌++◌, length, take, Option, Some, None, slice_index, slice_set, refl, sym, ap, ◌∙◌, subst, arith, inl, inr}
+use Rattle.std.proofs.Common.{◌≡◌, ℕ, ◌+◌, ◌*◌, ◌%◌, ◌<◌, ◌≤◌, true, nat_lt, List, [], ◌∷◌, ◌++◌, length, take, Option, Some, None, slice_index, slice_set, refl, sym, ap, ◌∙◌, subst, arith, inl, inr, Bool, false, if◌then◌else◌}
 use Rattle.std.specs.Vec.{with_item}
 use Rattle.std.proofs.lemmas.Bool.{cases_lt, cases_eq}
 use Rattle.std.proofs.lemmas.List.{length-map, length_push, length-set, length-take-le, get_or-set_same, get_or-set_other}
@@ -32,7 +32,7 @@ use Rattle.vd_layout.specs.Device.{DeviceSays, IsDeviceStep, is_rested}
 use Rattle.vd_split.specs.declared.device.SplitDevice.{SplitDevice}
 use Rattle.vd_split.specs.declared.device.DeviceStep.TheVariants as step
 use Rattle.vd_split.specs.DriverEnd.{split_words}
-use Rattle.vd_split.specs.DeviceEnd.{HoldsRunning, number_at, IsNext, DeviceStands, DeviceStepStands, device_begun, device_left, is_resting, split_device}
+use Rattle.vd_split.specs.DeviceEnd.{DeviceStepArmed, device_owes, not_armed, HoldsRunning, number_at, IsNext, DeviceStands, DeviceStepStands, device_begun, device_left, is_resting, split_device}
 use Rattle.vd_split.specs.Parts.{next_place, used_area}
 use Rattle.vd_split.specs.Plans.{next_mod, copies_set}
 
@@ -62,12 +62,13 @@ name_goes e v r number head len x is small st word =
     let f : Frame = v.frame in let s : List DeviceDone = v.done in
     let n : DeviceStepStands (step.Name number head len) e.pieces.items e.addr f s v.doing = subst (λ t. DeviceStepStands t e.pieces.items e.addr f s v.doing) is st.doing in
     let i : ℕ = e.used in
+    let off : e.armed ≡ false = subst (λ t. DeviceStepArmed t e.armed) is st.signals.awake in
     let below = used_below e v st in
     let p : ℕ = used_from f + i in
     let value : x ≡ set_lane32 (slice_index v.stored p) 1 (taken_head s number) = word ∙ ap (λ w. set_lane32 w 1 head) (st.area.same i (omega (arith, st.area.as_many))) ∙ ap (set_lane32 (slice_index v.stored p) 1) (sym n.1.is_head) in
     let e' : SplitDevice = record e { area = with_item e.area i x; doing = step.Measure number head len } in
     subst (λ k. Goes e e' v op.Give (Store (used_area k + i) x) r act.Moved) (sym st.made.sized) record {
-      next = subst (λ t. DeviceNextAt t v op.Give (Store p x)) (sym n.0) (st.silent.unarmed, record { number = number; runs = Contains_from number (running s) n.1.runs; next = may_return f (chain_at (takes s)) (length (gives s)) number n.1.in_order; place = ap (λ k. used_from f + k) st.counts.used_at; word = value });
+      next = subst (λ t. DeviceNextAt t v op.Give (Store p x)) (sym n.0) (not_armed e v st off, record { number = number; runs = Contains_from number (running s) n.1.runs; next = may_return f (chain_at (takes s)) (length (gives s)) number n.1.in_order; place = ap (λ k. used_from f + k) st.counts.used_at; word = value });
       stands = subst (λ t. DeviceStands e' t) (sym (ap (λ t. device_after_at t v op.Give (Store p x) r) n.0)) record {
         made = st.made;
         counts = st.counts;
@@ -75,11 +76,12 @@ name_goes e v r number head len x is small st word =
         area = copies_set (used_from f) (f.size + 1) e.area.items v.stored i x st.area (omega (arith, st.area.as_many)) (omega (arith, st.area.as_many, st.wide, areas f));
         wide = length-set v.stored p x ∙ st.wide;
         shown = st.shown;
-        silent = record { unarmed = st.silent.unarmed; unheard = st.silent.unheard; unrung = st.silent.unrung };
+        kick = st.kick;
+        signals = record { is_armed = st.signals.is_armed; hears = st.signals.hears; rings = st.signals.rings; few = omega (arith, subst (λ t. e.bells + device_owes t ≤ e.given) is st.signals.few); awake = off };
         doing = (x, refl, ap (λ y. lane32 y 1) word ∙ half_same (slice_index e.area.items i) 1 head small, n.1);
       };
       is = sym (ap (λ t. device_act_at t v op.Give (Store p x) r) n.0);
-      left = subst (λ t. 2 < device_left t (length e.pieces.items)) (sym is) (let z : 2 < 3 = omega arith in z);
+      left = subst (λ t. 4 < device_left t (length e.pieces.items)) (sym is) (let z : 4 < 5 = omega arith in z);
       says = subst (λ t. DeviceSays split_words act.Moved (device_begun t) (DeviceOp.give number len) f s (device_after v op.Give (Store p x) r).done) (sym is) (refl, ap (λ t. (device_after_at t v op.Give (Store p x) r).done) n.0);
       rests = refl;
     }
@@ -93,6 +95,7 @@ measure_goes e v r number head len x is st word =
     let f : Frame = v.frame in let s : List DeviceDone = v.done in
     let n : DeviceStepStands (step.Measure number head len) e.pieces.items e.addr f s v.doing = subst (λ t. DeviceStepStands t e.pieces.items e.addr f s v.doing) is st.doing in
     let i : ℕ = e.used + 1 in
+    let off : e.armed ≡ false = subst (λ t. DeviceStepArmed t e.armed) is st.signals.awake in
     let below = used_below e v st in
     let p : ℕ = used_from f + i in
     let value : x ≡ set_lane32 (slice_index v.stored p) 0 len = word ∙ ap (λ w. set_lane32 w 0 len) (st.area.same i (omega (arith, st.area.as_many))) in
@@ -106,11 +109,12 @@ measure_goes e v r number head len x is st word =
         area = copies_set (used_from f) (f.size + 1) e.area.items v.stored i x st.area (omega (arith, st.area.as_many)) (omega (arith, st.area.as_many, st.wide, areas f));
         wide = length-set v.stored p x ∙ st.wide;
         shown = st.shown;
-        silent = record { unarmed = st.silent.unarmed; unheard = st.silent.unheard; unrung = st.silent.unrung };
+        kick = st.kick;
+        signals = record { is_armed = st.signals.is_armed; hears = st.signals.hears; rings = st.signals.rings; few = omega (arith, subst (λ t. e.bells + device_owes t ≤ e.given) is st.signals.few); awake = off };
         doing = (n.0, x, refl, n.2, ap (λ y. lane32 y 0) word ∙ half_same (slice_index e.area.items i) 0 len n.3.small, n.3);
       };
       is = sym (ap (λ t. device_act_at t v op.Give (Store p x) r) n.1);
-      left = subst (λ t. 1 < device_left t (length e.pieces.items)) (sym is) (let z : 1 < 2 = omega arith in z);
+      left = subst (λ t. 3 < device_left t (length e.pieces.items)) (sym is) (let z : 3 < 4 = omega arith in z);
       says = subst (λ t. DeviceSays split_words act.Moved (device_begun t) (DeviceOp.give number len) f s (device_after v op.Give (Store p x) r).done) (sym is) (refl, ap (λ t. (device_after_at t v op.Give (Store p x) r).done) n.1);
       rests = refl;
     }
@@ -174,22 +178,23 @@ holds_fewer table guesses head number len f s h runs is inside = record {
 
 pub publish_goes : (e : SplitDevice) (v : DeviceView) (r number head len x : ℕ) → e.doing ≡ step.Publish number head len → DeviceStands e v
     → x ≡ set_lane16 (slice_index e.area.items 0) 1 ((e.given + 1) % 65536)
-    → Goes e (record e { given = e.given + 1; used = next_place e.used e.size; running = with_item e.running head None; area = with_item e.area 0 x; doing = step.Idle }) v op.Give (Store (used_area e.size) x) r (act.Given number)
+    → Goes e (record e { given = e.given + 1; used = next_place e.used e.size; running = with_item e.running head None; area = with_item e.area 0 x; doing = step.Check e.given (e.given + 1) }) v op.Give (Store (used_area e.size) x) r (act.Given number)
 publish_goes e v r number head len x is st word =
     let f : Frame = v.frame in let s : List DeviceDone = v.done in
     let n : DeviceStepStands (step.Publish number head len) e.pieces.items e.addr f s v.doing = subst (λ t. DeviceStepStands t e.pieces.items e.addr f s v.doing) is st.doing in
     let a : ℕ = n.0 in let b : ℕ = n.1 in let next : IsNext f s number head len = n.5 in
     let us : List Used = given f s (lane32 a 1) (lane32 b 0) in
     let one : us ≡ entry number len ∷ [] = gives_one f s e.running.items (length e.guesses.items) (lane32 a 1) (lane32 b 0) number st.holds next.runs (next.is_head ∙ sym n.3) next.in_order ∙ ap (λ k. entry number k ∷ []) n.4 in
+    let off : e.armed ≡ false = subst (λ t. DeviceStepArmed t e.armed) is st.signals.awake in
     let below = used_below e v st in
     let p : ℕ = used_from f + 0 in
     let longer = length_push (gives s) (entry number len) in
     let value : x ≡ set_lane16 (slice_index v.stored p) 1 (length (gives s ++ us) % 65536) =
     word ∙ ap (λ w. set_lane16 w 1 ((e.given + 1) % 65536)) (st.area.same 0 (omega (arith, st.area.as_many))) ∙ ap (λ k. set_lane16 (slice_index v.stored p) 1 (k % 65536)) (let z : e.given + 1 ≡ length (gives s ++ entry number len ∷ []) = omega (arith, st.counts.gives, longer) in z)
     ∙ ap (λ (ys : List Used). set_lane16 (slice_index v.stored p) 1 (length (gives s ++ ys) % 65536)) (sym one) in
-    let e' : SplitDevice = record e { given = e.given + 1; used = next_place e.used e.size; running = with_item e.running head None; area = with_item e.area 0 x; doing = step.Idle } in
-    let is_after : device_after v op.Give (Store p x) r ≡ record v { done = Give (entry number len ∷ []) ∷ s; stored = slice_set v.stored p x; doing = now.Idle } =
-    ap (λ t. device_after_at t v op.Give (Store p x) r) n.2 ∙ ap (λ (ys : List Used). record v { done = Give ys ∷ s; stored = slice_set v.stored p x; doing = now.Idle }) one in
+    let e' : SplitDevice = record e { given = e.given + 1; used = next_place e.used e.size; running = with_item e.running head None; area = with_item e.area 0 x; doing = step.Check e.given (e.given + 1) } in
+    let is_after : device_after v op.Give (Store p x) r ≡ record v { done = Give (entry number len ∷ []) ∷ s; stored = slice_set v.stored p x; doing = now.Checking (length (gives s)) (length (gives s ++ entry number len ∷ [])) } =
+    ap (λ t. device_after_at t v op.Give (Store p x) r) n.2 ∙ ap (λ (ys : List Used). record v { done = Give ys ∷ s; stored = slice_set v.stored p x; doing = now.Checking (length (gives s)) (length (gives s ++ ys)) }) one in
     let z : used_from f + 0 ≡ used_area e.size = omega (arith, ap used_area (sym st.made.sized)) in
     subst (λ q. Goes e e' v op.Give (Store q x) r (act.Given number)) z record {
       next = subst (λ t. DeviceNextAt t v op.Give (Store p x)) (sym n.2) record { place = (let y : used_from f + 0 ≡ used_from f = omega arith in y); word = value };
@@ -205,13 +210,14 @@ publish_goes e v r number head len x is st word =
         area = copies_set (used_from f) (f.size + 1) e.area.items v.stored 0 x st.area (omega arith) (omega (arith, st.wide, areas f));
         wide = length-set v.stored p x ∙ st.wide;
         shown = st.shown;
-        silent = record { unarmed = st.silent.unarmed; unheard = st.silent.unheard; unrung = st.silent.unrung };
-        doing = refl;
+        kick = st.kick;
+        signals = record { is_armed = st.signals.is_armed; hears = st.signals.hears; rings = st.signals.rings; few = omega (arith, subst (λ t. e.bells + device_owes t ≤ e.given) is st.signals.few); awake = off };
+        doing = (ap (λ k. now.Checking k (length (gives s ++ entry number len ∷ []))) (sym st.counts.gives) ∙ ap (now.Checking e.given) (let y : length (gives s ++ entry number len ∷ []) ≡ e.given + 1 = omega (arith, st.counts.gives, longer) in y), omega arith, omega arith);
       };
       is = sym (ap (λ t. device_act_at t v op.Give (Store p x) r) n.2 ∙ ap (λ (ys : List Used). act.Given (last_used ys).number) one);
-      left = subst (λ t. 0 < device_left t (length e.pieces.items)) (sym is) (let y : 0 < 1 = omega arith in y);
-      says = subst (λ t. DeviceSays split_words (act.Given number) (device_begun t) DeviceOp.idle f s (device_after v op.Give (Store p x) r).done) (sym is)
-          (len, entry number len ∷ [], refl, inl refl, ap (λ (w : DeviceView). w.done) is_after, were_given f s number len (Contains_from number (running s) next.runs) next.in_order);
+      left = subst (λ t. 2 < device_left t (length e.pieces.items)) (sym is) (let y : 2 < 3 = omega arith in y);
+      says = subst (λ t. DeviceSays split_words (act.Given number) (device_begun t) DeviceOp.signal f s (device_after v op.Give (Store p x) r).done) (sym is)
+          (len, entry number len ∷ [], refl, inr refl, ap (λ (w : DeviceView). w.done) is_after, were_given f s number len (Contains_from number (running s) next.runs) next.in_order);
       rests = refl;
     }
 
@@ -243,18 +249,19 @@ rests_running table guesses f s table' h whole long none = record {
     few : (k : ℕ) → length (gives s) ≤ k → occurs k (numbers (gives s)) ≡ 0
     few k a = omega (arith, occurs_rest (length (gives s)) k (numbers (gives s)) a (λ j b. omega (arith, whole j b)), length-map (gives s) (λ (u : Used). u.number))
 
-pub rest_goes : (e e2 : SplitDevice) (v : DeviceView) (r : ℕ) → e.doing ≡ step.Rest → DeviceStands e v → length e2.running.items ≡ length e.running.items → ((h : ℕ) → number_at e2.running.items h ≡ None)
+pub rest_goes : (e e2 : SplitDevice) (v : DeviceView) (r : ℕ) → e.doing ≡ step.RestLook → DeviceStands e v → length e2.running.items ≡ length e.running.items → ((h : ℕ) → number_at e2.running.items h ≡ None)
     → Goes e (record e { taken = e.given; entry = e.used; running = e2.running; doing = step.Resting }) v op.Rest (Load (2 * e.size)) r act.Rested
 rest_goes e e2 v r is st long none =
     let f : Frame = v.frame in let s : List DeviceDone = v.done in
-    let n : DeviceStepStands step.Rest e.pieces.items e.addr f s v.doing = subst (λ t. DeviceStepStands t e.pieces.items e.addr f s v.doing) is st.doing in
+    let n : DeviceStepStands step.RestLook e.pieces.items e.addr f s v.doing = subst (λ t. DeviceStepStands t e.pieces.items e.addr f s v.doing) is st.doing in
+    let off : e.armed ≡ false = subst (λ t. DeviceStepArmed t e.armed) is st.signals.awake in
     let p : ℕ = 2 * e.size in
     let len : length (take (length (gives s)) (takes s)) ≡ length (gives s) = length-take-le (length (gives s)) (takes s) (omega (arith, st.holds.once.count)) in
     let here : p ≡ lane_word f 1 = omega (arith, st.made.sized) in
     let e' : SplitDevice = record e { taken = e.given; entry = e.used; running = e2.running; doing = step.Resting } in
     let is_after = ap (λ t. device_after_at t v op.Rest (Load p) r) n.0 in
     record {
-      next = subst (λ t. DeviceNextAt t v op.Rest (Load p)) (sym n.0) record { whole = n.1; place = here };
+      next = subst (λ t. DeviceNextAt t v op.Rest (Load p)) (sym n.0) here;
       stands = subst (λ t. DeviceStands e' t) (sym is_after) record {
         made = st.made;
         counts = record {
@@ -267,8 +274,9 @@ rest_goes e e2 v r is st long none =
         area = st.area;
         wide = st.wide;
         shown = st.shown;
-        silent = record { unarmed = refl; unheard = st.silent.unheard; unrung = st.silent.unrung };
-        doing = (n.0, refl, n.1);
+        kick = st.kick;
+        signals = record { is_armed = not_armed e v st off ∙ sym (ap (λ (b : Bool). if b then Some (length (takes (Rest ∷ s))) else None) off); hears = st.signals.hears; rings = st.signals.rings; few = omega (arith, st.signals.few); awake = off };
+        doing = (refl, refl, n.1);
       };
       is = sym (ap (λ t. device_act_at t v op.Rest (Load p) r) n.0);
       left = subst (λ t. 0 < device_left t (length e.pieces.items)) (sym is) (let y : 0 < 1 = omega arith in y);

@@ -1,5 +1,5 @@
 -- The laws of the device's end of a split ring.
-use Rattle.std.proofs.Common.{◌≡◌, ℕ, ◌+◌, ◌-◌, ◌/◌, ◌%◌, ◌<◌, ◌≤◌, ◌&&◌, ◌==◌, Bool, true, false, nat_lt, if◌then◌else◌, List, [], ◌∷◌, ◌++◌, length, Option, Some, None, slice_set, refl, sym, ap, ◌∙◌, subst, arith, inl, inr}
+use Rattle.std.proofs.Common.{◌≡◌, ℕ, ◌+◌, ◌-◌, ◌/◌, ◌%◌, ◌<◌, ◌≤◌, ◌&&◌, ◌==◌, Bool, true, false, not, nat_lt, if◌then◌else◌, List, [], ◌∷◌, ◌++◌, length, Option, Some, None, slice_set, refl, sym, ap, ◌∙◌, subst, arith, inl, inr}
 use Rattle.std.specs.List.{Contains}
 use Rattle.std.proofs.lemmas.Bool.{cases_lt, eqb-true}
 use Rattle.std.proofs.lemmas.List.{length-set, get_or_past}
@@ -21,13 +21,14 @@ use Rattle.vd_split_ring.specs.SplitWords.{used_from, tables_from, commands_from
 use Rattle.vd_split_ring.specs.SplitDevice.{DeviceNextAt, device_after_at, device_takes}
 use Rattle.vd_split_ring.proofs.Areas.{areas}
 use Rattle.vd_split_ring.proofs.ControlFacts.{device_controls}
+use Rattle.vd_split_ring.proofs.DeviceViews.{device_frame}
 use Rattle.vd_layout.proofs.InTable.{runs_in_table}
 use Rattle.vd_layout.specs.Begun.{DeviceOp}
 use Rattle.vd_layout.specs.Device.{IsStill, IsLawfulDevice}
 use Rattle.vd_split.specs.declared.device.SplitDevice.{SplitDevice}
 use Rattle.vd_split.specs.declared.device.DeviceStep.{DeviceStep}
 use Rattle.vd_split.specs.declared.device.DeviceStep.TheVariants as step
-use Rattle.vd_split.specs.DeviceEnd.{HoldsRunning, number_at, IsNext, IsTaking, DeviceStands, DeviceStepStands, device_begun, device_left, is_resting, is_idle, split_device}
+use Rattle.vd_split.specs.DeviceEnd.{DeviceStepArmed, device_owes, not_armed, is_armed, HoldsRunning, number_at, IsNext, IsTaking, DeviceStands, DeviceStepStands, device_begun, device_left, is_resting, is_idle, split_device}
 use Rattle.vd_split.specs.Plans.{copies_other}
 
 -- ---- whole
@@ -62,6 +63,15 @@ rests_at (step.Name k h n) ps a f s d x e = absurd (cc e)
 rests_at (step.Measure k h n) ps a f s d x e = absurd (cc e)
 rests_at (step.Publish k h n) ps a f s d x e = absurd (cc e)
 rests_at step.Rest ps a f s d h e = absurd (cc e)
+rests_at (step.Check old new) ps a f s d h e = absurd (cc e)
+rests_at (step.Ring old new) ps a f s d h e = absurd (cc e)
+rests_at step.Arm ps a f s d h e = absurd (cc e)
+rests_at step.LookAgain ps a f s d h e = absurd (cc e)
+rests_at step.Hear ps a f s d h e = absurd (cc e)
+rests_at step.WakeArming ps a f s d h e = absurd (cc e)
+rests_at step.WakeHearing ps a f s d h e = absurd (cc e)
+rests_at step.Disarm ps a f s d h e = absurd (cc e)
+rests_at step.RestLook ps a f s d h e = absurd (cc e)
 
 ends_at : (t : DeviceStep) (n : ℕ) → device_left t n ≡ 0 → device_begun t ≡ DeviceOp.idle
 ends_at step.Idle n h = refl
@@ -74,6 +84,15 @@ ends_at (step.Name k h l) n x = absurd (omega arith)
 ends_at (step.Measure k h l) n x = absurd (omega arith)
 ends_at (step.Publish k h l) n x = absurd (omega arith)
 ends_at step.Rest n h = absurd (omega arith)
+ends_at (step.Check old new) n h = absurd (omega arith)
+ends_at (step.Ring old new) n h = absurd (omega arith)
+ends_at step.Arm n h = absurd (omega arith)
+ends_at step.LookAgain n h = absurd (omega arith)
+ends_at step.Hear n h = absurd (omega arith)
+ends_at step.WakeArming n h = absurd (omega arith)
+ends_at step.WakeHearing n h = absurd (omega arith)
+ends_at step.Disarm n h = absurd (omega arith)
+ends_at step.RestLook n h = absurd (omega arith)
 
 -- what is resting or fresh is idle
 resting_idle : (t : DeviceStep) → is_resting t ≡ true → (device_begun t ≡ DeviceOp.idle) × (t ≡ step.Resting)
@@ -87,6 +106,15 @@ resting_idle (step.Name k h l) e = absurd (cc e)
 resting_idle (step.Measure k h l) e = absurd (cc e)
 resting_idle (step.Publish k h l) e = absurd (cc e)
 resting_idle step.Rest e = absurd (cc e)
+resting_idle (step.Check old new) e = absurd (cc e)
+resting_idle (step.Ring old new) e = absurd (cc e)
+resting_idle step.Arm e = absurd (cc e)
+resting_idle step.LookAgain e = absurd (cc e)
+resting_idle step.Hear e = absurd (cc e)
+resting_idle step.WakeArming e = absurd (cc e)
+resting_idle step.WakeHearing e = absurd (cc e)
+resting_idle step.Disarm e = absurd (cc e)
+resting_idle step.RestLook e = absurd (cc e)
 
 -- a fresh end is idle, and has taken and given nothing
 fresh_idle : (t : DeviceStep) (m n : ℕ) → (is_idle t && ((m == 0) && (n == 0))) ≡ true → (device_begun t ≡ DeviceOp.idle) × (m ≡ 0) × (n ≡ 0)
@@ -105,17 +133,39 @@ fresh_idle (step.Name k h l) m n e = absurd (cc e)
 fresh_idle (step.Measure k h l) m n e = absurd (cc e)
 fresh_idle (step.Publish k h l) m n e = absurd (cc e)
 fresh_idle step.Rest m n e = absurd (cc e)
+fresh_idle (step.Check old new) m n e = absurd (cc e)
+fresh_idle (step.Ring old new) m n e = absurd (cc e)
+fresh_idle step.Arm m n e = absurd (cc e)
+fresh_idle step.LookAgain m n e = absurd (cc e)
+fresh_idle step.Hear m n e = absurd (cc e)
+fresh_idle step.WakeArming m n e = absurd (cc e)
+fresh_idle step.WakeHearing m n e = absurd (cc e)
+fresh_idle step.Disarm m n e = absurd (cc e)
+fresh_idle step.RestLook m n e = absurd (cc e)
+
+parts : (a b : Bool) → (a && b) ≡ true → (a ≡ true) × (b ≡ true)
+parts true true e = (refl, refl)
+parts true false e = absurd (cc e)
+parts false b e = absurd (cc e)
 
 still_idle : (e : SplitDevice) → IsStill split_device e → device_begun e.doing ≡ DeviceOp.idle
 still_idle e (inl r) = (resting_idle e.doing r).0
-still_idle e (inr r) = (fresh_idle e.doing e.taken e.given r).0
+still_idle e (inr r) = (fresh_idle e.doing e.taken e.given (parts (is_idle e.doing && ((e.taken == 0) && (e.given == 0))) (not e.armed) r).0).0
+
+still_unarmed : (e : SplitDevice) (v : DeviceView) → DeviceStands e v → IsStill split_device e → e.armed ≡ false
+still_unarmed e v st (inl r) = subst (λ t. DeviceStepArmed t e.armed) (resting_idle e.doing r).1 st.signals.awake
+still_unarmed e v st (inr r) = turned e.armed (parts (is_idle e.doing && ((e.taken == 0) && (e.given == 0))) (not e.armed) r).1
+  where
+    turned : (b : Bool) → not b ≡ true → b ≡ false
+    turned true h = absurd (cc h)
+    turned false h = refl
 
 still_whole : (e : SplitDevice) (v : DeviceView) → DeviceStands e v → IsStill split_device e → (running v.done ≡ []) × (length (takes v.done) ≡ length (gives v.done)) × IsWhole v.done
 still_whole e v st (inl r) =
     let n : DeviceStepStands step.Resting e.pieces.items e.addr v.frame v.done v.doing = subst (λ t. DeviceStepStands t e.pieces.items e.addr v.frame v.done v.doing) (resting_idle e.doing r).1 st.doing in
     (n.1, omega (arith, st.holds.once.count, ap (λ (xs : List ℕ). length xs) n.1), n.2)
 still_whole e v st (inr r) =
-    let n = fresh_idle e.doing e.taken e.given r in
+    let n = fresh_idle e.doing e.taken e.given (parts (is_idle e.doing && ((e.taken == 0) && (e.given == 0))) (not e.armed) r).0 in
     let none : length (takes v.done) ≡ 0 = omega (arith, st.counts.takes) in
     (empty_is (running v.done) (omega (arith, st.holds.once.count)), omega (arith, st.holds.once.count), λ k h. absurd (omega (arith, st.holds.once.count)))
 
@@ -167,6 +217,15 @@ step_loaded (step.Name k h n) ps a f s d l i y x = (x.0, next_loaded f s k h n l
 step_loaded (step.Measure k h n) ps a f s d l i y x = (x.0, x.1, x.2, next_loaded f s k h n l i y x.3)
 step_loaded (step.Publish k h n) ps a f s d l i y x = (x.0, x.1, x.2, x.3, x.4, next_loaded f s k h n l i y x.5)
 step_loaded step.Rest ps a f s d l i y x = x
+step_loaded (step.Check old new) ps a f s d l i y x = x
+step_loaded (step.Ring old new) ps a f s d l i y x = x
+step_loaded step.Arm ps a f s d l i y x = x
+step_loaded step.LookAgain ps a f s d l i y x = x
+step_loaded step.Hear ps a f s d l i y x = x
+step_loaded step.WakeArming ps a f s d l i y x = x
+step_loaded step.WakeHearing ps a f s d l i y x = x
+step_loaded step.Disarm ps a f s d l i y x = x
+step_loaded step.RestLook ps a f s d l i y x = x
 
 running_stored : (table : List (Option ℕ)) (guesses : ℕ) (f : Frame) (s : List DeviceDone) (l y : ℕ) → HoldsRunning table guesses f s → HoldsRunning table guesses f (StoreAck l y ∷ s)
 running_stored table guesses f s l y h = record {
@@ -207,6 +266,15 @@ step_stored (step.Name k h n) ps a f s d l y x = (x.0, next_stored f s k h n l y
 step_stored (step.Measure k h n) ps a f s d l y x = (x.0, x.1, x.2, next_stored f s k h n l y x.3)
 step_stored (step.Publish k h n) ps a f s d l y x = (x.0, x.1, x.2, x.3, x.4, next_stored f s k h n l y x.5)
 step_stored step.Rest ps a f s d l y x = x
+step_stored (step.Check old new) ps a f s d l y x = x
+step_stored (step.Ring old new) ps a f s d l y x = x
+step_stored step.Arm ps a f s d l y x = x
+step_stored step.LookAgain ps a f s d l y x = x
+step_stored step.Hear ps a f s d l y x = x
+step_stored step.WakeArming ps a f s d l y x = x
+step_stored step.WakeHearing ps a f s d l y x = x
+step_stored step.Disarm ps a f s d l y x = x
+step_stored step.RestLook ps a f s d l y x = x
 
 after_command : (e : SplitDevice) (v : DeviceView) (l i y : ℕ) → DeviceStands e v → DeviceStands e (record v { done = LoadCommand l i y ∷ v.done })
 after_command e v l i y st = record {
@@ -216,7 +284,8 @@ after_command e v l i y st = record {
   area = st.area;
   wide = st.wide;
   shown = st.shown;
-  silent = record { unarmed = st.silent.unarmed; unheard = st.silent.unheard; unrung = st.silent.unrung };
+  kick = st.kick;
+  signals = record { is_armed = st.signals.is_armed; hears = st.signals.hears; rings = st.signals.rings; few = st.signals.few; awake = st.signals.awake };
   doing = step_loaded e.doing e.pieces.items e.addr v.frame v.done v.doing l i y st.doing;
 }
 
@@ -228,7 +297,8 @@ after_ack e v l p x past st = record {
   area = copies_other (used_from v.frame) (v.frame.size + 1) e.area.items v.stored p x st.area (λ k a z. omega arith);
   wide = length-set v.stored p x ∙ st.wide;
   shown = st.shown;
-  silent = record { unarmed = st.silent.unarmed; unheard = st.silent.unheard; unrung = st.silent.unrung };
+  kick = st.kick;
+  signals = record { is_armed = st.signals.is_armed; hears = st.signals.hears; rings = st.signals.rings; few = st.signals.few; awake = st.signals.awake };
   doing = step_stored e.doing e.pieces.items e.addr v.frame v.done v.doing l x st.doing;
 }
 
@@ -248,27 +318,6 @@ control_at _ e v a r st n = absurd n
 
 -- ---- no access changes what the ring was made with
 
-frame_at : (d : DeviceNow) (v : DeviceView) (o : Op) (a : Access) (r : ℕ) → (device_after_at d v o a r).frame ≡ v.frame
-frame_at now.Idle v op.Take (Load p) r = either (shows r (length (takes v.done)))
-  where
-    either : (b : Bool)
-        → (if b then record v { seen = shown_from r (length (takes v.done)); shown = false } else record v { seen = shown_from r (length (takes v.done)); shown = true; doing = now.Taking (r ∷ []) }).frame ≡ v.frame
-    either true = refl
-    either false = refl
-frame_at (now.Taking (g ∷ [])) v op.Take (Load p) r = refl
-frame_at (now.Taking (g ∷ w ∷ ws)) v op.Take (Load p) r = either (is_whole v.frame (ws ++ r ∷ []))
-  where
-    either : (b : Bool) → (if b then device_takes v g w (ws ++ r ∷ []) else record v { doing = now.Taking (g ∷ w ∷ (ws ++ r ∷ [])) }).frame ≡ v.frame
-    either true = refl
-    either false = refl
-frame_at now.Idle v op.Give (Store p x) r = refl
-frame_at (now.Giving (g ∷ [])) v op.Give (Store p x) r = refl
-frame_at (now.Giving (g ∷ w ∷ [])) v op.Give (Store p x) r = refl
-frame_at now.Idle v op.Rest (Load p) r = refl
-frame_at now.Idle v op.Control (Store p x) r = refl
-frame_at now.Idle v op.Control (Load p) r = refl
-frame_at _ v _ _ r = refl
-
 pub device_laws : IsLawfulDevice split_device
 device_laws = record {
   sized = λ e v st. (st.made.sized, st.made.featured);
@@ -277,12 +326,29 @@ device_laws = record {
   still = still_idle;
   whole = still_whole;
   based = λ e v st still. ap (λ k. k % 65536) st.counts.takes;
-  unused = fresh_unused;
+  unused = λ e v st r. fresh_unused e v st (parts (is_idle e.doing && ((e.taken == 0) && (e.given == 0))) (not e.armed) r).0;
   control = λ e v a r st n. control_at v.doing e v a r st n;
-  framed = λ v o a r. frame_at v.doing v o a r;
-  unarmed = λ e v st still. st.silent.unarmed;
+  framed = λ v o a r. device_frame v o a r;
+  armed = λ e v st on. (length (takes v.done), is_armed e v st on);
+  not_armed = λ e v st off. not_armed e v st off;
+  unarmed_still = still_unarmed;
+  unarmed = λ e v st still. not_armed e v st (still_unarmed e v st still);
   runs = λ e v st. runs_in_table e.running.items v.frame v.done st.holds.once.each st.holds.once.count st.holds.once.as_many st.holds.places st.holds.kept;
   controls = device_controls;
+}
+
+-- the end stands after the beginning of an operation
+pub begins : (e : SplitDevice) (v : DeviceView) (t : DeviceStep) → device_begun e.doing ≡ DeviceOp.idle → DeviceStands e v → (v.doing ≡ now.Idle → DeviceStepStands t e.pieces.items e.addr v.frame v.done v.doing) → DeviceStepArmed t e.armed → device_owes t ≡ 0 → DeviceStands (record e { doing = t }) v
+begins e v t idle st doing armed none = record {
+  made = st.made;
+  counts = st.counts;
+  holds = st.holds;
+  area = st.area;
+  wide = st.wide;
+  shown = st.shown;
+  kick = st.kick;
+  signals = record { is_armed = st.signals.is_armed; hears = st.signals.hears; rings = st.signals.rings; few = omega (arith, st.signals.few, none); awake = armed };
+  doing = doing (rests_at e.doing e.pieces.items e.addr v.frame v.done v.doing st.doing idle);
 }
 
 -- ---- what a look through the table tells

@@ -27,7 +27,7 @@ use Rattle.vd_layout.specs.Device.{DeviceSays, IsTaken}
 use Rattle.vd_split.specs.declared.device.SplitDevice.{SplitDevice}
 use Rattle.vd_split.specs.declared.device.DeviceStep.TheVariants as step
 use Rattle.vd_split.specs.DriverEnd.{split_words}
-use Rattle.vd_split.specs.DeviceEnd.{HoldsRunning, number_at, HasLoaded, DeviceStands, DeviceStepStands, device_begun, device_left}
+use Rattle.vd_split.specs.DeviceEnd.{DeviceStepArmed, not_armed, HoldsRunning, number_at, HasLoaded, DeviceStands, DeviceStepStands, device_begun, device_left}
 use Rattle.vd_split.specs.DeviceGiving.{Goes}
 use Rattle.vd_split.specs.Parts.{next_place}
 use Rattle.vd_split.specs.Plans.{next_mod}
@@ -59,7 +59,8 @@ entry_goes e e2 v r w head is st none found =
               area = st.area;
               wide = st.wide;
               shown = st.shown;
-              silent = record { unarmed = st.silent.unarmed; unheard = st.silent.unheard; unrung = st.silent.unrung };
+              kick = st.kick;
+        signals = record { is_armed = st.signals.is_armed; hears = st.signals.hears; rings = st.signals.rings; few = omega (arith, st.signals.few); awake = subst (λ t. DeviceStepArmed t e.armed) is st.signals.awake };
               doing = record {
                 word = w;
                 words = [];
@@ -102,7 +103,8 @@ address_goes e v r h p x is st =
         area = st.area;
         wide = st.wide;
         shown = st.shown;
-        silent = record { unarmed = st.silent.unarmed; unheard = st.silent.unheard; unrung = st.silent.unrung };
+        kick = st.kick;
+        signals = record { is_armed = st.signals.is_armed; hears = st.signals.hears; rings = st.signals.rings; few = omega (arith, st.signals.few); awake = subst (λ t. DeviceStepArmed t e.armed) is st.signals.awake };
         doing = record { word = w; words = ws; is = refl; loaded = l };
       };
       is = sym (ap (λ t. device_act_at t v op.Take (Load (2 * p)) x) was ∙ acts_on v r w (2 * p) x ws more);
@@ -194,7 +196,8 @@ second_more e e2 v r h p x l st next on pushed is =
         area = st.area;
         wide = st.wide;
         shown = st.shown;
-        silent = record { unarmed = st.silent.unarmed; unheard = st.silent.unheard; unrung = st.silent.unrung };
+        kick = st.kick;
+        signals = record { is_armed = st.signals.is_armed; hears = st.signals.hears; rings = st.signals.rings; few = omega (arith, st.signals.few); awake = subst (λ t. DeviceStepArmed t e.armed) is st.signals.awake };
         doing = record {
           word = l.word;
           words = ws;
@@ -306,7 +309,8 @@ second_last e e2 v r h p x cs l st next off is spelled guesses =
         area = st.area;
         wide = st.wide;
         shown = ap (λ k. not (shows r (k + 1))) st.counts.takes;
-        silent = record { unarmed = st.silent.unarmed; unheard = st.silent.unheard; unrung = st.silent.unrung };
+        kick = st.kick;
+        signals = record { is_armed = not_armed e v st (subst (λ t. DeviceStepArmed t e.armed) is st.signals.awake) ∙ sym (ap (λ (b : Bool). if b then Some (length (takes (Take cs h ∷ s))) else None) (subst (λ t. DeviceStepArmed t e.armed) is st.signals.awake)); hears = st.signals.hears; rings = st.signals.rings; few = omega (arith, st.signals.few); awake = tt };
         doing = refl;
       };
       is = ap (λ k. act.Taken k cs) st.counts.takes ∙ ap (act.Taken t) (sym is_chain) ∙ sym (ap (λ u. device_act_at u v op.Take (Load (2 * p + 1)) x) l.was ∙ ap (λ b. if b then act.Taken t (chain_of f ws) else act.Moved) end);

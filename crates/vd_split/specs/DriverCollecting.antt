@@ -1,5 +1,5 @@
 -- The last step of a collect: it is next in a view that the end stands for, and the end stands for the view after it.
-use Rattle.std.proofs.Common.{◌≡◌, ℕ, ◌+◌, ◌%◌, ◌<◌, ◌≤◌, true, not, List, [], ◌∷◌, ◌++◌, length, slice_index_or, refl, sym, ap, ◌∙◌, subst, arith}
+use Rattle.std.proofs.Common.{◌≡◌, ℕ, ◌+◌, ◌%◌, ◌<◌, ◌≤◌, Bool, true, false, Some, None, if◌then◌else◌, not, List, [], ◌∷◌, ◌++◌, length, slice_index_or, refl, sym, ap, ◌∙◌, subst, arith}
 use Rattle.std.proofs.lemmas.List.{length_push, append-nil}
 use Rattle.std.proofs.lemmas.Nat.{mod_below}
 use Rattle.vd_bits.specs.Lanes.{lane32}
@@ -26,7 +26,7 @@ use Rattle.vd_layout.specs.Driver.{DriverSays}
 use Rattle.vd_split.specs.declared.driver.SplitDriver.{SplitDriver}
 use Rattle.vd_split.specs.declared.driver.Slot.{Slot}
 use Rattle.vd_split.specs.declared.driver.DriverStep.TheVariants as step
-use Rattle.vd_split.specs.DriverEnd.{HoldsPlaces, DriverStands, DriverStepStands, driver_begun, driver_left}
+use Rattle.vd_split.specs.DriverEnd.{HoldsPlaces, DriverStands, DriverStepStands, DriverStepArmed, driver_begun, driver_left, not_armed}
 use Rattle.vd_split.specs.DriverSteps.{Goes}
 use Rattle.vd_split.specs.Parts.{next_place, used_area}
 use Rattle.vd_split.specs.Plans.{next_mod}
@@ -91,6 +91,7 @@ finish_goes e v r w x e' number is st hit same items capacity =
     let us : List Used = collected f o (lane32 w 1) (lane32 x 0) in
     let one : us ≡ entry k (lane32 x 0) ∷ [] = collects_one f o (lane32 w 1) (lane32 x 0) k st.holds.held hit.is_open hit.is_head hit.in_order in
     let longer = length_push (collects o) (entry k (lane32 x 0)) in
+    let off : e.armed ≡ false = subst (λ t. DriverStepArmed t e.armed) is st.signals.awake in
     let e2 : SplitDriver = record e { collected = e.collected + 1; used = next_place e.used e.size; free = e'.free; shown = not (shows r (e.collected + 1)); doing = step.Idle } in
     let w2 : DriverView = record v { done = Collect (entry k (lane32 x 0) ∷ []) ∷ o; shown = not (shows r (length (collects o ++ entry k (lane32 x 0) ∷ []))); doing = now.Idle } in
     let is_after : driver_after v op.Collect (Load p) x ≡ w2 = ap (λ t. driver_after_at t v op.Collect (Load p) x) n.0 ∙ ap (λ (ys : List Used). record v { done = Collect ys ∷ o; shown = not (shows r (length (collects o ++ ys))); doing = now.Idle }) one in
@@ -110,7 +111,8 @@ finish_goes e v r w x e' number is st hit same items capacity =
         area = st.area;
         wide = st.wide;
         shown = ap (λ j. not (shows r j)) (let z : e.collected + 1 ≡ length (collects o ++ entry k (lane32 x 0) ∷ []) = omega (arith, st.counts.collects, longer) in z);
-        silent = record { unarmed = st.silent.unarmed; unheard = st.silent.unheard; unrung = st.silent.unrung };
+        kick = st.kick;
+        signals = record { is_armed = not_armed e v st off ∙ sym (ap (λ (b : Bool). if b then Some (length (collects (Collect (entry k (lane32 x 0) ∷ []) ∷ o))) else None) off); hears = st.signals.hears; rings = st.signals.rings; few = omega (arith, st.signals.few); awake = tt };
         doing = refl;
       };
       is = ap (λ j. act.Collected j (lane32 x 0) (lane32 w 1)) same ∙ sym (ap (λ t. driver_act_at t v op.Collect (Load p) x) n.0 ∙ ap (λ (ys : List Used). act.Collected (last_used ys).number (last_used ys).len (lane32 w 1)) one);

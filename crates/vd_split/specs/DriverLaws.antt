@@ -23,13 +23,14 @@ use Rattle.vd_split_ring.specs.SplitWords.{avail_from, tables_from, commands_fro
 use Rattle.vd_split_ring.specs.SplitDriver.{CanOffer, DriverNextAt, driver_after_at}
 use Rattle.vd_split_ring.proofs.Areas.{areas}
 use Rattle.vd_split_ring.proofs.ControlFacts.{driver_controls}
+use Rattle.vd_split_ring.proofs.DriverViews.{driver_frame}
 use Rattle.vd_split_ring.proofs.Direct.{lent_needs, needs_pieces}
 use Rattle.vd_layout.specs.Begun.{DriverOp}
 use Rattle.vd_layout.specs.Driver.{HasRoom, MayOffer, IsLawfulDriver}
 use Rattle.vd_split.specs.declared.driver.SplitDriver.{SplitDriver}
 use Rattle.vd_split.specs.declared.driver.DriverStep.{DriverStep}
 use Rattle.vd_split.specs.declared.driver.DriverStep.TheVariants as step
-use Rattle.vd_split.specs.DriverEnd.{DriverStands, DriverStepStands, driver_begun, driver_left, split_driver, split_words}
+use Rattle.vd_split.specs.DriverEnd.{DriverStands, DriverStepStands, DriverStepArmed, driver_owes, driver_begun, driver_left, split_driver, split_words, is_armed, not_armed}
 use Rattle.vd_split.specs.Plans.{copies_other}
 
 -- the free places are those that the open chains leave
@@ -59,22 +60,45 @@ rests_at step.Publish c f o d h e = absurd (cc e)
 rests_at step.Look c f o d h e = absurd (cc e)
 rests_at (step.Find r) c f o d h e = absurd (cc e)
 rests_at (step.Finish r w) c f o d h e = absurd (cc e)
+rests_at (step.Check old new) c f o d h e = absurd (cc e)
+rests_at (step.Ring old new) c f o d h e = absurd (cc e)
+rests_at step.Arm c f o d h e = absurd (cc e)
+rests_at step.LookAgain c f o d h e = absurd (cc e)
+rests_at step.Hear c f o d h e = absurd (cc e)
+rests_at step.WakeArming c f o d h e = absurd (cc e)
+rests_at step.WakeHearing c f o d h e = absurd (cc e)
+rests_at step.Disarm c f o d h e = absurd (cc e)
 
 -- the end stands after the beginning of an offer that may be made
-pub begins_offer : (e e' : SplitDriver) (v : DriverView) (c : List Piece) → driver_begun e.doing e.pieces.items ≡ DriverOp.idle → DriverStands e v → MayOffer split_words v c → e'.pieces.items ≡ c → DriverStands (record e { pieces = e'.pieces; doing = step.Describe 0 }) v
-begins_offer e e' v c idle st may same = record {
+pub begins_offer : (e e' : SplitDriver) (v : DriverView) (c : List Piece) → driver_begun e.doing e.pieces.items ≡ DriverOp.idle → e.armed ≡ false → DriverStands e v → MayOffer split_words v c → e'.pieces.items ≡ c → DriverStands (record e { pieces = e'.pieces; doing = step.Describe 0 }) v
+begins_offer e e' v c idle off st may same = record {
   made = st.made;
   counts = st.counts;
   holds = st.holds;
   area = st.area;
   wide = st.wide;
   shown = st.shown;
-  silent = st.silent;
+  kick = st.kick;
+  signals = record { is_armed = st.signals.is_armed; hears = st.signals.hears; rings = st.signals.rings; few = omega (arith, st.signals.few); awake = off };
   doing = subst (λ (ps : List Piece). DriverStepStands (step.Describe 0) ps v.frame v.done v.doing) (sym same) (
     can_offer e v c st may,
     let some : 0 < length c = may.fits.chain.0 in omega arith,
     rests_at e.doing e.pieces.items v.frame v.done v.doing st.doing idle,
   );
+}
+
+-- and after the beginning of another operation
+pub begins : (e : SplitDriver) (v : DriverView) (t : DriverStep) → driver_begun e.doing e.pieces.items ≡ DriverOp.idle → DriverStands e v → (v.doing ≡ now.Idle → DriverStepStands t e.pieces.items v.frame v.done v.doing) → DriverStepArmed t e.armed → driver_owes t ≡ 0 → DriverStands (record e { doing = t }) v
+begins e v t idle st doing armed none = record {
+  made = st.made;
+  counts = st.counts;
+  holds = st.holds;
+  area = st.area;
+  wide = st.wide;
+  shown = st.shown;
+  kick = st.kick;
+  signals = record { is_armed = st.signals.is_armed; hears = st.signals.hears; rings = st.signals.rings; few = omega (arith, st.signals.few, none); awake = armed };
+  doing = doing (rests_at e.doing e.pieces.items v.frame v.done v.doing st.doing idle);
 }
 
 -- ---- the laws
@@ -87,6 +111,14 @@ ends_at step.Publish c h = absurd (omega arith)
 ends_at step.Look c h = absurd (omega arith)
 ends_at (step.Find r) c h = absurd (omega arith)
 ends_at (step.Finish r w) c h = absurd (omega arith)
+ends_at (step.Check old new) c h = absurd (omega arith)
+ends_at (step.Ring old new) c h = absurd (omega arith)
+ends_at step.Arm c h = absurd (omega arith)
+ends_at step.LookAgain c h = absurd (omega arith)
+ends_at step.Hear c h = absurd (omega arith)
+ends_at step.WakeArming c h = absurd (omega arith)
+ends_at step.WakeHearing c h = absurd (omega arith)
+ends_at step.Disarm c h = absurd (omega arith)
 
 -- ---- a control access of the end's holder
 
@@ -104,6 +136,14 @@ step_loaded step.Publish c f o d l y s = (can_loaded f o c l y s.0, s.1)
 step_loaded step.Look c f o d l y s = s
 step_loaded (step.Find r) c f o d l y s = s
 step_loaded (step.Finish r w) c f o d l y s = (s.0, record { number = s.1.number; is_open = s.1.is_open; is_head = s.1.is_head; next = s.1.next })
+step_loaded (step.Check old new) c f o d l y s = s
+step_loaded (step.Ring old new) c f o d l y s = s
+step_loaded step.Arm c f o d l y s = s
+step_loaded step.LookAgain c f o d l y s = s
+step_loaded step.Hear c f o d l y s = s
+step_loaded step.WakeArming c f o d l y s = s
+step_loaded step.WakeHearing c f o d l y s = s
+step_loaded step.Disarm c f o d l y s = s
 
 places_stored : (f : Frame) (o : List DriverDone) (h i y : ℕ) → Places f o → Places f (StoreCommand h i y ∷ o)
 places_stored f o h i y p = record { once = p.once; sizes = p.sizes; as_many = p.as_many; listed = p.listed; is_open = p.is_open; count = p.count; fits = p.fits; limited = p.limited }
@@ -119,6 +159,14 @@ step_stored step.Publish c f o d h i y s = (can_stored f o c h i y s.0, s.1)
 step_stored step.Look c f o d h i y s = s
 step_stored (step.Find r) c f o d h i y s = s
 step_stored (step.Finish r w) c f o d h i y s = (s.0, record { number = s.1.number; is_open = s.1.is_open; is_head = s.1.is_head; next = s.1.next })
+step_stored (step.Check old new) c f o d h i y s = s
+step_stored (step.Ring old new) c f o d h i y s = s
+step_stored step.Arm c f o d h i y s = s
+step_stored step.LookAgain c f o d h i y s = s
+step_stored step.Hear c f o d h i y s = s
+step_stored step.WakeArming c f o d h i y s = s
+step_stored step.WakeHearing c f o d h i y s = s
+step_stored step.Disarm c f o d h i y s = s
 
 -- the end stands after an act that neither offers nor collects, and a store past its area
 after_ack : (e : SplitDriver) (v : DriverView) (l y : ℕ) → DriverStands e v → DriverStands e (record v { done = LoadAck l y ∷ v.done })
@@ -129,7 +177,8 @@ after_ack e v l y st = record {
   area = st.area;
   wide = st.wide;
   shown = st.shown;
-  silent = record { unarmed = st.silent.unarmed; unheard = st.silent.unheard; unrung = st.silent.unrung };
+  kick = st.kick;
+  signals = record { is_armed = st.signals.is_armed; hears = st.signals.hears; rings = st.signals.rings; few = st.signals.few; awake = st.signals.awake };
   doing = step_loaded e.doing e.pieces.items v.frame v.done v.doing l y st.doing;
 }
 
@@ -141,7 +190,8 @@ after_command e v h i p x y past st = record {
   area = copies_other (avail_from v.frame) ((v.frame.size + 6) / 4) e.area.items v.stored p x st.area (λ k a z. omega arith);
   wide = length-set v.stored p x ∙ st.wide;
   shown = st.shown;
-  silent = record { unarmed = st.silent.unarmed; unheard = st.silent.unheard; unrung = st.silent.unrung };
+  kick = st.kick;
+  signals = record { is_armed = st.signals.is_armed; hears = st.signals.hears; rings = st.signals.rings; few = st.signals.few; awake = st.signals.awake };
   doing = step_stored e.doing e.pieces.items v.frame v.done v.doing h i y st.doing;
 }
 
@@ -158,29 +208,15 @@ control_at _ e v a r st n = absurd n
 
 -- ---- no access changes what the ring was made with
 
-frame_at : (d : DriverNow) (v : DriverView) (o : Op) (a : Access) (r : ℕ) → (driver_after_at d v o a r).frame ≡ v.frame
-frame_at now.Idle v op.Collect (Load p) r = either (shows r (length (collects v.done)))
-  where
-    either : (b : Bool)
-        → (if b then record v { seen = shown_from r (length (collects v.done)); shown = false } else record v { seen = shown_from r (length (collects v.done)); shown = true; doing = now.Collecting (r ∷ []) }).frame ≡ v.frame
-    either true = refl
-    either false = refl
-frame_at now.Idle v op.Offer (Store p x) r = refl
-frame_at (now.Offering ps) v op.Offer (Store p x) r = refl
-frame_at (now.Entered ps) v op.Offer (Store p x) r = refl
-frame_at (now.Collecting (g ∷ [])) v op.Collect (Load p) r = refl
-frame_at (now.Collecting (g ∷ w ∷ [])) v op.Collect (Load p) r = refl
-frame_at now.Idle v op.Control (Store p x) r = refl
-frame_at now.Idle v op.Control (Load p) r = refl
-frame_at _ v _ _ r = refl
-
 pub driver_laws : IsLawfulDriver split_driver
 driver_laws = record {
   sized = λ e v st. (st.made.sized, st.made.featured);
   at_rest = λ e v st idle. rests_at e.doing e.pieces.items v.frame v.done v.doing st.doing idle;
   ends = λ e none. ends_at e.doing e.pieces.items none;
   control = λ e v a r st n. control_at v.doing e v a r st n;
-  framed = λ v o a r. frame_at v.doing v o a r;
+  framed = λ v o a r. driver_frame v o a r;
+  armed = λ e v st on. (length (collects v.done), is_armed e v st on);
+  unarmed = λ e v st off. not_armed e v st off;
   places = λ e v st. st.holds.held;
   controls = driver_controls;
 }

@@ -34,7 +34,7 @@ use Rattle.vd_layout.specs.Driver.{DriverSays, IsDriverStep}
 use Rattle.vd_split.specs.declared.driver.SplitDriver.{SplitDriver}
 use Rattle.vd_split.specs.declared.driver.Slot.{Slot}
 use Rattle.vd_split.specs.declared.driver.DriverStep.TheVariants as step
-use Rattle.vd_split.specs.DriverEnd.{HoldsPlaces, DriverStands, DriverStepStands, Keeps, offering, driver_begun, driver_left, split_driver}
+use Rattle.vd_split.specs.DriverEnd.{HoldsPlaces, DriverStands, DriverStepStands, Keeps, offering, driver_begun, driver_left, split_driver, not_armed, DriverStepArmed, driver_owes}
 use Rattle.vd_split.specs.Parts.{next_place, described_step}
 use Rattle.vd_split.specs.Plans.{plan_is, enough, plan_length, begins_at, next_mod, copies_set, copies_other}
 
@@ -89,6 +89,7 @@ describe_goes e v at r is st =
     let l : IsLawful f = st.made.lawful in let b : IsBuilt f = st.made.built in
     let n : DriverStepStands (step.Describe at) c f o v.doing = subst (λ t. DriverStepStands t c f o v.doing) is st.doing in
     let can : CanOffer f o c = n.0 in
+    let off : e.armed ≡ false = subst (λ t. DriverStepArmed t e.armed) is st.signals.awake in
     let below : at < 2 * length c = n.1 in
     let len = plan_length f o c l b can in
     let places : List ℕ = take (length c) (free f o) in
@@ -102,7 +103,7 @@ describe_goes e v at r is st =
     let is_after = ap (λ t. driver_after_at t v op.Offer (Store s.place s.word) r) n.2 ∙ after_at v at ps s r none low in
     let e' : SplitDriver = record e { doing = described_step at (length c) } in
     record {
-      next = subst (λ t. DriverNextAt t v op.Offer (Store s.place s.word)) (sym n.2) (next_at v at ps s st.silent.unarmed none (begins_at f o c at can (omega arith)));
+      next = subst (λ t. DriverNextAt t v op.Offer (Store s.place s.word)) (sym n.2) (next_at v at ps s (not_armed e v st off) none (begins_at f o c at can (omega arith)));
       stands = subst (λ w. DriverStands e' w) (sym is_after) record {
         made = st.made;
         counts = st.counts;
@@ -110,7 +111,8 @@ describe_goes e v at r is st =
         area = copies_other (avail_from f) ((f.size + 6) / 4) e.area.items v.stored s.place s.word st.area (λ i a z. omega arith);
         wide = length-set v.stored s.place s.word ∙ st.wide;
         shown = st.shown;
-        silent = record { unarmed = st.silent.unarmed; unheard = st.silent.unheard; unrung = st.silent.unrung };
+        kick = st.kick;
+        signals = record { is_armed = st.signals.is_armed; hears = st.signals.hears; rings = st.signals.rings; few = owes (nat_lt (at + 1) (2 * length c)) (omega (arith, st.signals.few)); awake = stays (nat_lt (at + 1) (2 * length c)) off };
         doing = which (nat_lt (at + 1) (2 * length c)) refl can more len;
       };
       is = sym (ap (λ t. driver_act_at t v op.Offer (Store s.place s.word) r) n.2 ∙ act_at v at ps s.place s.word r);
@@ -119,6 +121,14 @@ describe_goes e v at r is st =
           (begun (nat_lt (at + 1) (2 * length c)), ap (λ (w : DriverView). w.done) is_after);
     }
   where
+    owes : (b : Bool) → e.bells ≤ e.offered → e.bells + driver_owes (if b then step.Describe (at + 1) else step.Enter) ≤ e.offered
+    owes true h = omega arith
+    owes false h = omega arith
+
+    stays : (b : Bool) → e.armed ≡ false → DriverStepArmed (if b then step.Describe (at + 1) else step.Enter) e.armed
+    stays true h = h
+    stays false h = h
+
     which : (b : Bool) → nat_lt (at + 1) (2 * length e.pieces.items) ≡ b → CanOffer v.frame v.done e.pieces.items
         → take at (plan v.frame v.done e.pieces.items) ++ slice_index_or (plan v.frame v.done e.pieces.items) at (put 0 0) ∷ [] ≡ take (at + 1) (plan v.frame v.done e.pieces.items)
         → length (plan v.frame v.done e.pieces.items) ≡ 2 * length e.pieces.items
@@ -128,7 +138,7 @@ describe_goes e v at r is st =
         let h = ltb-false (at + 1) (2 * length e.pieces.items) eq in
         (can, ap now.Offering (more ∙ take_all (at + 1) (plan v.frame v.done e.pieces.items) (omega arith)))
 
-    shorter : (b : Bool) → nat_lt (at + 1) (2 * length e.pieces.items) ≡ b → at < 2 * length e.pieces.items → driver_left (if b then step.Describe (at + 1) else step.Enter) e.pieces.items < 2 * length e.pieces.items - at + 2
+    shorter : (b : Bool) → nat_lt (at + 1) (2 * length e.pieces.items) ≡ b → at < 2 * length e.pieces.items → driver_left (if b then step.Describe (at + 1) else step.Enter) e.pieces.items < 2 * length e.pieces.items - at + 4
     shorter true eq below = omega (arith, ltb-true (at + 1) (2 * length e.pieces.items) eq)
     shorter false eq below = omega arith
 
@@ -170,6 +180,7 @@ enter_at e v i r x is st here word =
     let n : DriverStepStands step.Enter c f o v.doing = subst (λ t. DriverStepStands t c f o v.doing) is st.doing in
     let j : ℕ = entry_lane f (length (offers o)) in
     let below = lane_below f (length (offers o)) st.made.lawful in
+    let off : e.armed ≡ false = subst (λ t. DriverStepArmed t e.armed) is st.signals.awake in
     let p : ℕ = avail_from f + i in
     let at : p ≡ lane_word f j = ap (λ k. avail_from f + k) here in
     let is_after = ap (λ t. driver_after_at t v op.Offer (Store p x) r) n.1 ∙ ap (λ (b : Bool). stores v p x (if b then now.Entered pl else now.Offering (pl ++ put p x ∷ []))) (eq-eqb p (lane_word f j) at) in
@@ -183,11 +194,12 @@ enter_at e v i r x is st here word =
         area = copies_set (avail_from f) ((f.size + 6) / 4) e.area.items v.stored i x st.area (omega arith) (omega (arith, st.wide, areas f));
         wide = length-set v.stored p x ∙ st.wide;
         shown = st.shown;
-        silent = record { unarmed = st.silent.unarmed; unheard = st.silent.unheard; unrung = st.silent.unrung };
+        kick = st.kick;
+        signals = record { is_armed = st.signals.is_armed; hears = st.signals.hears; rings = st.signals.rings; few = omega (arith, st.signals.few); awake = off };
         doing = (n.0, refl);
       };
       is = sym (ap (λ t. driver_act_at t v op.Offer (Store p x) r) n.1);
-      left = subst (λ t. 1 < driver_left t c) (sym is) (let z : 1 < 2 = omega arith in z);
+      left = subst (λ t. 3 < driver_left t c) (sym is) (let z : 3 < 4 = omega arith in z);
       says = subst (λ t. DriverSays act.Moved (driver_begun t c) (Rattle.vd_layout.specs.Begun.DriverOp.offer c) f o (driver_after v op.Offer (Store p x) r).done) (sym is) (refl, ap (λ (w : DriverView). w.done) is_after);
     }
 
@@ -252,22 +264,23 @@ holds_more queue capacity slots f o c s h l b can number taken =
 pub publish_goes : (e : SplitDriver) (v : DriverView) (r x : ℕ) (e' : SplitDriver) (s : Slot) → e.doing ≡ step.Publish → DriverStands e v
     → x ≡ set_lane16 (slice_index e.area.items 0) 1 ((e.offered + 1) % 65536)
     → e'.free.items ≡ drop (length e.pieces.items) e.free.items → e'.free.capacity ≡ e.free.capacity → s.number ≡ e.offered → s.places.items ≡ take (length e.pieces.items) e.free.items
-    → Goes e (record e { offered = e.offered + 1; entry = next_place e.entry e.size; free = e'.free; slots = with_item e.slots (slice_index e.free.items 0) s; area = with_item e.area 0 x; doing = step.Idle }) v op.Offer (Store (2 * e.size) x) r (act.Offered e.offered)
+    → Goes e (record e { offered = e.offered + 1; entry = next_place e.entry e.size; free = e'.free; slots = with_item e.slots (slice_index e.free.items 0) s; area = with_item e.area 0 x; doing = step.Check e.offered (e.offered + 1) }) v op.Offer (Store (2 * e.size) x) r (act.Offered e.offered)
 publish_goes e v r x e' s is st word left capacity number taken =
     let f : Frame = v.frame in let o : List DriverDone = v.done in let c : List Piece = e.pieces.items in
     let m : ℕ = length (offers o) in
     let l : IsLawful f = st.made.lawful in let b : IsBuilt f = st.made.built in
     let n : DriverStepStands step.Publish c f o v.doing = subst (λ t. DriverStepStands t c f o v.doing) is st.doing in
     let can : CanOffer f o c = n.0 in
+    let off : e.armed ≡ false = subst (λ t. DriverStepArmed t e.armed) is st.signals.awake in
     let ps : List Put = plan f o c in
     let ds : List ℕ = take (length c) (free f o) in
     let spelled : staged_chain f (words_of ps) ≡ c = staged_is f (words_of ps) b ∙ ap (λ (us : List Put). pieces_of (words_of us)) (plan_is f o c l b) ∙ pieces_back 0 ds c (length-take-le (length c) (free f o) (enough f o c b can)) can.fits.chain.3 in
     let p : ℕ = avail_from f + 0 in
     let value : x ≡ with_lane f v.stored 1 ((m + 1) % 65536) = word ∙ ap (λ w. set_lane16 w 1 ((e.offered + 1) % 65536)) (st.area.same 0 (omega (arith, l.some_place))) ∙ ap (λ k. set_lane16 (slice_index v.stored p) 1 ((k + 1) % 65536)) st.counts.offers in
-    let e2 : SplitDriver = record e { offered = e.offered + 1; entry = next_place e.entry e.size; free = e'.free; slots = with_item e.slots (slice_index e.free.items 0) s; area = with_item e.area 0 x; doing = step.Idle } in
+    let e2 : SplitDriver = record e { offered = e.offered + 1; entry = next_place e.entry e.size; free = e'.free; slots = with_item e.slots (slice_index e.free.items 0) s; area = with_item e.area 0 x; doing = step.Check e.offered (e.offered + 1) } in
     let longer = length_push (offers o) c in
-    let is_after : driver_after v op.Offer (Store p x) r ≡ record v { done = Offer c ∷ o; stored = slice_set v.stored p x; doing = now.Idle } =
-    ap (λ t. driver_after_at t v op.Offer (Store p x) r) n.1 ∙ ap (λ (cs : List Piece). record v { done = Offer cs ∷ o; stored = slice_set v.stored p x; doing = now.Idle }) spelled in
+    let is_after : driver_after v op.Offer (Store p x) r ≡ record v { done = Offer c ∷ o; stored = slice_set v.stored p x; doing = now.Checking m (m + 1) } =
+    ap (λ t. driver_after_at t v op.Offer (Store p x) r) n.1 ∙ ap (λ (cs : List Piece). record v { done = Offer cs ∷ o; stored = slice_set v.stored p x; doing = now.Checking m (m + 1) }) spelled in
     let held : HoldsPlaces e'.free.items e'.free.capacity (slice_set e.slots.items (slice_index e.free.items 0) s) f (Offer c ∷ o) =
     subst (λ q. HoldsPlaces q e'.free.capacity (slice_set e.slots.items (slice_index e.free.items 0) s) f (Offer c ∷ o)) (sym left)
     (subst (λ k. HoldsPlaces (drop (length c) e.free.items) k (slice_set e.slots.items (slice_index e.free.items 0) s) f (Offer c ∷ o)) (sym capacity)
@@ -286,13 +299,14 @@ publish_goes e v r x e' s is st word left capacity number taken =
         area = copies_set (avail_from f) ((f.size + 6) / 4) e.area.items v.stored 0 x st.area (omega (arith, l.some_place)) (omega (arith, st.wide, areas f));
         wide = length-set v.stored p x ∙ st.wide;
         shown = st.shown;
-        silent = record { unarmed = st.silent.unarmed; unheard = st.silent.unheard; unrung = st.silent.unrung };
-        doing = refl;
+        kick = st.kick;
+        signals = record { is_armed = st.signals.is_armed; hears = st.signals.hears; rings = st.signals.rings; few = omega (arith, st.signals.few); awake = off };
+        doing = (ap (λ k. now.Checking k (k + 1)) (sym st.counts.offers), omega arith, omega arith);
       };
       is = ap act.Offered st.counts.offers ∙ sym (ap (λ t. driver_act_at t v op.Offer (Store p x) r) n.1);
-      left = subst (λ t. 0 < driver_left t c) (sym is) (let z : 0 < 1 = omega arith in z);
-      says = subst (λ t. DriverSays (act.Offered e.offered) (driver_begun t c) Rattle.vd_layout.specs.Begun.DriverOp.idle f o (driver_after v op.Offer (Store p x) r).done) (sym is)
-          (c, refl, inl refl, st.counts.offers, ap (λ (w : DriverView). w.done) is_after);
+      left = subst (λ t. 2 < driver_left t c) (sym is) (let z : 2 < 3 = omega arith in z);
+      says = subst (λ t. DriverSays (act.Offered e.offered) (driver_begun t c) Rattle.vd_layout.specs.Begun.DriverOp.signal f o (driver_after v op.Offer (Store p x) r).done) (sym is)
+          (c, refl, inr refl, st.counts.offers, ap (λ (w : DriverView). w.done) is_after);
     }
 
 pub publish_head : (e : SplitDriver) (v : DriverView) → e.doing ≡ step.Publish → DriverStands e v → (0 < length e.free.items) × (length e.pieces.items ≤ length e.free.items) × (slice_index e.free.items 0 < length e.slots.items)

@@ -12,3 +12,5 @@ pub mod DeviceLaws
 pub mod SplitLayout
 pub mod Rig
 pub mod Tracked
+pub mod DriverBells
+pub mod DeviceBells

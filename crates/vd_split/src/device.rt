@@ -6,10 +6,12 @@ mod end;
 mod give;
 mod make;
 mod running;
+mod signal;
+mod sleep;
 mod take;
 
 /// What the next step does. A take has the index word that it loaded, its chain's head and the next descriptor's place;
-/// a give has the chain's number and head, and the length.
+/// a give has the chain's number and head, and the length. `Check` has the published range, its end not included.
 #[derive(Copy, Clone)]
 pub enum DeviceStep {
     Idle,
@@ -22,7 +24,16 @@ pub enum DeviceStep {
     Name(u32, u32, u32),
     Measure(u32, u32, u32),
     Publish(u32, u32, u32),
+    Check(u64, u64),
+    Ring(u64, u64),
+    Arm,
+    LookAgain,
+    Hear,
+    WakeArming,
+    WakeHearing,
+    Disarm,
     Rest,
+    RestLook,
 }
 
 /// The device's end of a split ring.
@@ -42,6 +53,12 @@ pub struct SplitDevice {
     // a copy of the device area, whose words hold several entries' parts
     pub(crate) area: Vec<u64>,
     pub(crate) shown: bool,
+    // the place of the driver's bell; the own one is the next
+    pub(crate) kick: u32,
+    // whether it is armed, the bell heard last, and the number of bells stored
+    pub(crate) armed: bool,
+    pub(crate) heard: u64,
+    pub(crate) bells: u64,
     // what a take has loaded so far
     pub(crate) pieces: ArrayVec<Piece, 16>,
     pub(crate) addr: u64,

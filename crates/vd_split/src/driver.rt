@@ -3,13 +3,19 @@ use arrayvec::ArrayVec;
 use circular_buffer::HeapCircularBuffer;
 use vd_model::{Features, Piece};
 
+pub(crate) use make::kick_place;
+pub(crate) use signal::wanted;
+pub(crate) use sleep::{own_lane, own_value};
+
 mod collect;
 mod end;
 mod make;
 mod offer;
+mod signal;
+mod sleep;
 
 /// What the next step does. `Describe` has the number of descriptor words stored so far; `Find` and `Finish` have the
-/// words loaded.
+/// words loaded. `Check` has the published range, its end not included.
 #[derive(Copy, Clone)]
 pub enum DriverStep {
     Idle,
@@ -19,6 +25,14 @@ pub enum DriverStep {
     Look,
     Find(u64),
     Finish(u64, u64),
+    Check(u64, u64),
+    Ring(u64, u64),
+    Arm,
+    LookAgain,
+    Hear,
+    WakeArming,
+    WakeHearing,
+    Disarm,
 }
 
 /// An open chain, kept at its head: its number, and its places in order.
@@ -44,6 +58,12 @@ pub struct SplitDriver {
     // a copy of the driver area, whose words hold several lanes
     pub(crate) area: Vec<u64>,
     pub(crate) shown: bool,
+    // the place of the own bell; the other side's is the next one
+    pub(crate) kick: u32,
+    // whether it is armed, the bell heard last, and the number of bells stored
+    pub(crate) armed: bool,
+    pub(crate) heard: u64,
+    pub(crate) bells: u64,
     // the chain of an offer in progress
     pub(crate) pieces: ArrayVec<Piece, 16>,
     pub(crate) doing: DriverStep,

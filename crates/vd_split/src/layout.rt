@@ -33,9 +33,8 @@ impl Layout for Split {
         f: Features,
         control: bool,
     ) -> Result<(SplitDriver, SplitDevice), AllocError> {
-        let _ = control;
-        let driver = SplitDriver::make(alloc, size, f)?;
-        let device = SplitDevice::make(alloc, size, f)?;
+        let driver = SplitDriver::make(alloc, size, f, control)?;
+        let device = SplitDevice::make(alloc, size, f, control)?;
         Ok((driver, device))
     }
 
@@ -80,7 +79,7 @@ fn acks_area(size: u32, indirect: bool, control: bool) -> u32
 }
 
 /// How many words there are: behind the acks stand two bells.
-fn all_words(size: u32, indirect: bool, control: bool) -> u32
+pub(crate) fn all_words(size: u32, indirect: bool, control: bool) -> u32
     requires { size ≤ 32768 }
     ensures { result ≡ all_words size indirect control }
 {

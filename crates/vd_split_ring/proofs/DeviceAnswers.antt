@@ -1,5 +1,5 @@
 -- What each answer of the device means: the chain taken, the used entry given, when nothing is left, and a rest.
-use Rattle.std.proofs.Common.{◌≡◌, ℕ, ◌+◌, ◌%◌, ◌<◌, Bool, true, false, List, [], ◌∷◌, ◌++◌, length, if◌then◌else◌, slice_index, slice_set, Some, refl, sym, ap, ◌∙◌, subst, arith, inl}
+use Rattle.std.proofs.Common.{◌≡◌, ℕ, ◌+◌, ◌%◌, ◌<◌, ◌==◌, Bool, true, false, List, [], ◌∷◌, ◌++◌, length, if◌then◌else◌, slice_index, slice_set, Some, refl, sym, ap, ◌∙◌, subst, arith, inl}
 use Rattle.std.specs.List.{Contains}
 use Rattle.std.proofs.lemmas.Bool.{eqb-true, eq-eqb}
 use Rattle.std.proofs.lemmas.List.{length_push, get_or_push, get_or-take}
@@ -20,7 +20,7 @@ use Rattle.vd_ring.specs.declared.driver.DriverView.{DriverView}
 use Rattle.vd_ring.specs.declared.device.DeviceDone.{DeviceDone}
 use Rattle.vd_ring.specs.declared.device.DeviceDone.TheVariants.{Take, Give, Rest}
 use Rattle.vd_ring.specs.declared.device.DeviceNow.{DeviceNow}
-use Rattle.vd_ring.specs.declared.device.DeviceNow.TheVariants.{Idle, Taking, Giving}
+use Rattle.vd_ring.specs.declared.device.DeviceNow.TheVariants.{Idle, Taking, Giving, Checking, Ringing, Arming, Disarming, Resting}
 use Rattle.vd_ring.specs.declared.device.DeviceView.{DeviceView}
 use Rattle.vd_ring.specs.DeviceSteps.{Did}
 use Rattle.vd_ring.specs.Batches.{IsEntry}
@@ -67,6 +67,11 @@ take_no_give : (c : Bool) (j k : ℕ) (ch : List Piece) → (if c then act.Taken
 take_no_give true j k ch e = cc
 take_no_give false j k ch e = cc
 
+again_no_give : (quiet : DeviceAct) (b c : Bool) (k : ℕ) → (quiet ≡ act.Given k → ⊥) → (if b then quiet else (if c then act.Awake else act.Moved)) ≡ act.Given k → ⊥
+again_no_give quiet true c k never e = never e
+again_no_give quiet false true k never e = cc
+again_no_give quiet false false k never e = cc
+
 -- the words after the store of the index
 gives_at : (ws : List ℕ) (d : DriverView) (e : DeviceView) (a b p x k : ℕ) → Ring ws d (record e { frame = d.frame; doing = Giving (a ∷ b ∷ []) }) → (h : DeviceNextAt (Giving (a ∷ b ∷ [])) (record e { frame = d.frame; doing = Giving (a ∷ b ∷ []) }) op.Give (Store p x))
     → (last_used (given d.frame e.done (lane32 a 1) (lane32 b 0))).number ≡ k → IsGiven ws d (record e { frame = d.frame; doing = Giving (a ∷ b ∷ []) }) op.Give (Store p x) k
@@ -104,7 +109,18 @@ given_at ws d e (Taking (g ∷ w ∷ ss)) op.Take (Load p) k r h is =
 given_at ws d e Idle op.Give (Store p x) k r h is = absurd cc
 given_at ws d e (Giving (a ∷ [])) op.Give (Store p x) k r h is = absurd cc
 given_at ws d e (Giving (a ∷ b ∷ [])) op.Give (Store p x) k r h is = gives_at ws d e a b p x k r h (let number : (last_used (given d.frame e.done (lane32 a 1) (lane32 b 0))).number ≡ k = cc in number)
+given_at ws d e (Checking old new) op.Give (Load p) k r h is = absurd cc
+given_at ws d e (Ringing old new) op.Give (Store p x) k r h is = absurd cc
+given_at ws d e Idle op.Arm (Store p x) k r h is = absurd cc
+given_at ws d e Arming op.Arm (Load p) k r h is = absurd (again_no_give act.Armed (shows (slice_index ws p) (length (takes e.done))) d.frame.features.event_idx k (λ is. cc) is)
+given_at ws d e (Disarming j) op.Arm (Store p x) k r h is = absurd cc
+given_at ws d e (Disarming j) op.Hear (Store p x) k r h is = absurd cc
+given_at ws d e Idle op.Hear (Load p) k r h is = absurd (again_no_give act.Asleep (slice_index ws p == e.heard) d.frame.features.event_idx k (λ is. cc) is)
+given_at ws d e Idle op.Disarm (Store p x) k r h is = absurd cc
+given_at ws d e Idle op.Disarm (Load p) k r h is = absurd cc
+given_at ws d e Idle op.Rest (Store p x) k r h is = absurd cc
 given_at ws d e Idle op.Rest (Load p) k r h is = absurd cc
+given_at ws d e Resting op.Rest (Load p) k r h is = absurd cc
 given_at ws d e Idle op.Control (Load p) k r h is = absurd cc
 given_at ws d e Idle op.Control (Store p x) k r h is = absurd cc
 given_at ws d e _ _ _ k r h is = absurd h
@@ -129,6 +145,11 @@ take_not_nothing : (c : Bool) (j : ℕ) (ch : List Piece) → (if c then act.Tak
 take_not_nothing true j ch is = cc
 take_not_nothing false j ch is = cc
 
+again_not_nothing : (quiet : DeviceAct) (b c : Bool) → (quiet ≡ act.Nothing → ⊥) → (if b then quiet else (if c then act.Awake else act.Moved)) ≡ act.Nothing → ⊥
+again_not_nothing quiet true c never e = never e
+again_not_nothing quiet false true never e = cc
+again_not_nothing quiet false false never e = cc
+
 nothing_at : (ws : List ℕ) (d : DriverView) (e : DeviceView) (doing : DeviceNow) (o : Op) (a : Access) → Ring ws d (record e { frame = d.frame; doing = doing }) → DeviceNextAt doing (record e { frame = d.frame; doing = doing }) o a
     → LooksNothing ws d (record e { frame = d.frame; doing = doing }) o a
 nothing_at ws d e Idle op.Take (Load p) r h =
@@ -146,7 +167,18 @@ nothing_at ws d e (Taking (g ∷ w ∷ ss)) op.Take (Load p) r h =
 nothing_at ws d e Idle op.Give (Store p x) r h = other_answer ws d (record e { frame = d.frame; doing = Idle }) op.Give (Store p x) (λ is. cc) (λ idle take. cc)
 nothing_at ws d e (Giving (a ∷ [])) op.Give (Store p x) r h = other_answer ws d (record e { frame = d.frame; doing = Giving (a ∷ []) }) op.Give (Store p x) (λ is. cc) (λ idle take. cc)
 nothing_at ws d e (Giving (a ∷ b ∷ [])) op.Give (Store p x) r h = other_answer ws d (record e { frame = d.frame; doing = Giving (a ∷ b ∷ []) }) op.Give (Store p x) (λ is. cc) (λ idle take. cc)
+nothing_at ws d e (Checking old new) op.Give (Load p) r h = other_answer ws d (record e { frame = d.frame; doing = Checking old new }) op.Give (Load p) (λ is. cc) (λ idle take. cc)
+nothing_at ws d e (Ringing old new) op.Give (Store p x) r h = other_answer ws d (record e { frame = d.frame; doing = Ringing old new }) op.Give (Store p x) (λ is. cc) (λ idle take. cc)
+nothing_at ws d e Idle op.Arm (Store p x) r h = other_answer ws d (record e { frame = d.frame; doing = Idle }) op.Arm (Store p x) (λ is. cc) (λ idle take. cc)
+nothing_at ws d e Arming op.Arm (Load p) r h = other_answer ws d (record e { frame = d.frame; doing = Arming }) op.Arm (Load p) (λ is. again_not_nothing act.Armed (shows (slice_index ws p) (length (takes e.done))) d.frame.features.event_idx (λ is. cc) is) (λ idle take. cc)
+nothing_at ws d e (Disarming j) op.Arm (Store p x) r h = other_answer ws d (record e { frame = d.frame; doing = Disarming j }) op.Arm (Store p x) (λ is. cc) (λ idle take. cc)
+nothing_at ws d e (Disarming j) op.Hear (Store p x) r h = other_answer ws d (record e { frame = d.frame; doing = Disarming j }) op.Hear (Store p x) (λ is. cc) (λ idle take. cc)
+nothing_at ws d e Idle op.Hear (Load p) r h = other_answer ws d (record e { frame = d.frame; doing = Idle }) op.Hear (Load p) (λ is. again_not_nothing act.Asleep (slice_index ws p == e.heard) d.frame.features.event_idx (λ is. cc) is) (λ idle take. cc)
+nothing_at ws d e Idle op.Disarm (Store p x) r h = other_answer ws d (record e { frame = d.frame; doing = Idle }) op.Disarm (Store p x) (λ is. cc) (λ idle take. cc)
+nothing_at ws d e Idle op.Disarm (Load p) r h = other_answer ws d (record e { frame = d.frame; doing = Idle }) op.Disarm (Load p) (λ is. cc) (λ idle take. cc)
+nothing_at ws d e Idle op.Rest (Store p x) r h = other_answer ws d (record e { frame = d.frame; doing = Idle }) op.Rest (Store p x) (λ is. cc) (λ idle take. cc)
 nothing_at ws d e Idle op.Rest (Load p) r h = other_answer ws d (record e { frame = d.frame; doing = Idle }) op.Rest (Load p) (λ is. cc) (λ idle take. cc)
+nothing_at ws d e Resting op.Rest (Load p) r h = other_answer ws d (record e { frame = d.frame; doing = Resting }) op.Rest (Load p) (λ is. cc) (λ idle take. cc)
 nothing_at ws d e Idle op.Control (Load p) r h = other_answer ws d (record e { frame = d.frame; doing = Idle }) op.Control (Load p) (λ is. cc) (λ idle take. cc)
 nothing_at ws d e Idle op.Control (Store p x) r h = other_answer ws d (record e { frame = d.frame; doing = Idle }) op.Control (Store p x) (λ is. cc) (λ idle take. cc)
 nothing_at ws d e _ _ _ r h = absurd h

@@ -1,5 +1,5 @@
 -- What each answer of the device does to the bag of the ring's chains.
-use Rattle.std.proofs.Common.{◌≡◌, ℕ, Bool, true, false, List, [], ◌∷◌, ◌++◌, length, if◌then◌else◌, slice_index, refl, sym, ◌∙◌, subst, arith}
+use Rattle.std.proofs.Common.{◌≡◌, ℕ, ◌==◌, Bool, true, false, None, List, [], ◌∷◌, ◌++◌, length, if◌then◌else◌, slice_index, refl, sym, ◌∙◌, subst, arith}
 use Rattle.vd_bits.specs.Lanes.{lane32}
 use Rattle.vd_model.specs.declared.chain.Piece.{Piece}
 use Rattle.vd_words.specs.declared.access.Access.{Access}
@@ -15,13 +15,13 @@ use Rattle.vd_ring.specs.declared.driver.DriverView.{DriverView}
 use Rattle.vd_ring.specs.declared.device.DeviceDone.{DeviceDone}
 use Rattle.vd_ring.specs.declared.device.DeviceDone.TheVariants.{Give}
 use Rattle.vd_ring.specs.declared.device.DeviceNow.{DeviceNow}
-use Rattle.vd_ring.specs.declared.device.DeviceNow.TheVariants.{Idle, Taking, Giving}
+use Rattle.vd_ring.specs.declared.device.DeviceNow.TheVariants.{Idle, Taking, Giving, Checking, Ringing, Arming, Disarming, Resting}
 use Rattle.vd_ring.specs.declared.device.DeviceView.{DeviceView}
 use Rattle.vd_ring.specs.Bag.{State, Stands}
 use Rattle.vd_ring.specs.History.{offers, takes, gives, running, given, entry, last_used}
 use Rattle.vd_ring.specs.Steps.{StandsFor, DeviceBagStep}
 use Rattle.vd_split_ring.specs.SplitWords.{shows, shown_from, is_whole, chain_of}
-use Rattle.vd_split_ring.specs.SplitDevice.{DeviceNextAt, DeviceNext, device_takes, loaded_head, BeginsRest}
+use Rattle.vd_split_ring.specs.SplitDevice.{DeviceNextAt, DeviceNext, device_takes, loaded_head, device_wakes}
 use Rattle.vd_split_ring.specs.SplitRing.{Ring, Gives, HasSeen}
 use Rattle.vd_split_ring.specs.SplitDeviceLaws.{device_answer, device_done, DeviceBags}
 use Rattle.vd_ring.proofs.Counts.{occurs_from}
@@ -72,6 +72,22 @@ still ws d e o a b same also is st = record {
   stands = subst (λ (us : List Used). Stands (length (offers d.done)) (length (takes (device_done ws e o a))) us b) (sym same) (subst (λ (cs : List (List Piece)). Stands (length (offers d.done)) (length cs) (gives e.done) b) (sym also) st);
 }
 
+-- an access that wakes
+wakes_bag : (ws : List ℕ) (d : DriverView) (e : DeviceView) (o : Op) (a : Access) (b : List State) → gives (device_done ws e o a) ≡ gives e.done → takes (device_done ws e o a) ≡ takes e.done → device_answer ws e o a ≡ act.Awake → StandsFor d.done e.done b → DeviceBags ws d e o a b
+wakes_bag ws d e o a b same also is st = record {
+  entries = [];
+  gave = λ k give. absurd (let both : act.Awake ≡ act.Given k = sym is ∙ give in cc);
+  bag = b;
+  step = subst (λ (x : DeviceAct). DeviceBagStep d.frame.features.in_order [] x b b) (sym is) refl;
+  stands = subst (λ (us : List Used). Stands (length (offers d.done)) (length (takes (device_done ws e o a))) us b) (sym same) (subst (λ (cs : List (List Piece)). Stands (length (offers d.done)) (length cs) (gives e.done) b) (sym also) st);
+}
+
+again_bag : (in_order : Bool) (o : List DriverDone) (s : List DeviceDone) (v w : DeviceView) (quiet : DeviceAct) (b : List State) (t c : Bool) → ((k : ℕ) → quiet ≡ act.Given k → ⊥) → DeviceBagStep in_order [] quiet b b → v.done ≡ s → w.done ≡ s → StandsFor o s b
+    → Moves (if t then quiet else (if c then act.Awake else act.Moved)) in_order o s (if t then v else w).done b
+again_bag in_order o s v w quiet b true c never step is also st = record { entries = []; gave = λ k e. absurd (never k e); bag = b; step = step; stands = subst (λ (t : List DeviceDone). StandsFor o t b) (sym is) st }
+again_bag in_order o s v w quiet b false true never step is also st = record { entries = []; gave = λ k e. absurd cc; bag = b; step = refl; stands = subst (λ (t : List DeviceDone). StandsFor o t b) (sym also) st }
+again_bag in_order o s v w quiet b false false never step is also st = record { entries = []; gave = λ k e. absurd cc; bag = b; step = refl; stands = subst (λ (t : List DeviceDone). StandsFor o t b) (sym also) st }
+
 bag_at : (ws : List ℕ) (d : DriverView) (e : DeviceView) (doing : DeviceNow) (o : Op) (a : Access) (b : List State) → Ring ws d (record e { frame = d.frame; doing = doing }) → DeviceNextAt doing (record e { frame = d.frame; doing = doing }) o a
     → StandsFor d.done e.done b → DeviceBags ws d (record e { frame = d.frame; doing = doing }) o a b
 bag_at ws d e Idle op.Take (Load p) b r h st =
@@ -88,9 +104,28 @@ bag_at ws d e Idle op.Give (Store p x) b r h st = still ws d (record e { frame =
 bag_at ws d e (Giving (a ∷ [])) op.Give (Store p x) b r h st = still ws d (record e { frame = d.frame; doing = Giving (a ∷ []) }) op.Give (Store p x) b refl refl refl st
 bag_at ws d e (Giving (a ∷ c ∷ [])) op.Give (Store p x) b r h st =
     let m = gives_bag ws d e a c b r st in record { entries = m.entries; gave = m.gave; bag = m.bag; step = m.step; stands = m.stands }
-bag_at ws d e Idle op.Rest (Load p) b r h st =
-    let n : BeginsRest d.frame e.done p = h in
-    let back = take_back_step d.frame d.done e.done b r.lists (lists_rested d.frame d.done e.done r.lists n.whole) n.whole st in
+bag_at ws d e (Checking old new) op.Give (Load p) b r h st = still ws d (record e { frame = d.frame; doing = Checking old new }) op.Give (Load p) b refl refl refl st
+bag_at ws d e (Ringing old new) op.Give (Store p x) b r h st = still ws d (record e { frame = d.frame; doing = Ringing old new }) op.Give (Store p x) b refl refl refl st
+bag_at ws d e Idle op.Arm (Store p x) b r h st = still ws d (record e { frame = d.frame; doing = Idle }) op.Arm (Store p x) b refl refl refl st
+bag_at ws d e Arming op.Arm (Load p) b r h st =
+    let g : ℕ = slice_index ws p in let t : ℕ = length (takes e.done) in
+    let E : DeviceView = record e { frame = d.frame; doing = Arming } in
+    let m = again_bag d.frame.features.in_order d.done e.done (record E { seen = shown_from g t; shown = false; doing = Idle }) (record E { seen = shown_from g t; shown = true; armed = None; doing = device_wakes d.frame op.Arm }) act.Armed b (shows g t) d.frame.features.event_idx (λ k is. absurd cc) refl refl refl st in
+    record { entries = m.entries; gave = m.gave; bag = m.bag; step = m.step; stands = m.stands }
+bag_at ws d e (Disarming k) op.Arm (Store p x) b r h st = wakes_bag ws d (record e { frame = d.frame; doing = Disarming k }) op.Arm (Store p x) b refl refl refl st
+bag_at ws d e (Disarming k) op.Hear (Store p x) b r h st = wakes_bag ws d (record e { frame = d.frame; doing = Disarming k }) op.Hear (Store p x) b refl refl refl st
+bag_at ws d e Idle op.Hear (Load p) b r h st =
+    let g : ℕ = slice_index ws p in
+    let E : DeviceView = record e { frame = d.frame; doing = Idle } in
+    let m = again_bag d.frame.features.in_order d.done e.done E (record E { heard = g; armed = None; doing = device_wakes d.frame op.Hear }) act.Asleep b (g == e.heard) d.frame.features.event_idx (λ k is. absurd cc) refl refl refl st in
+    record { entries = m.entries; gave = m.gave; bag = m.bag; step = m.step; stands = m.stands }
+bag_at ws d e Idle op.Disarm (Store p x) b r h st = wakes_bag ws d (record e { frame = d.frame; doing = Idle }) op.Disarm (Store p x) b refl refl refl st
+bag_at ws d e Idle op.Disarm (Load p) b r h st = wakes_bag ws d (record e { frame = d.frame; doing = Idle }) op.Disarm (Load p) b refl refl refl st
+bag_at ws d e Idle op.Rest (Store p x) b r h st = still ws d (record e { frame = d.frame; doing = Idle }) op.Rest (Store p x) b refl refl refl st
+bag_at ws d e Idle op.Rest (Load p) b r h st = still ws d (record e { frame = d.frame; doing = Idle }) op.Rest (Load p) b refl refl refl st
+bag_at ws d e Resting op.Rest (Load p) b r h st =
+    let whole : Rattle.vd_ring.specs.History.IsWhole e.done = r.device_doing in
+    let back = take_back_step d.frame d.done e.done b r.lists (lists_rested d.frame d.done e.done r.lists whole) whole st in
     record { entries = []; gave = λ k is. absurd cc; bag = back.0; step = back.1; stands = back.2 }
 bag_at ws d e Idle op.Control (Load p) b r h st = still ws d (record e { frame = d.frame; doing = Idle }) op.Control (Load p) b refl refl refl st
 bag_at ws d e Idle op.Control (Store p x) b r h st = still ws d (record e { frame = d.frame; doing = Idle }) op.Control (Store p x) b refl refl refl st

@@ -1,5 +1,5 @@
 -- The accesses of a give and of a rest keep the ring invariant.
-use Rattle.std.proofs.Common.{◌≡◌, ◌≢◌, ℕ, ◌+◌, ◌%◌, ◌<◌, ◌≤◌, true, List, [], ◌∷◌, ◌++◌, length, take, Some, slice_index, slice_set, None, refl, sym, ap, ◌∙◌, subst, arith, inl, inr}
+use Rattle.std.proofs.Common.{◌≡◌, ◌≢◌, ℕ, ◌+◌, ◌%◌, ◌<◌, ◌≤◌, true, false, List, [], ◌∷◌, ◌++◌, length, take, Some, slice_index, slice_set, None, refl, sym, ap, ◌∙◌, subst, arith, inl, inr}
 use Rattle.std.proofs.lemmas.Bool.{cases_eq}
 use Rattle.std.proofs.lemmas.List.{length_push, length-take-le, get_or-set_same, get_or-set_other}
 use Rattle.std.proofs.lemmas.Nat.{mod_below}
@@ -11,13 +11,15 @@ use Rattle.vd_ring.specs.declared.driver.DriverDone.{DriverDone}
 use Rattle.vd_ring.specs.declared.driver.DriverView.{DriverView}
 use Rattle.vd_ring.specs.declared.device.DeviceDone.{DeviceDone}
 use Rattle.vd_ring.specs.declared.device.DeviceDone.TheVariants.{Give, Rest}
-use Rattle.vd_ring.specs.declared.device.DeviceNow.TheVariants.{Idle, Giving}
+use Rattle.vd_ring.specs.declared.device.DeviceNow.TheVariants.{Idle, Giving, Checking, Resting}
 use Rattle.vd_ring.specs.declared.device.DeviceView.{DeviceView}
 use Rattle.vd_ring.specs.History.{offers, collects, takes, gives, running, taken_head, head, chain_at, occurs, given, entry, batch, with_head, IsWhole}
 use Rattle.vd_ring.specs.Lists.{entry_at}
+use Rattle.vd_ring.specs.Signals.{moves}
+use Rattle.vd_ring.specs.Signals.{publishes as publishes_range}
 use Rattle.vd_split_ring.specs.SplitWords.{shown_from, IsDevices, width, used_from, id_word, len_word, used_id, used_len, ack_word}
 use Rattle.vd_split_ring.specs.SplitDevice.{Names, Measures, PublishesUsed, device_gives, device_rests}
-use Rattle.vd_split_ring.specs.SplitRing.{Ring, Gives}
+use Rattle.vd_split_ring.specs.SplitRing.{Ring, Gives, chains_out, chains_in, entries_out, entries_in}
 use Rattle.vd_ring.proofs.Counts.{occurs_from, with_head_is}
 use Rattle.vd_ring.proofs.ListSteps.{some_same, batch_one, entry_is, returns_next, single_entry}
 use Rattle.vd_ring.proofs.DeviceLists.{give_room, running_head, same_taken_head, entry_new, entry_old, lists_given, lists_rested}
@@ -28,7 +30,7 @@ use Rattle.vd_split_ring.proofs.DeviceParts.{ring_with, doing_along, signals_kep
 -- ---- lanes that the three stores leave
 
 -- a word after a store, where the stored word has the part that stood there
-same_part : (ws : List ℕ) (p q x : ℕ) (g : ℕ → ℕ) → p < length ws → g x ≡ g (slice_index ws p) → g (slice_index (slice_set ws p x) q) ≡ g (slice_index ws q)
+pub same_part : (ws : List ℕ) (p q x : ℕ) (g : ℕ → ℕ) → p < length ws → g x ≡ g (slice_index ws p) → g (slice_index (slice_set ws p x) q) ≡ g (slice_index ws q)
 same_part ws p q x g h same = elim (cases_eq q p) [
   | inl e ↦ subst (λ (i : ℕ). g (slice_index (slice_set ws p x) i) ≡ g (slice_index ws i)) (sym e) (ap g (get_or-set_same ws p x 0 h) ∙ same)
   | inr ne ↦ ap g (get_or-set_other ws p q x 0 ne)
@@ -43,9 +45,9 @@ part_kept n j g pos low near = places_differ n j g pos low near
 
 -- ---- the store of the id
 
-pub names : (ws : List ℕ) (d : DriverView) (e : DeviceView) (p x : ℕ) → Ring ws d (record e { frame = d.frame; doing = Idle }) → Names d.frame e.done e.stored p x
+pub names : (ws : List ℕ) (d : DriverView) (e : DeviceView) (p x : ℕ) → Ring ws d (record e { frame = d.frame; doing = Idle }) → e.armed ≡ None → Names d.frame e.done e.stored p x
     → Ring (slice_set ws p x) d (record e { frame = d.frame; stored = slice_set e.stored p x; doing = Giving (x ∷ []) }) × (p < width d.frame)
-names ws d e p x r n =
+names ws d e p x r unarmed n =
     let f : Frame = d.frame in let s : List DeviceDone = e.done in let o : List DriverDone = d.done in let g : ℕ = length (gives s) in
     let m : ℕ = length (collects o) in
     let E : DeviceView = record e { frame = d.frame; doing = Idle } in
@@ -84,6 +86,9 @@ names ws d e p x r n =
           is_id = half_same (slice_index e.stored q) 1 h small;
           stands = ap (λ w. lane32 w 1) (get_or-set_same e.stored q y 0 inside);
         };
+        kicks = moves (chains_out d) (chains_in E) (length (takes s)) false unarmed r.kicks;
+        calls = r.calls;
+        armed = unarmed;
         driver_seen = r.driver_seen;
         device_seen = r.device_seen;
         device_shown = r.device_shown;
@@ -136,6 +141,9 @@ measures ws d e a p x r n =
           },
           ap (λ w. lane32 w 0) (get_or-set_same e.stored q y 0 inside),
         );
+        kicks = r.kicks;
+        calls = r.calls;
+        armed = r.device_armed;
         driver_seen = r.driver_seen;
         device_seen = r.device_seen;
         device_shown = r.device_shown;
@@ -160,7 +168,7 @@ given_is ws d e a len r now =
 gives_entry : (ws : List ℕ) (d : DriverView) (e : DeviceView) (a b : ℕ) (us : List Used) (u : Used) → us ≡ u ∷ [] → Ring ws d (record e { frame = d.frame; doing = Giving (a ∷ b ∷ []) }) → (now : Gives d.frame e.done e.stored a) → u ≡ entry now.number (lane32 b 0)
     → used_len d.frame e.stored (length (gives e.done)) ≡ lane32 b 0
     → let q = used_from d.frame in let x = set_lane16 (slice_index e.stored q) 1 (length (gives e.done ++ us) % 65536) in
-    Ring (slice_set ws q x) d (record e { frame = d.frame; done = Give us ∷ e.done; stored = slice_set e.stored q x; doing = Idle })
+    Ring (slice_set ws q x) d (record e { frame = d.frame; done = Give us ∷ e.done; stored = slice_set e.stored q x; doing = Checking (length (gives e.done)) (length (gives e.done ++ us)) })
 gives_entry ws d e a b us u one r now is len =
     let f : Frame = d.frame in let s : List DeviceDone = e.done in let o : List DriverDone = d.done in let g : ℕ = length (gives s) in
     let E : DeviceView = record e { frame = d.frame; doing = Giving (a ∷ b ∷ []) } in
@@ -176,8 +184,8 @@ gives_entry ws d e a b us u one r now is len =
     let longer : length (gives s ++ u ∷ []) ≡ g + 1 = length_push (gives s) u in
     let old : (j : ℕ) (w : Used) → g ≢ j → entry_at (Give (u ∷ []) ∷ s) j ≡ Some w → entry_at s j ≡ Some w = λ j w ne at. sym (entry_old s (u ∷ []) j ne) ∙ at in
     let new : (j : ℕ) (w : Used) → g ≡ j → entry_at (Give (u ∷ []) ∷ s) j ≡ Some w → u ≡ w = λ j w e' at. some_same u w (sym (entry_new s (u ∷ []) j e') ∙ at) in
-    subst (λ (vs : List Used). let x2 = set_lane16 (slice_index e.stored q) 1 (length (gives s ++ vs) % 65536) in Ring (slice_set ws q x2) d (record e { frame = d.frame; done = Give vs ∷ s; stored = slice_set e.stored q x2; doing = Idle })) (sym one)
-    (ring_with ws (slice_set ws q x) d E (record e { frame = d.frame; done = Give (u ∷ []) ∷ s; stored = st; doing = Idle }) r record {
+    subst (λ (vs : List Used). let x2 = set_lane16 (slice_index e.stored q) 1 (length (gives s ++ vs) % 65536) in Ring (slice_set ws q x2) d (record e { frame = d.frame; done = Give vs ∷ s; stored = slice_set e.stored q x2; doing = Checking g (length (gives s ++ vs)) })) (sym one)
+    (ring_with ws (slice_set ws q x) d E (record e { frame = d.frame; done = Give (u ∷ []) ∷ s; stored = st; doing = Checking g (length (gives s ++ u ∷ [])) }) r record {
       same = refl;
       words = device_stores f ws d.stored e.stored q x r.words (inl (omega arith, omega arith));
       lists = lists_given f o s u r.lists runs (single_entry f (chain_at (takes s)) g u order);
@@ -197,6 +205,9 @@ gives_entry ws d e a b us u one r now is len =
       acks = acks_given f (ack_word f) o s u st r.places r.lists runs (acks_elsewhere f (ack_word f) o s e.stored q x r.places r.lists (λ i low. used_no_ack f q i (omega arith)) r.acks);
       driver_doing = doing_along d.doing f o d.stored d.seen s (Give (u ∷ []) ∷ s) (λ w at. entry_old s (u ∷ []) (length (collects o)) (λ e'. omega (arith, (entry_is f s (length (collects o)) w r.lists.entries at).0)) ∙ at) r.driver_doing;
       device_doing = tt;
+      kicks = r.kicks;
+      calls = publishes_range (entries_out E) (entries_in d) (length (gives s ++ u ∷ [])) (omega (arith, longer)) refl r.calls;
+      armed = (r.device_armed, record { some = omega (arith, longer); near = omega (arith, longer, r.lawful.some_place) });
       driver_seen = omega (arith, r.driver_seen);
       device_seen = r.device_seen;
       device_shown = r.device_shown;
@@ -212,27 +223,31 @@ publishes ws d e a b p x r n =
     let us : List Used = given f s (lane32 a 1) (lane32 b 0) in
     let q : ℕ = used_from f in
     let word : ℕ → ℕ = λ i. set_lane16 (slice_index e.stored i) 1 (length (gives s ++ us) % 65536) in
-    subst (λ (i : ℕ). Ring (slice_set ws i x) d (record e { frame = d.frame; done = Give us ∷ s; stored = slice_set e.stored i x; doing = Idle })) (sym n.place)
-    (subst (λ (z : ℕ). Ring (slice_set ws q z) d (record e { frame = d.frame; done = Give us ∷ s; stored = slice_set e.stored q z; doing = Idle })) (sym (n.word ∙ ap word n.place))
+    subst (λ (i : ℕ). Ring (slice_set ws i x) d (record e { frame = d.frame; done = Give us ∷ s; stored = slice_set e.stored i x; doing = Checking (length (gives s)) (length (gives s ++ us)) })) (sym n.place)
+    (subst (λ (z : ℕ). Ring (slice_set ws q z) d (record e { frame = d.frame; done = Give us ∷ s; stored = slice_set e.stored q z; doing = Checking (length (gives s)) (length (gives s ++ us)) })) (sym (n.word ∙ ap word n.place))
     (gives_entry ws d e a b us (entry now.number (lane32 b 0)) (given_is ws d E a (lane32 b 0) r now) r now refl r.device_doing.1))
 
 -- ---- the rest
 
-pub rests : (ws : List ℕ) (d : DriverView) (e : DeviceView) (r : ℕ) → Ring ws d (record e { frame = d.frame; doing = Idle }) → IsWhole e.done → shown_from r (length (takes e.done)) ≡ length (offers d.done)
-    → Ring ws d (device_rests (record e { frame = d.frame; doing = Idle }) r)
-rests ws d e x r is index =
+pub rests : (ws : List ℕ) (d : DriverView) (e : DeviceView) (r : ℕ) → Ring ws d (record e { frame = d.frame; doing = Resting }) → shown_from r (length (takes e.done)) ≡ length (offers d.done)
+    → Ring ws d (device_rests (record e { frame = d.frame; doing = Resting }) r)
+rests ws d e x r index =
     let f : Frame = d.frame in let s : List DeviceDone = e.done in let g : ℕ = length (gives s) in
-    let E : DeviceView = record e { frame = d.frame; doing = Idle } in
+    let E : DeviceView = record e { frame = d.frame; doing = Resting } in
+    let is : IsWhole s = r.device_doing in
     let len : length (take g (takes s)) ≡ g = length-take-le g (takes s) (omega (arith, r.lists.count)) in
-    ring_with ws ws d E (record e { frame = d.frame; done = Rest ∷ s; doing = Idle; armed = None; seen = shown_from x (length (takes s)) }) r record {
+    ring_with ws ws d E (record e { frame = d.frame; done = Rest ∷ s; doing = Idle; seen = shown_from x (length (takes s)) }) r record {
       same = refl;
       words = r.words;
       lists = lists_rested f d.done s r.lists is;
       device_words = record { index = r.device_words.index; ids = r.device_words.ids; lens = r.device_words.lens };
-      signals = record { no_flags = r.device_signals.no_flags; no_event = r.device_signals.no_event; bit = r.device_signals.bit; flags = λ n at. absurd cc; event = λ n at. absurd cc; bell = r.device_signals.bell };
+      signals = r.device_signals;
       acks = acks_rested f (ack_word f) d.done s e.stored r.acks;
       driver_doing = doing_along d.doing f d.done d.stored d.seen s (Rest ∷ s) (λ u at. at) r.driver_doing;
       device_doing = tt;
+      kicks = moves (chains_out d) (chains_in E) (length (take g (takes s))) true r.device_armed r.kicks;
+      calls = r.calls;
+      armed = tt;
       driver_seen = r.driver_seen;
       device_seen = omega (arith, index);
       device_shown = λ h. omega (arith, index, r.device_shown h, r.device_seen, r.lists.count);

@@ -1,5 +1,5 @@
 -- The first two accesses of a take, its look and the ring entry, keep the ring invariant.
-use Rattle.std.proofs.Common.{◌≡◌, ℕ, ◌+◌, ◌*◌, ◌%◌, ◌<◌, ◌≤◌, Bool, true, false, List, [], ◌∷◌, length, if◌then◌else◌, slice_index, refl, sym, ap, ◌∙◌, subst, arith}
+use Rattle.std.proofs.Common.{◌≡◌, ℕ, ◌+◌, ◌*◌, ◌%◌, ◌<◌, ◌≤◌, Bool, true, false, None, List, [], ◌∷◌, length, if◌then◌else◌, slice_index, refl, sym, ap, ◌∙◌, subst, arith}
 use Rattle.std.proofs.lemmas.List.{take_all}
 use Rattle.vd_bits.specs.Lanes.{lane16}
 use Rattle.vd_ring.specs.declared.frame.Frame.{Frame}
@@ -9,10 +9,11 @@ use Rattle.vd_ring.specs.declared.device.DeviceDone.{DeviceDone}
 use Rattle.vd_ring.specs.declared.device.DeviceNow.TheVariants.{Idle, Taking}
 use Rattle.vd_ring.specs.declared.device.DeviceView.{DeviceView}
 use Rattle.vd_ring.specs.Frames.{Fits, limit}
+use Rattle.vd_ring.specs.Signals.{moves}
 use Rattle.vd_ring.specs.History.{offers, takes, running, open_at, places, head, chain, occurs}
 use Rattle.vd_split_ring.specs.SplitWords.{is_tabled, lane_word, entry_lane, shows, shown_from, ShowsIndex, reading}
 use Rattle.vd_split_ring.specs.SplitDevice.{loaded_head, IsNewHead, device_looks}
-use Rattle.vd_split_ring.specs.SplitRing.{HasSeen, Ring}
+use Rattle.vd_split_ring.specs.SplitRing.{HasSeen, Ring, chains_out, chains_in}
 use Rattle.vd_ring.proofs.Counts.{occurs_from}
 use Rattle.vd_ring.proofs.HeldPlaces.{head_inside, same_head, chain_fits}
 use Rattle.vd_ring.proofs.DeviceLists.{running_below, running_open, next_taken_open, counts}
@@ -34,9 +35,9 @@ shows_offers ws d e g lane r =
     let near = counts d.frame d.done e.done r.places r.lists in
     record { index = length (offers d.done); lane = lane; least = r.lists.some; most = near.1; forward = r.device_seen }
 
-takes_look : (ws : List ℕ) (d : DriverView) (e : DeviceView) (g n : ℕ) (b : Bool) → lane16 g 1 ≡ length (offers d.done) % 65536 → n ≡ length (offers d.done) → Ring ws d (record e { frame = d.frame; doing = Idle }) → shows g (length (takes e.done)) ≡ b
+takes_look : (ws : List ℕ) (d : DriverView) (e : DeviceView) (g n : ℕ) (b : Bool) → lane16 g 1 ≡ length (offers d.done) % 65536 → n ≡ length (offers d.done) → Ring ws d (record e { frame = d.frame; doing = Idle }) → e.armed ≡ None → shows g (length (takes e.done)) ≡ b
     → Ring ws d (if b then record e { frame = d.frame; doing = Idle; seen = n; shown = false } else record e { frame = d.frame; doing = Taking (g ∷ []); seen = n; shown = true })
-takes_look ws d e g n true lane is r eq = ring_with ws ws d (record e { frame = d.frame; doing = Idle }) (record e { frame = d.frame; doing = Idle; seen = n; shown = false }) r record {
+takes_look ws d e g n true lane is r unarmed eq = ring_with ws ws d (record e { frame = d.frame; doing = Idle }) (record e { frame = d.frame; doing = Idle; seen = n; shown = false }) r record {
   same = refl;
   words = r.words;
   lists = r.lists;
@@ -45,12 +46,15 @@ takes_look ws d e g n true lane is r eq = ring_with ws ws d (record e { frame = 
   acks = r.acks;
   driver_doing = r.driver_doing;
   device_doing = tt;
+  kicks = r.kicks;
+  calls = r.calls;
+  armed = tt;
   driver_seen = r.driver_seen;
   device_seen = omega arith;
   device_shown = λ h. absurd cc;
   rested = r.rested;
 }
-takes_look ws d e g n false lane is r eq =
+takes_look ws d e g n false lane is r unarmed eq =
     let more : length (takes e.done) < length (offers d.done) = shows_more g (length (takes e.done)) (length (offers d.done)) lane r.lists.some eq in
     ring_with ws ws d (record e { frame = d.frame; doing = Idle }) (record e { frame = d.frame; doing = Taking (g ∷ []); seen = n; shown = true }) r record {
       same = refl;
@@ -60,6 +64,9 @@ takes_look ws d e g n false lane is r eq =
       signals = r.device_signals;
       acks = r.acks;
       driver_doing = r.driver_doing;
+      kicks = moves (chains_out d) (chains_in (record e { frame = d.frame; doing = Idle })) (length (takes e.done)) false unarmed r.kicks;
+      calls = r.calls;
+      armed = unarmed;
       device_doing = record { lane = lane ∙ ap (λ (m : ℕ). m % 65536) (sym is); more = omega arith };
       driver_seen = r.driver_seen;
       device_seen = omega arith;
@@ -67,9 +74,9 @@ takes_look ws d e g n false lane is r eq =
       rested = r.rested;
     }
 
-pub looks : (ws : List ℕ) (d : DriverView) (e : DeviceView) (g : ℕ) → lane16 g 1 ≡ length (offers d.done) % 65536 → Ring ws d (record e { frame = d.frame; doing = Idle })
+pub looks : (ws : List ℕ) (d : DriverView) (e : DeviceView) (g : ℕ) → lane16 g 1 ≡ length (offers d.done) % 65536 → Ring ws d (record e { frame = d.frame; doing = Idle }) → e.armed ≡ None
     → Ring ws d (device_looks (record e { frame = d.frame; doing = Idle }) g)
-looks ws d e g lane r = takes_look ws d e g (shown_from g (length (takes e.done))) (shows g (length (takes e.done))) lane (offers_shown ws d (record e { frame = d.frame; doing = Idle }) g lane r) r refl
+looks ws d e g lane r unarmed = takes_look ws d e g (shown_from g (length (takes e.done))) (shows g (length (takes e.done))) lane (offers_shown ws d (record e { frame = d.frame; doing = Idle }) g lane r) r unarmed refl
 
 pub look_tells : (ws : List ℕ) (d : DriverView) (e : DeviceView) (g : ℕ) → lane16 g 1 ≡ length (offers d.done) % 65536 → Ring ws d e
     → ShowsIndex g e.seen (length (takes e.done)) (length (takes e.done) + d.frame.size) × (shows g (length (takes e.done)) ≡ false → length (takes e.done) < limit d.frame) × (e.shown ≡ true → shows g (length (takes e.done)) ≡ false)
@@ -113,6 +120,9 @@ finds_head ws d e g w r is =
         signals = r.device_signals;
         acks = r.acks;
         driver_doing = r.driver_doing;
+        kicks = r.kicks;
+        calls = r.calls;
+        armed = r.device_armed;
         device_doing = (r.device_doing, record { is_head = is_head; words = refl; left = some (is_tabled f (chain o t)) (length (chain o t)) (length (reading f (places f o t) (chain o t))) fits.chain.0 long });
         driver_seen = r.driver_seen;
         device_seen = r.device_seen;

@@ -15,9 +15,10 @@ use Rattle.vd_ring.specs.declared.device.DeviceView.{DeviceView}
 use Rattle.vd_ring.specs.History.{offers, collects, takes, gives}
 use Rattle.vd_ring.specs.Control.{Acks}
 use Rattle.vd_ring.specs.Lists.{Lists, Rested, entry_at}
+use Rattle.vd_ring.specs.Signals.{Signals}
 use Rattle.vd_split_ring.specs.SplitWords.{IsDevices, used_from, call_at, ack_word}
 use Rattle.vd_split_ring.specs.SplitDevice.{DeviceKnows}
-use Rattle.vd_split_ring.specs.SplitRing.{Words, DeviceWords, DeviceSignals, DriverDoing, DeviceDoing, Ring}
+use Rattle.vd_split_ring.specs.SplitRing.{Words, DeviceWords, DeviceSignals, DriverDoing, DeviceDoing, chains_out, chains_in, entries_out, entries_in, DeviceArmed, Ring}
 use Rattle.vd_split_ring.proofs.Areas.{areas, other_word}
 
 -- the parts that speak of the device
@@ -30,6 +31,9 @@ pub record DeviceSide (ws : List ℕ) (d : DriverView) (e : DeviceView) : Type 0
   pub acks : Acks d.frame (ack_word d.frame) d.done e.done e.stored
   pub driver_doing : DriverDoing d.doing d.frame d.done d.stored d.seen e.done
   pub device_doing : DeviceDoing e.doing d.frame d.done e.done e.stored e.seen
+  pub kicks : Signals (chains_out d) (chains_in e)
+  pub calls : Signals (entries_out e) (entries_in d)
+  pub armed : DeviceArmed e.doing d.frame e.armed (length (takes e.done)) e.heard
   pub driver_seen : d.seen ≤ length (gives e.done)
   pub device_seen : e.seen ≤ length (offers d.done)
   pub device_shown : e.shown ≡ true → length (takes e.done) < e.seen
@@ -52,6 +56,10 @@ ring_with ws us d e v r s = record {
   acks = s.acks;
   driver_doing = s.driver_doing;
   device_doing = s.device_doing;
+  kicks = s.kicks;
+  calls = s.calls;
+  driver_armed = r.driver_armed;
+  device_armed = s.armed;
   driver_seen = s.driver_seen;
   device_seen = s.device_seen;
   driver_shown = r.driver_shown;

@@ -18,9 +18,10 @@ use Rattle.vd_ring.specs.Frames.{Fits, lent}
 use Rattle.vd_ring.specs.History.{offers, takes, open_at, open_size, places, chain, occurs, first}
 use Rattle.vd_ring.specs.Control.{IsControlChain}
 use Rattle.vd_ring.specs.Places.{Places}
+use Rattle.vd_ring.specs.Signals.{moves}
 use Rattle.vd_split_ring.specs.SplitWords.{IsLawful, shows, put, words_of, Stand, table, pointer, is_tabled, spelling, reading, is_whole, chain_of, cursor, command_word, ack_word}
 use Rattle.vd_split_ring.specs.SplitDevice.{loaded_head, BeginsChain, device_takes, device_loads}
-use Rattle.vd_split_ring.specs.SplitRing.{HasSeen, Loads, Ring}
+use Rattle.vd_split_ring.specs.SplitRing.{HasSeen, Loads, Ring, chains_out, chains_in}
 use Rattle.vd_ring.proofs.Counts.{Contains_from, occurs_at, sum_same}
 use Rattle.vd_ring.proofs.HeldPlaces.{chain_fits, places_once, places_inside}
 use Rattle.vd_ring.proofs.DeviceLists.{next_taken_open, lists_taken, room_left}
@@ -85,6 +86,9 @@ takes_chain ws d e g w ss us r spelled =
       acks = acks_taken f (ack_word f) o s c hd e.stored r.acks;
       driver_doing = doing_along d.doing f o d.stored d.seen s (Take c hd ∷ s) (λ u is. is) r.driver_doing;
       device_doing = tt;
+      kicks = moves (chains_out d) (chains_in E) (length (takes s ++ c ∷ [])) true r.device_armed r.kicks;
+      calls = r.calls;
+      armed = tt;
       driver_seen = r.driver_seen;
       device_seen = r.device_seen;
       device_shown = λ on. omega (arith, length_push (takes s) c, shows_more g (t + 1) e.seen seen.lane (omega (arith, seen.more)) (not-true (shows g (t + 1)) on));
@@ -106,6 +110,9 @@ loads_on ws d e g w ss us r words left =
       signals = r.device_signals;
       acks = r.acks;
       driver_doing = r.driver_doing;
+      kicks = r.kicks;
+      calls = r.calls;
+      armed = r.device_armed;
       device_doing = (r.device_doing.0, record { is_head = r.device_doing.1.is_head; words = words; left = left });
       driver_seen = r.driver_seen;
       device_seen = r.device_seen;

@@ -1,5 +1,5 @@
 -- What the answers of the driver's steps say: of the chain offered, of the entry collected, and of the bag.
-use Rattle.std.proofs.Common.{◌≡◌, ℕ, ◌%◌, Bool, true, false, List, [], ◌∷◌, ◌++◌, length, take, if◌then◌else◌, slice_index, slice_set, refl, sym, ap, ◌∙◌, subst, arith}
+use Rattle.std.proofs.Common.{◌≡◌, ℕ, ◌%◌, ◌==◌, Bool, true, false, None, List, [], ◌∷◌, ◌++◌, length, take, if◌then◌else◌, slice_index, slice_set, refl, sym, ap, ◌∙◌, subst, arith}
 use Rattle.std.specs.List.{Contains}
 use Rattle.std.proofs.lemmas.Bool.{eq-eqb, eqb-true}
 use Rattle.std.proofs.lemmas.Nat.{mod_below}
@@ -19,7 +19,7 @@ use Rattle.vd_ring.specs.declared.frame.Used.{Used}
 use Rattle.vd_ring.specs.declared.driver.DriverDone.{DriverDone}
 use Rattle.vd_ring.specs.declared.driver.DriverDone.TheVariants.{Offer, Collect}
 use Rattle.vd_ring.specs.declared.driver.DriverNow.{DriverNow}
-use Rattle.vd_ring.specs.declared.driver.DriverNow.TheVariants.{Idle, Offering, Entered, Collecting}
+use Rattle.vd_ring.specs.declared.driver.DriverNow.TheVariants.{Idle, Offering, Entered, Collecting, Checking, Ringing, Arming, Disarming}
 use Rattle.vd_ring.specs.declared.driver.DriverView.{DriverView}
 use Rattle.vd_ring.specs.declared.device.DeviceDone.{DeviceDone}
 use Rattle.vd_ring.specs.declared.device.DeviceView.{DeviceView}
@@ -33,7 +33,7 @@ use Rattle.vd_ring.proofs.HeldPlaces.{chain_new}
 use Rattle.vd_ring.proofs.ControlSteps.{head_new}
 use Rattle.vd_ring.proofs.DriverBag.{offer_step}
 use Rattle.vd_split_ring.specs.SplitWords.{Spells, len_word, used_len, shows, shown_from, words_of, staged_chain}
-use Rattle.vd_split_ring.specs.SplitDriver.{Publishes, DriverNextAt, DriverNext, driver_act_at, driver_act, driver_offers, NamesOpen}
+use Rattle.vd_split_ring.specs.SplitDriver.{Publishes, driver_wakes, DriverNextAt, DriverNext, driver_act_at, driver_act, driver_offers, NamesOpen}
 use Rattle.vd_split_ring.specs.SplitRing.{Ring, HasEntered}
 use Rattle.vd_split_ring.specs.SplitDriverLaws.{DriverBags, IsOffered, IsCollected, CollectsNothing}
 use Rattle.vd_split_ring.proofs.DriverOffers.{publishes, staged_is_chain}
@@ -81,6 +81,12 @@ look_not_collected : (b : Bool) → is_collected (if b then act.Nothing else act
 look_not_collected true = refl
 look_not_collected false = refl
 
+-- the answer of an arming's second look, or of a hearing
+again_not : (P : DriverAct → Bool) (quiet : DriverAct) (b c : Bool) → P quiet ≡ false → P act.Awake ≡ false → P act.Moved ≡ false → P (if b then quiet else (if c then act.Awake else act.Moved)) ≡ false
+again_not P quiet true c x y z = x
+again_not P quiet false true x y z = y
+again_not P quiet false false x y z = z
+
 -- ---- Offered
 
 offers_chain : (ws : List ℕ) (d : DriverView) (e : DeviceView) (puts : List Put) (p x : ℕ) → Ring ws (record d { doing = Entered puts }) e → Publishes d.frame d.done d.stored p x → IsOffered ws (record d { doing = Entered puts }) op.Offer (Store p x) (length (offers d.done))
@@ -110,6 +116,12 @@ offered_at : (ws : List ℕ) (d : DriverView) (e : DeviceView) (now : DriverNow)
 offered_at ws d e (Entered puts) op.Offer (Store p x) k r h is = subst (λ (j : ℕ). IsOffered ws (record d { doing = Entered puts }) op.Offer (Store p x) j) (ap offered_number is) (offers_chain ws d e puts p x r h)
 offered_at ws d e Idle op.Collect (Load p) k r h is = absurd (not_offered _ k (look_not_offered (shows (slice_index ws p) (length (collects d.done)))) is)
 offered_at ws d e (Collecting (g ∷ w ∷ [])) op.Collect (Load p) k r h is = absurd (not_offered _ k refl is)
+offered_at ws d e Arming op.Arm (Load p) k r h is = absurd (not_offered _ k (again_not is_offered act.Armed (shows (slice_index ws p) (length (collects d.done))) d.frame.features.event_idx refl refl refl) is)
+offered_at ws d e Idle op.Hear (Load p) k r h is = absurd (not_offered _ k (again_not is_offered act.Asleep (slice_index ws p == d.heard) d.frame.features.event_idx refl refl refl) is)
+offered_at ws d e (Disarming o) op.Arm (Store p x) k r h is = absurd (not_offered _ k refl is)
+offered_at ws d e (Disarming o) op.Hear (Store p x) k r h is = absurd (not_offered _ k refl is)
+offered_at ws d e Idle op.Disarm (Store p x) k r h is = absurd (not_offered _ k refl is)
+offered_at ws d e Idle op.Disarm (Load p) k r h is = absurd (not_offered _ k refl is)
 offered_at ws d e _ _ _ k r h is = absurd (not_offered act.Moved k refl is)
 
 pub driver_offered : (ws : List ℕ) (d : DriverView) (e : DeviceView) (op : Op) (a : Access) (k : ℕ) → Ring ws d e → DriverNext d op a → driver_act d op a (answered ws a) ≡ act.Offered k → IsOffered ws d op a k
@@ -143,6 +155,12 @@ collected_at ws d e (Collecting (g ∷ w ∷ [])) op.Collect (Load p) k l h r n 
     (collects_entry ws d e g w p r n))
 collected_at ws d e Idle op.Collect (Load p) k l h r n is = absurd (not_collected _ k l h (look_not_collected (shows (slice_index ws p) (length (collects d.done)))) is)
 collected_at ws d e (Entered puts) op.Offer (Store p x) k l h r n is = absurd (not_collected _ k l h refl is)
+collected_at ws d e Arming op.Arm (Load p) k l h r n is = absurd (not_collected _ k l h (again_not is_collected act.Armed (shows (slice_index ws p) (length (collects d.done))) d.frame.features.event_idx refl refl refl) is)
+collected_at ws d e Idle op.Hear (Load p) k l h r n is = absurd (not_collected _ k l h (again_not is_collected act.Asleep (slice_index ws p == d.heard) d.frame.features.event_idx refl refl refl) is)
+collected_at ws d e (Disarming o) op.Arm (Store p x) k l h r n is = absurd (not_collected _ k l h refl is)
+collected_at ws d e (Disarming o) op.Hear (Store p x) k l h r n is = absurd (not_collected _ k l h refl is)
+collected_at ws d e Idle op.Disarm (Store p x) k l h r n is = absurd (not_collected _ k l h refl is)
+collected_at ws d e Idle op.Disarm (Load p) k l h r n is = absurd (not_collected _ k l h refl is)
 collected_at ws d e _ _ _ k l h r n is = absurd (not_collected act.Moved k l h refl is)
 
 pub driver_collected : (ws : List ℕ) (d : DriverView) (e : DeviceView) (op : Op) (a : Access) (k l h : ℕ) → Ring ws d e → DriverNext d op a → driver_act d op a (answered ws a) ≡ act.Collected k l h → IsCollected ws d e op a k l h
@@ -181,6 +199,17 @@ nothing_at ws d e (Collecting (g ∷ [])) op.Collect (Load p) r h = other_answer
 nothing_at ws d e (Collecting (g ∷ w ∷ [])) op.Collect (Load p) r h = other_answer ws (record d { doing = Collecting (g ∷ w ∷ []) }) e op.Collect (Load p) (λ is. cc) (λ idle collect. cc)
 nothing_at ws d e Idle op.Control (Store p x) r h = other_answer ws (record d { doing = Idle }) e op.Control (Store p x) (λ is. cc) (λ idle collect. cc)
 nothing_at ws d e Idle op.Control (Load p) r h = other_answer ws (record d { doing = Idle }) e op.Control (Load p) (λ is. cc) (λ idle collect. cc)
+nothing_at ws d e (Checking old new) op.Offer (Load p) r h = other_answer ws (record d { doing = Checking old new }) e op.Offer (Load p) (λ is. cc) (λ idle collect. cc)
+nothing_at ws d e (Ringing old new) op.Offer (Store p x) r h = other_answer ws (record d { doing = Ringing old new }) e op.Offer (Store p x) (λ is. cc) (λ idle collect. cc)
+nothing_at ws d e Idle op.Arm (Store p x) r h = other_answer ws (record d { doing = Idle }) e op.Arm (Store p x) (λ is. cc) (λ idle collect. cc)
+nothing_at ws d e Arming op.Arm (Load p) r h =
+    other_answer ws (record d { doing = Arming }) e op.Arm (Load p) (λ is. not_both (sym (again_not is_nothing act.Armed (shows (slice_index ws p) (length (collects d.done))) d.frame.features.event_idx refl refl refl) ∙ ap is_nothing is)) (λ idle collect. cc)
+nothing_at ws d e (Disarming o) op.Arm (Store p x) r h = other_answer ws (record d { doing = Disarming o }) e op.Arm (Store p x) (λ is. cc) (λ idle collect. cc)
+nothing_at ws d e (Disarming o) op.Hear (Store p x) r h = other_answer ws (record d { doing = Disarming o }) e op.Hear (Store p x) (λ is. cc) (λ idle collect. cc)
+nothing_at ws d e Idle op.Hear (Load p) r h =
+    other_answer ws (record d { doing = Idle }) e op.Hear (Load p) (λ is. not_both (sym (again_not is_nothing act.Asleep (slice_index ws p == d.heard) d.frame.features.event_idx refl refl refl) ∙ ap is_nothing is)) (λ idle collect. cc)
+nothing_at ws d e Idle op.Disarm (Store p x) r h = other_answer ws (record d { doing = Idle }) e op.Disarm (Store p x) (λ is. cc) (λ idle collect. cc)
+nothing_at ws d e Idle op.Disarm (Load p) r h = other_answer ws (record d { doing = Idle }) e op.Disarm (Load p) (λ is. cc) (λ idle collect. cc)
 nothing_at ws d e _ _ _ r h = absurd h
 
 pub collects_nothing : (ws : List ℕ) (d : DriverView) (e : DeviceView) (op : Op) (a : Access) → Ring ws d e → DriverNext d op a → CollectsNothing ws d e op a
@@ -196,6 +225,12 @@ bag_look : (d : DriverView) (e : DeviceView) (r : ℕ) (t : Bool) (b : List Stat
 bag_look d e r true b st = (b, refl, st)
 bag_look d e r false b st = (b, refl, st)
 
+bag_again : (d : DriverView) (e : DeviceView) (v w : DriverView) (quiet : DriverAct) (t c : Bool) (b : List State) → Rattle.vd_ring.specs.Steps.DriverBagStep quiet b b → v.done ≡ d.done → w.done ≡ d.done → StandsFor d.done e.done b
+    → Rattle.vd_ring.specs.Steps.DriverBagStep (if t then quiet else (if c then act.Awake else act.Moved)) b b × StandsFor (if t then v else w).done e.done b
+bag_again d e v w quiet true c b is x y st = (is, subst (λ (o : List DriverDone). StandsFor o e.done b) (sym x) st)
+bag_again d e v w quiet false true b is x y st = (refl, subst (λ (o : List DriverDone). StandsFor o e.done b) (sym y) st)
+bag_again d e v w quiet false false b is x y st = (refl, subst (λ (o : List DriverDone). StandsFor o e.done b) (sym y) st)
+
 bags_at : (ws : List ℕ) (d : DriverView) (e : DeviceView) (now : DriverNow) (op : Op) (a : Access) (b : List State) → Ring ws (record d { doing = now }) e → DriverNextAt now (record d { doing = now }) op a → StandsFor d.done e.done b
     → DriverBags ws (record d { doing = now }) e op a b
 bags_at ws d e (Entered puts) op.Offer (Store p x) b r h st =
@@ -210,6 +245,21 @@ bags_at ws d e (Collecting (g ∷ [])) op.Collect (Load p) b r h st = record { b
 bags_at ws d e (Collecting (g ∷ w ∷ [])) op.Collect (Load p) b r h st = record { bag = b; step = refl; stands = st }
 bags_at ws d e Idle op.Control (Store p x) b r h st = record { bag = b; step = refl; stands = st }
 bags_at ws d e Idle op.Control (Load p) b r h st = record { bag = b; step = refl; stands = st }
+bags_at ws d e (Checking old new) op.Offer (Load p) b r h st = record { bag = b; step = refl; stands = st }
+bags_at ws d e (Ringing old new) op.Offer (Store p x) b r h st = record { bag = b; step = refl; stands = st }
+bags_at ws d e Idle op.Arm (Store p x) b r h st = record { bag = b; step = refl; stands = st }
+bags_at ws d e Arming op.Arm (Load p) b r h st =
+    let m : ℕ = length (collects d.done) in let g : ℕ = slice_index ws p in
+    let did = bag_again d e (record d { seen = shown_from g m; shown = false; doing = Idle }) (record d { seen = shown_from g m; shown = true; armed = None; doing = driver_wakes d.frame op.Arm }) act.Armed (shows g m) d.frame.features.event_idx b refl refl refl st in
+    record { bag = b; step = did.0; stands = did.1 }
+bags_at ws d e (Disarming o) op.Arm (Store p x) b r h st = record { bag = b; step = refl; stands = st }
+bags_at ws d e (Disarming o) op.Hear (Store p x) b r h st = record { bag = b; step = refl; stands = st }
+bags_at ws d e Idle op.Hear (Load p) b r h st =
+    let g : ℕ = slice_index ws p in
+    let did = bag_again d e (record d { doing = Idle }) (record d { heard = g; armed = None; doing = driver_wakes d.frame op.Hear }) act.Asleep (g == d.heard) d.frame.features.event_idx b refl refl refl st in
+    record { bag = b; step = did.0; stands = did.1 }
+bags_at ws d e Idle op.Disarm (Store p x) b r h st = record { bag = b; step = refl; stands = st }
+bags_at ws d e Idle op.Disarm (Load p) b r h st = record { bag = b; step = refl; stands = st }
 bags_at ws d e _ _ _ b r h st = absurd h
 
 pub driver_bags : (ws : List ℕ) (d : DriverView) (e : DeviceView) (op : Op) (a : Access) (b : List State) → Ring ws d e → DriverNext d op a → StandsFor d.done e.done b → DriverBags ws d e op a b

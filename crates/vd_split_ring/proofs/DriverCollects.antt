@@ -1,5 +1,5 @@
 -- The accesses of a collect keep the ring invariant.
-use Rattle.std.proofs.Common.{◌≡◌, ℕ, ◌+◌, ◌%◌, ◌<◌, ◌≤◌, Bool, true, false, not, List, [], ◌∷◌, ◌++◌, length, if◌then◌else◌, refl, sym, ap, ◌∙◌, subst, arith}
+use Rattle.std.proofs.Common.{◌≡◌, ℕ, ◌+◌, ◌%◌, ◌<◌, ◌≤◌, Bool, true, false, not, None, List, [], ◌∷◌, ◌++◌, length, if◌then◌else◌, refl, sym, ap, ◌∙◌, subst, arith}
 use Rattle.std.proofs.lemmas.Bool.{not-true}
 use Rattle.std.proofs.lemmas.List.{length_push}
 use Rattle.vd_bits.specs.Lanes.{lane16, lane32}
@@ -22,7 +22,8 @@ use Rattle.vd_ring.proofs.ListSteps.{same_used, batch_one, entry_is, next_open, 
 use Rattle.vd_ring.proofs.ControlSteps.{commands_collected, acks_collected}
 use Rattle.vd_split_ring.specs.SplitWords.{command_word, ack_word, shows, shown_from, ShowsIndex, used_id, used_len}
 use Rattle.vd_split_ring.specs.SplitDriver.{NamesOpen, driver_looks, driver_collects}
-use Rattle.vd_split_ring.specs.SplitRing.{DriverWords, DeviceWords, Ring, DeviceDoing, HasSeen, Finds, Loads}
+use Rattle.vd_ring.specs.Signals.{moves}
+use Rattle.vd_split_ring.specs.SplitRing.{DriverWords, DeviceWords, Ring, DeviceDoing, HasSeen, Finds, Loads, entries_out, entries_in}
 use Rattle.vd_split_ring.proofs.Areas.{shows_more, shows_further, shown_is}
 
 -- ---- the look
@@ -33,9 +34,9 @@ counts_given ws d e g lane r =
     let near = given_within d.frame d.done e.done r.places r.lists in
     shown_is g (length (collects d.done)) (length (gives e.done)) lane r.lists.fewer (omega (arith, near, r.lawful.small))
 
-looks_at : (ws : List ℕ) (d : DriverView) (e : DeviceView) (g : ℕ) (b : Bool) → lane16 g 1 ≡ length (gives e.done) % 65536 → Ring ws (record d { doing = Idle }) e → shows g (length (collects d.done)) ≡ b
+looks_at : (ws : List ℕ) (d : DriverView) (e : DeviceView) (g : ℕ) (b : Bool) → lane16 g 1 ≡ length (gives e.done) % 65536 → Ring ws (record d { doing = Idle }) e → d.armed ≡ None → shows g (length (collects d.done)) ≡ b
     → Ring ws (if b then record d { doing = Idle; seen = shown_from g (length (collects d.done)); shown = false } else record d { seen = shown_from g (length (collects d.done)); shown = true; doing = Collecting (g ∷ []) }) e
-looks_at ws d e g true lane r eq = record {
+looks_at ws d e g true lane r unarmed eq = record {
   same = r.same;
   lawful = r.lawful;
   built = r.built;
@@ -54,9 +55,13 @@ looks_at ws d e g true lane r eq = record {
   device_seen = r.device_seen;
   driver_shown = λ h. absurd cc;
   device_shown = r.device_shown;
+  kicks = r.kicks;
+  calls = r.calls;
+  driver_armed = tt;
+  device_armed = r.device_armed;
   rested = r.rested;
 }
-looks_at ws d e g false lane r eq =
+looks_at ws d e g false lane r unarmed eq =
     let is : shown_from g (length (collects d.done)) ≡ length (gives e.done) = counts_given ws (record d { doing = Idle }) e g lane r in
     let more : length (collects d.done) < length (gives e.done) = shows_more g (length (collects d.done)) (length (gives e.done)) lane r.lists.fewer eq in record {
       same = r.same;
@@ -77,11 +82,15 @@ looks_at ws d e g false lane r eq =
       device_seen = r.device_seen;
       driver_shown = λ h. omega (arith, is);
       device_shown = r.device_shown;
+      kicks = r.kicks;
+      calls = moves (entries_out e) (entries_in (record d { doing = Idle })) (length (collects d.done)) false unarmed r.calls;
+      driver_armed = unarmed;
+      device_armed = r.device_armed;
       rested = r.rested;
     }
 
-pub looks : (ws : List ℕ) (d : DriverView) (e : DeviceView) (g : ℕ) → lane16 g 1 ≡ length (gives e.done) % 65536 → Ring ws (record d { doing = Idle }) e → Ring ws (driver_looks (record d { doing = Idle }) g) e
-looks ws d e g lane r = looks_at ws d e g (shows g (length (collects d.done))) lane r refl
+pub looks : (ws : List ℕ) (d : DriverView) (e : DeviceView) (g : ℕ) → lane16 g 1 ≡ length (gives e.done) % 65536 → Ring ws (record d { doing = Idle }) e → d.armed ≡ None → Ring ws (driver_looks (record d { doing = Idle }) g) e
+looks ws d e g lane r unarmed = looks_at ws d e g (shows g (length (collects d.done))) lane r unarmed refl
 
 pub look_tells : (ws : List ℕ) (d : DriverView) (e : DeviceView) (g : ℕ) → lane16 g 1 ≡ length (gives e.done) % 65536 → Ring ws d e
     → ShowsIndex g d.seen (length (collects d.done)) (length (offers d.done)) × (d.shown ≡ true → shows g (length (collects d.done)) ≡ false)
@@ -129,6 +138,10 @@ finds ws d e g w r is =
         device_seen = r.device_seen;
         driver_shown = r.driver_shown;
         device_shown = r.device_shown;
+        kicks = r.kicks;
+        calls = r.calls;
+        driver_armed = r.driver_armed;
+        device_armed = r.device_armed;
         rested = r.rested;
       },
       names_open f o s w r.places r.lists more n,
@@ -213,6 +226,10 @@ collects_last ws d e g w x r is =
         device_seen = r.device_seen;
         driver_shown = λ h. shows_more g (length (collects o ++ u ∷ [])) d.seen seen.lane (omega (arith, seen.more)) (not-true (shows g (length (collects o ++ u ∷ []))) h);
         device_shown = r.device_shown;
+        kicks = r.kicks;
+        calls = moves (entries_out e) (entries_in (record d { doing = Collecting (g ∷ w ∷ []) })) (length (collects o ++ u ∷ [])) true r.driver_armed r.calls;
+        driver_armed = tt;
+        device_armed = r.device_armed;
         rested = r.rested;
       },
       names_open f o s w r.places r.lists c.1 r.driver_doing.1,

@@ -137,6 +137,10 @@ stores_command ws d e p x r n =
         device_seen = r.device_seen;
         driver_shown = r.driver_shown;
         device_shown = r.device_shown;
+        kicks = r.kicks;
+        calls = r.calls;
+        driver_armed = tt;
+        device_armed = r.device_armed;
         rested = r.rested;
       },
       inside,
@@ -167,5 +171,9 @@ loads_ack ws d e y r k on last is =
       device_seen = r.device_seen;
       driver_shown = r.driver_shown;
       device_shown = r.device_shown;
+      kicks = r.kicks;
+      calls = r.calls;
+      driver_armed = tt;
+      device_armed = r.device_armed;
       rested = r.rested;
     }

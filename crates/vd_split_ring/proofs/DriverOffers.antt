@@ -1,5 +1,5 @@
 -- The accesses of an offer keep the ring invariant.
-use Rattle.std.proofs.Common.{◌≡◌, ℕ, ◌+◌, ◌%◌, ◌<◌, ◌≤◌, List, [], ◌∷◌, ◌++◌, length, take, slice_index_or, slice_set, sym, ap, ◌∙◌, subst, arith, inl}
+use Rattle.std.proofs.Common.{◌≡◌, ℕ, ◌+◌, ◌%◌, ◌<◌, ◌≤◌, List, [], ◌∷◌, ◌++◌, length, take, None, false, slice_index_or, slice_set, refl, sym, ap, ◌∙◌, subst, arith, inl}
 use Rattle.std.specs.List.{All}
 use Rattle.std.proofs.lemmas.List.{length_push, get_or-set_same}
 use Rattle.std.proofs.lemmas.List.Elements.{All-nil, All-cons, All-append}
@@ -9,15 +9,17 @@ use Rattle.vd_ring.specs.declared.frame.Put.{Put}
 use Rattle.vd_ring.specs.declared.driver.DriverDone.{DriverDone}
 use Rattle.vd_ring.specs.declared.driver.DriverDone.TheVariants.{Offer}
 use Rattle.vd_ring.specs.declared.driver.DriverNow.{DriverNow}
-use Rattle.vd_ring.specs.declared.driver.DriverNow.TheVariants.{Idle, Offering, Entered}
+use Rattle.vd_ring.specs.declared.driver.DriverNow.TheVariants.{Idle, Offering, Entered, Checking}
 use Rattle.vd_ring.specs.declared.driver.DriverView.{DriverView}
 use Rattle.vd_ring.specs.declared.device.DeviceDone.{DeviceDone}
 use Rattle.vd_ring.specs.declared.device.DeviceNow.{DeviceNow}
 use Rattle.vd_ring.specs.declared.device.DeviceNow.TheVariants as device
 use Rattle.vd_ring.specs.declared.device.DeviceView.{DeviceView}
 use Rattle.vd_ring.specs.Frames.{lent}
-use Rattle.vd_ring.specs.History.{offers, takes, free, places, next_head, chain, first, occurs}
+use Rattle.vd_ring.specs.History.{offers, collects, takes, free, places, next_head, chain, first, occurs}
 use Rattle.vd_ring.specs.Places.{Places}
+use Rattle.vd_ring.specs.Signals.{Signals, check, moves}
+use Rattle.vd_ring.specs.Signals.{publishes as publishes_range}
 use Rattle.vd_ring.specs.Lists.{Lists}
 use Rattle.vd_ring.proofs.Counts.{occurs_parts}
 use Rattle.vd_ring.proofs.HeldPlaces.{free_once, free_inside, lent_some, offer_places, places_before, chain_before}
@@ -26,7 +28,7 @@ use Rattle.vd_ring.proofs.ControlSteps.{next_free, head_before, commands_elsewhe
 use Rattle.vd_split_ring.specs.SplitWords.{IsLawful, IsDescriptors, width, used_from, commands_from, command_word, ack_word, lane_word, with_lane, entry_lane, spelling, reading, put, words_of, staged_chain, Stand}
 use Rattle.vd_split_ring.specs.SplitDriver.{CanOffer, Begins, Publishes, plan, stores, driver_offers}
 use Rattle.vd_split_ring.specs.SplitDriver.{Enters as EntersNext}
-use Rattle.vd_split_ring.specs.SplitRing.{Ring, DeviceWords, Stages, HasEntered, Loads, DeviceDoing}
+use Rattle.vd_split_ring.specs.SplitRing.{Ring, DeviceWords, Stages, HasEntered, Loads, DeviceDoing, chains_out, chains_in, entries_out, entries_in}
 use Rattle.vd_split_ring.proofs.Descriptors.{IsApart, Stands, stand_other}
 use Rattle.vd_split_ring.proofs.Tables.{IsWord, spelling_within, spelling_differ, staged_spelling}
 use Rattle.vd_split_ring.proofs.Direct.{IsNext, is_next}
@@ -39,9 +41,9 @@ next_places f o c = take (lent f c) (free f o)
 
 -- ---- the store of a word of the chain
 
-pub describes : (ws : List ℕ) (d : DriverView) (e : DeviceView) (now : DriverNow) (puts : List Put) (p x : ℕ) → Ring ws (record d { doing = now }) e → Stand d.stored puts → Begins d.frame d.done (puts ++ put p x ∷ [])
+pub describes : (ws : List ℕ) (d : DriverView) (e : DeviceView) (now : DriverNow) (puts : List Put) (p x : ℕ) → Ring ws (record d { doing = now }) e → d.armed ≡ None → Signals (chains_out (record d { doing = Offering [] })) (chains_in e) → Stand d.stored puts → Begins d.frame d.done (puts ++ put p x ∷ [])
     → Ring (slice_set ws p x) (stores d p x (Offering (puts ++ put p x ∷ []))) e × IsDescriptors d.frame p
-describes ws d e now puts p x r stand n =
+describes ws d e now puts p x r unarmed kicks stand n =
     let f : Frame = d.frame in let o : List DriverDone = d.done in let c : List Piece = n.chain in let k : ℕ = length puts in
     let ps : List ℕ = next_places f o c in
     let pl : List Put = spelling f ps c in
@@ -81,6 +83,10 @@ describes ws d e now puts p x r stand n =
         device_seen = r.device_seen;
         driver_shown = r.driver_shown;
         device_shown = r.device_shown;
+        kicks = kicks;
+        calls = moves (entries_out e) (entries_in (record d { doing = now })) (length (collects o)) false unarmed r.calls;
+        driver_armed = unarmed;
+        device_armed = r.device_armed;
         rested = r.rested;
       },
       own,
@@ -132,6 +138,10 @@ enters ws d e puts p x r n =
         device_seen = r.device_seen;
         driver_shown = r.driver_shown;
         device_shown = r.device_shown;
+        kicks = r.kicks;
+        calls = r.calls;
+        driver_armed = r.driver_armed;
+        device_armed = r.device_armed;
         rested = r.rested;
       },
       low,
@@ -185,7 +195,7 @@ publishes ws d e puts p x r n =
     let low : q < used_from f = lane_inside f 1 (omega arith) in
     subst (λ (i : ℕ). Ring (slice_set ws i x) (driver_offers d puts i x) e) (sym n.place)
     (subst (λ (z : ℕ). Ring (slice_set ws q z) (driver_offers d puts q z) e) (sym n.word)
-    (subst (λ (cs : List Piece). Ring (slice_set ws q y) (record d { done = Offer cs ∷ o; stored = slice_set d.stored q y; doing = Idle }) e) (sym (staged_is_chain f o c puts r.lawful h.can h.whole)) record {
+    (subst (λ (cs : List Piece). Ring (slice_set ws q y) (record d { done = Offer cs ∷ o; stored = slice_set d.stored q y; doing = Checking (length (offers o)) (length (offers o) + 1) }) e) (sym (staged_is_chain f o c puts r.lawful h.can h.whole)) record {
       same = r.same;
       lawful = r.lawful;
       built = r.built;
@@ -205,5 +215,9 @@ publishes ws d e puts p x r n =
       device_seen = omega (arith, r.device_seen, length_push (offers o) c);
       driver_shown = r.driver_shown;
       device_shown = r.device_shown;
+      kicks = subst (λ (m : ℕ). Signals (record { published = m; owed = check (length (offers o)) (length (offers o) + 1); bells = d.bells; ranges = m }) (chains_in e)) (sym (length_push (offers o) c)) (publishes_range (chains_out (record d { doing = Entered puts })) (chains_in e) (length (offers o) + 1) (omega arith) refl r.kicks);
+      calls = r.calls;
+      driver_armed = (r.driver_armed, record { some = omega arith; near = omega (arith, r.lawful.some_place) });
+      device_armed = r.device_armed;
       rested = r.rested;
     }))

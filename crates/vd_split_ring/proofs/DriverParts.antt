@@ -63,7 +63,7 @@ spelled_past f ws ps c p x len is inside apart = spelled_apart f ws ps c p x len
 pub open_inside : (f : Frame) (o : List DriverDone) (k q : ℕ) → Places f o → Contains (open_at o) k → 1 ≤ occurs q (places f o k) → q < f.size
 open_inside f o k q pl here a = places_inside f o k q pl (occurs_from k (open_at o) here) a
 
-open_past : (f : Frame) (o : List DriverDone) (ws : List ℕ) (p x k : ℕ) → IsLawful f → Places f o → DriverWords f o ws → (IsDescriptors f p → ⊥) → Contains (open_at o) k → Stand (slice_set ws p x) (spelling f (places f o k) (chain o k))
+pub open_past : (f : Frame) (o : List DriverDone) (ws : List ℕ) (p x k : ℕ) → IsLawful f → Places f o → DriverWords f o ws → (IsDescriptors f p → ⊥) → Contains (open_at o) k → Stand (slice_set ws p x) (spelling f (places f o k) (chain o k))
 open_past f o ws p x k l pl d apart here =
     let c = open_chain f o k l pl here in
     spelled_past f ws (places f o k) (chain o k) p x c.0 c.1 (λ q a. open_inside f o k q pl here a) apart (d.spelled k here)

@@ -7,6 +7,8 @@ pub mod DriverParts
 pub mod DriverOffers
 pub mod DriverCollects
 pub mod DriverControls
+pub mod Bells
+pub mod DriverBells
 pub mod DriverKeeps
 pub mod DriverViews
 pub mod Spelling
@@ -18,11 +20,13 @@ pub mod DeviceLooks
 pub mod DeviceTakes
 pub mod DeviceGives
 pub mod DeviceControl
+pub mod DeviceBells
 pub mod DeviceViews
 pub mod DeviceKeeping
 pub mod DeviceBagSteps
 pub mod DeviceAnswers
 pub mod Seen
 pub mod Signalling
+pub mod Sleeping
 mod Examples
 pub mod ControlFacts

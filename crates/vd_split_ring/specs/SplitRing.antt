@@ -1,8 +1,10 @@
 -- The ring invariant of a split ring: what always holds of its words and of what its two sides know.
-use Rattle.std.specs.Prelude.{◌≡◌, ℕ, ◌+◌, ◌%◌, ◌<◌, ◌≤◌, true, false, List, [], ◌∷◌, length, take, Option, Some, slice_index}
+use Rattle.std.specs.Prelude.{◌≡◌, ℕ, ◌+◌, ◌%◌, ◌<◌, ◌≤◌, true, false, List, [], ◌∷◌, length, take, Option, Some, None, slice_index}
 use Rattle.std.specs.List.{Contains}
 use Rattle.vd_bits.specs.Lanes.{lane16, lane32}
 use Rattle.vd_model.specs.declared.chain.Piece.{Piece}
+use Rattle.vd_words.specs.declared.access.Op.{Op}
+use Rattle.vd_words.specs.declared.access.Op.TheVariants as op
 use Rattle.vd_ring.specs.declared.frame.Frame.{Frame}
 use Rattle.vd_ring.specs.declared.frame.Put.{Put}
 use Rattle.vd_ring.specs.declared.frame.Used.{Used}
@@ -15,10 +17,12 @@ use Rattle.vd_ring.specs.declared.device.DeviceNow.{DeviceNow}
 use Rattle.vd_ring.specs.declared.device.DeviceNow.TheVariants as device
 use Rattle.vd_ring.specs.declared.device.DeviceView.{DeviceView}
 use Rattle.vd_ring.specs.Batches.{MayReturn}
-use Rattle.vd_ring.specs.History.{offers, collects, takes, gives, taken_head, running, open_at, places, head, next_head, chain, chain_at}
+use Rattle.vd_ring.specs.History.{offers, collects, takes, gives, taken_head, running, open_at, places, head, next_head, chain, chain_at, IsWhole}
 use Rattle.vd_ring.specs.Control.{Commands, Acks}
 use Rattle.vd_ring.specs.Places.{Places}
 use Rattle.vd_ring.specs.Lists.{Lists, Rested, entry_at}
+use Rattle.vd_ring.specs.Signals.{Publisher, Listener, Signals}
+use Rattle.vd_ring.specs.Sleep.{driver_owed, device_owed, driver_idle, device_idle, gives_made}
 use Rattle.vd_split_ring.specs.SplitWords.{IsLawful, IsBuilt, IsDrivers, IsDevices, width, command_word, ack_word, kick_at, call_at, used_from, lane_at, entry_lane, event_lane, used_index, used_id, used_len, words_of, Stand, spelling, reading}
 use Rattle.vd_split_ring.specs.SplitDriver.{CanOffer, Begins, plan}
 use Rattle.vd_split_ring.specs.SplitDevice.{loaded_head}
@@ -50,8 +54,7 @@ pub record DeviceWords (f : Frame) (o : List DriverDone) (s : List DeviceDone) (
   pub lens : (j : ℕ) (u : Used) → length (collects o) ≤ j → entry_at s j ≡ Some u → used_len f stored j ≡ u.len
 
 -- the driver's flags, used_event and bell, armed or not: with EVENT_IDX the flags stay 0, without it used_event does; where it is
--- armed, the event word stands at its count (VIRTIO 1.2, 2.7.7 and 2.7.10). That it rings no more often than it publishes is no
--- part of these: it belongs to what holds of sleeping sides
+-- armed, the event word stands at its count (VIRTIO 1.2, 2.7.7 and 2.7.10)
 pub record DriverSignals (f : Frame) (armed : Option ℕ) (bells : ℕ) (stored : List ℕ) : Type 0 where
   pub no_flags : f.features.event_idx ≡ true → lane_at f stored 0 ≡ 0
   pub no_event : f.features.event_idx ≡ false → lane_at f stored (event_lane f) ≡ 0
@@ -104,7 +107,8 @@ DriverDoing (driver.Offering puts) f o stored seen s = Stages f o stored puts
 DriverDoing (driver.Entered puts) f o stored seen s = HasEntered f o stored puts
 DriverDoing (driver.Collecting (r ∷ [])) f o stored seen s = HasSeen r seen (length (collects o))
 DriverDoing (driver.Collecting (r ∷ w ∷ [])) f o stored seen s = HasSeen r seen (length (collects o)) × Finds f o s w
-DriverDoing _ f o stored seen s = ⊥
+DriverDoing (driver.Collecting _) f o stored seen s = ⊥
+DriverDoing _ f o stored seen s = Unit {0}
 
 -- w has the head of chain number k of what was offered, and the words loaded after it are the first of that chain's, not all
 pub record Loads (f : Frame) (o : List DriverDone) (k w : ℕ) (ws : List ℕ) : Type 0 where
@@ -127,7 +131,53 @@ DeviceDoing (device.Taking (r ∷ [])) f o s stored seen = HasSeen r seen (lengt
 DeviceDoing (device.Taking (r ∷ w ∷ ws)) f o s stored seen = HasSeen r seen (length (takes s)) × Loads f o (length (takes s)) w ws
 DeviceDoing (device.Giving (a ∷ [])) f o s stored seen = Gives f s stored a
 DeviceDoing (device.Giving (a ∷ b ∷ [])) f o s stored seen = Gives f s stored a × (used_len f stored (length (gives s)) ≡ lane32 b 0)
-DeviceDoing _ f o s stored seen = ⊥
+DeviceDoing (device.Taking _) f o s stored seen = ⊥
+DeviceDoing (device.Giving _) f o s stored seen = ⊥
+DeviceDoing device.Resting f o s stored seen = IsWhole s
+DeviceDoing _ f o s stored seen = Unit {0}
+
+-- ---- signals
+
+-- the driver as the one that publishes chains, and as the one that waits for used entries; the device as the one that waits for
+-- chains, and as the one that publishes used entries. Positions are counts
+abbrev pub chains_out : DriverView → Publisher
+chains_out d = record { published = length (offers d.done); owed = driver_owed d.doing; bells = d.bells; ranges = length (offers d.done) }
+
+abbrev pub chains_in : DeviceView → Listener
+chains_in e = record { at = length (takes e.done); idle = device_idle e.doing; armed = e.armed; heard = e.heard }
+
+abbrev pub entries_out : DeviceView → Publisher
+entries_out e = record { published = length (gives e.done); owed = device_owed e.doing; bells = e.bells; ranges = gives_made e.done }
+
+abbrev pub entries_in : DriverView → Listener
+entries_in d = record { at = length (collects d.done); idle = driver_idle d.doing; armed = d.armed; heard = d.heard }
+
+-- a range that may be checked: not empty, and no longer than the ring
+pub record IsRange (f : Frame) (old new : ℕ) : Type 0 where
+  pub some : old < new
+  pub near : new ≤ old + f.size
+
+-- a disarming store is next only without EVENT_IDX, after a look of an arming or after a bell that was heard
+abbrev pub Woke : Op → ℕ → Type 0
+Woke op.Arm heard = Unit {0}
+Woke op.Hear heard = 1 ≤ heard
+Woke _ heard = ⊥
+
+-- where a side that has come to count `at` may be armed: while idle; between its arming store and its second look it is, at its
+-- count; in all other operations it isn't
+abbrev pub DriverArmed : DriverNow → Frame → Option ℕ → ℕ → ℕ → Type 0
+DriverArmed driver.Idle f armed at heard = Unit {0}
+DriverArmed driver.Arming f armed at heard = armed ≡ Some at
+DriverArmed (driver.Disarming o) f armed at heard = (armed ≡ None) × (f.features.event_idx ≡ false) × Woke o heard
+DriverArmed (driver.Checking old new) f armed at heard = (armed ≡ None) × IsRange f old new
+DriverArmed _ f armed at heard = armed ≡ None
+
+abbrev pub DeviceArmed : DeviceNow → Frame → Option ℕ → ℕ → ℕ → Type 0
+DeviceArmed device.Idle f armed at heard = Unit {0}
+DeviceArmed device.Arming f armed at heard = armed ≡ Some at
+DeviceArmed (device.Disarming o) f armed at heard = (armed ≡ None) × (f.features.event_idx ≡ false) × Woke o heard
+DeviceArmed (device.Checking old new) f armed at heard = (armed ≡ None) × IsRange f old new
+DeviceArmed _ f armed at heard = armed ≡ None
 
 -- ---- the invariant
 
@@ -136,7 +186,7 @@ pub record Ring (ws : List ℕ) (d : DriverView) (e : DeviceView) : Type 0 where
   pub same : e.frame ≡ d.frame
   -- it is a split ring of 1 to 32,768 places
   pub lawful : IsLawful d.frame
-  -- without tables and without the event index
+  -- without tables
   pub built : IsBuilt d.frame
   -- each word is what its one writer last stored in it
   pub words : Words d.frame ws d.stored e.stored
@@ -157,6 +207,12 @@ pub record Ring (ws : List ℕ) (d : DriverView) (e : DeviceView) : Type 0 where
   -- what each side has staged stands where no other may look, and what it has loaded is what the other published
   pub driver_doing : DriverDoing d.doing d.frame d.done d.stored d.seen e.done
   pub device_doing : DeviceDoing e.doing d.frame d.done e.done e.stored e.seen
+  -- a sleeping side without a signal has nothing before it, or the other side owes it one: of the chains, and of the used entries
+  pub kicks : Signals (chains_out d) (chains_in e)
+  pub calls : Signals (entries_out e) (entries_in d)
+  -- in which operations each side is armed
+  pub driver_armed : DriverArmed d.doing d.frame d.armed (length (collects d.done)) d.heard
+  pub device_armed : DeviceArmed e.doing d.frame e.armed (length (takes e.done)) e.heard
   -- an index that a side has seen was published
   pub driver_seen : d.seen ≤ length (gives e.done)
   pub device_seen : e.seen ≤ length (offers d.done)

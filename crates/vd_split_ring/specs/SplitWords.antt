@@ -2,7 +2,7 @@
 use Rattle.std.specs.Prelude.{◌≡◌, ℕ, ◌+◌, ◌-◌, ◌*◌, ◌/◌, ◌%◌, ◌<◌, ◌≤◌, ◌⊎◌, ◌==◌, ◌&&◌, nat_lt, Bool, true, false, not, List, [], ◌∷◌, ◌++◌, length, map, take, drop, if◌then◌else◌, slice_index}
 use Rattle.std.specs.List.{All}
 use Rattle.vd_bits.specs.Lanes.{lane16, set_lane16, lane32}
-use Rattle.vd_bits.specs.Event.{apart}
+use Rattle.vd_bits.specs.Event.{apart, need_event}
 use Rattle.vd_model.specs.declared.chain.Piece.{Piece}
 use Rattle.vd_ring.specs.declared.frame.Frame.{Frame}
 use Rattle.vd_ring.specs.declared.frame.Put.{Put}
@@ -14,10 +14,9 @@ pub record IsLawful (f : Frame) : Type 0 where
   pub some_place : 0 < f.size
   pub small : f.size ≤ 32768
 
--- what is built: INDIRECT_DESC and EVENT_IDX are off
+-- what is built: INDIRECT_DESC is off
 pub record IsBuilt (f : Frame) : Type 0 where
   pub direct : f.features.indirect ≡ false
-  pub flagged : f.features.event_idx ≡ false
 
 -- ---- the areas, one after the other: descriptors from word 0 on, driver area, device area, tables, commands, acks, two bells.
 -- Each name is its area's first word
@@ -107,6 +106,31 @@ used_id f ws j = lane32 (slice_index ws (id_word f j)) 1
 
 abbrev pub used_len : Frame → List ℕ → ℕ → ℕ
 used_len f ws j = lane32 (slice_index ws (len_word f j)) 0
+
+-- ---- event words (VIRTIO 1.2, 2.7.7 and 2.7.10): with EVENT_IDX used_event and avail_event, else bit 0 of the flags
+
+-- the lane of the driver's event word, among those of its area
+abbrev pub driver_event_lane : Frame → ℕ
+driver_event_lane f = if f.features.event_idx then event_lane f else 0
+
+-- the word with the device's event word, and its lane there
+abbrev pub device_event_word : Frame → ℕ
+device_event_word f = if f.features.event_idx then used_from f + f.size else used_from f
+
+abbrev pub device_event_lane : Frame → ℕ
+device_event_lane f = if f.features.event_idx then 2 else 0
+
+-- the event word of a side that waits for count s
+abbrev pub armed_value : Frame → ℕ → ℕ
+armed_value f s = if f.features.event_idx then s % 65536 else 0
+
+-- this event word asks for a signal for the range old to new - 1: the range holds the event index, or bit 0 of the flags is clear
+abbrev pub wants : Frame → ℕ → ℕ → ℕ → Bool
+wants f old new event = if f.features.event_idx then need_event (event % 65536) (new % 65536) (old % 65536) else (event % 2) == 0
+
+-- the word of a bell that was stored so many times
+abbrev pub bell_word : ℕ → ℕ
+bell_word n = n % 18446744073709551616
 
 -- ---- indices, which count modulo 65,536
 

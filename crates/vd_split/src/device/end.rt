@@ -8,7 +8,7 @@ use super::{DeviceStep, SplitDevice};
 use vd_layout::{BadBase, DeviceEnd};
 use vd_model::{Base, Features};
 use vd_ring::DeviceAct;
-use vd_words::Port;
+use vd_words::{Op, Port};
 
 impl DeviceEnd for SplitDevice {
     ghost device = { split_device };
@@ -25,6 +25,10 @@ impl DeviceEnd for SplitDevice {
 
     fn idle(&self) -> bool {
         matches!(self.doing, DeviceStep::Idle | DeviceStep::Resting)
+    }
+
+    fn armed(&self) -> bool {
+        self.armed
     }
 
     fn taken(&self) -> u32 {
@@ -58,6 +62,18 @@ impl DeviceEnd for SplitDevice {
         }
     }
 
+    fn begin_arm(&mut self) {
+        self.doing = DeviceStep::Arm;
+    }
+
+    fn begin_hear(&mut self) {
+        self.doing = DeviceStep::Hear;
+    }
+
+    fn begin_disarm(&mut self) {
+        self.doing = DeviceStep::Disarm;
+    }
+
     fn begin_rest(&mut self) {
         self.doing = DeviceStep::Rest;
     }
@@ -73,7 +89,16 @@ impl DeviceEnd for SplitDevice {
             DeviceStep::Name(number, head, len) => self.name(port, number, head, len),
             DeviceStep::Measure(number, head, len) => self.measure(port, number, head, len),
             DeviceStep::Publish(number, head, len) => self.publish(port, number, head, len),
-            DeviceStep::Rest => self.rest(port),
+            DeviceStep::Check(old, new) => self.check(port, old, new),
+            DeviceStep::Ring(old, new) => self.ring(port, old, new),
+            DeviceStep::Arm => self.arm(port),
+            DeviceStep::LookAgain => self.look_again(port),
+            DeviceStep::Hear => self.hear(port),
+            DeviceStep::WakeArming => self.wake(port, Op::Arm),
+            DeviceStep::WakeHearing => self.wake(port, Op::Hear),
+            DeviceStep::Disarm => self.disarm(port),
+            DeviceStep::Rest => self.leave(port),
+            DeviceStep::RestLook => self.rest(port),
         }
     }
 

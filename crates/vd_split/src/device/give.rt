@@ -72,15 +72,16 @@ impl SplitDevice {
         port.access(Op::Give, Access::Store(used_area(self.size), word));
         self.area[0] = word;
         self.running[head as usize] = None;
-        self.given += 1;
+        let first = self.given;
+        self.given = first + 1;
         self.used = next_place(self.used, self.size);
-        self.doing = DeviceStep::Idle;
+        self.doing = DeviceStep::Check(first as u64, first as u64 + 1);
         DeviceAct::Given(number)
     }
 
     /// The look of a rest, whatever it shows. The chains taken and not given are offered still.
     pub(super) fn rest<P: Port>(&mut self, port: &mut P) -> DeviceAct
-        requires now { self.old.doing ≡ DeviceStep.Rest }
+        requires now { self.old.doing ≡ DeviceStep.RestLook }
         requires own { (v : DeviceView) × DeviceStands self.old v × IsOwn P.port device_side port.old v }
         ensures { (v : DeviceView) → DeviceStands self.old v → IsOwn P.port device_side port.old v → IsDeviceStep P.port split_device port.old port.new v self.old self.new result }
     {

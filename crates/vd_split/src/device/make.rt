@@ -1,5 +1,5 @@
 //! A device's end of a fresh ring.
-ghost use Rattle.std.specs.Prelude.{◌≡◌, ◌<◌, ◌≤◌, IfOk, None, replicate};
+ghost use Rattle.std.specs.Prelude.{◌≡◌, ◌<◌, ◌≤◌, IfOk, None, false, replicate};
 ghost use Rattle.vd_ring.specs.Fresh.{fresh_device};
 ghost use Rattle.vd_ring.specs.declared.frame.Frame.{Frame};
 ghost use Rattle.vd_split_ring.specs.SplitWords.{width};
@@ -8,6 +8,7 @@ ghost use Rattle.vd_split.specs.DeviceEnd.{DeviceStands};
 
 use super::{DeviceStep, SplitDevice};
 use crate::descriptors::zero_words;
+use crate::driver::kick_place;
 use arrayvec::ArrayVec;
 use std::alloc::{AllocError, Global};
 use vd_model::Features;
@@ -32,10 +33,11 @@ impl SplitDevice {
         alloc: Global,
         size: u32,
         features: Features,
+        control: bool,
     ) -> Result<SplitDevice, AllocError>
         requires { (0 < size) × (size ≤ 32768) }
-        ensures stands { IfOk result (λ e. (f : Frame) → IsMadeFor size features f → DeviceStands e (fresh_device f (width f))) }
-        ensures idle { IfOk result (λ e. (e.doing ≡ DeviceStep.Idle) × (e.size ≡ size) × (e.features ≡ features) × (e.taken ≡ 0) × (e.given ≡ 0)) }
+        ensures stands { IfOk result (λ e. (f : Frame) → IsMadeFor size features f → f.control ≡ control → DeviceStands e (fresh_device f (width f))) }
+        ensures idle { IfOk result (λ e. (e.doing ≡ DeviceStep.Idle) × (e.size ≡ size) × (e.features ≡ features) × (e.taken ≡ 0) × (e.given ≡ 0) × (e.armed ≡ false)) }
     {
         let running = empty_table(alloc, size)?;
         let guesses = no_guesses(alloc, size)?;
@@ -51,6 +53,10 @@ impl SplitDevice {
             guesses,
             area,
             shown: false,
+            kick: kick_place(size, features.indirect, control),
+            armed: false,
+            heard: 0,
+            bells: 0,
             pieces: ArrayVec::new(),
             addr: 0,
             doing: DeviceStep::Idle,

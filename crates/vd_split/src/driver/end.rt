@@ -9,7 +9,7 @@ use arrayvec::ArrayVec;
 use vd_layout::DriverEnd;
 use vd_model::{Chain, Features, Piece};
 use vd_ring::DriverAct;
-use vd_words::Port;
+use vd_words::{Op, Port};
 
 impl DriverEnd for SplitDriver {
     ghost driver = { split_driver };
@@ -26,6 +26,10 @@ impl DriverEnd for SplitDriver {
 
     fn idle(&self) -> bool {
         matches!(self.doing, DriverStep::Idle)
+    }
+
+    fn armed(&self) -> bool {
+        self.armed
     }
 
     fn offered(&self) -> u32 {
@@ -53,6 +57,18 @@ impl DriverEnd for SplitDriver {
         self.doing = DriverStep::Look;
     }
 
+    fn begin_arm(&mut self) {
+        self.doing = DriverStep::Arm;
+    }
+
+    fn begin_hear(&mut self) {
+        self.doing = DriverStep::Hear;
+    }
+
+    fn begin_disarm(&mut self) {
+        self.doing = DriverStep::Disarm;
+    }
+
     #[inline]
     fn step<P: Port>(&mut self, port: &mut P) -> DriverAct {
         match self.doing {
@@ -63,6 +79,14 @@ impl DriverEnd for SplitDriver {
             DriverStep::Look => self.look(port),
             DriverStep::Find(word) => self.find(port, word),
             DriverStep::Finish(word, found) => self.finish(port, word, found),
+            DriverStep::Check(old, new) => self.check(port, old, new),
+            DriverStep::Ring(old, new) => self.ring(port, old, new),
+            DriverStep::Arm => self.arm(port),
+            DriverStep::LookAgain => self.look_again(port),
+            DriverStep::Hear => self.hear(port),
+            DriverStep::WakeArming => self.wake(port, Op::Arm),
+            DriverStep::WakeHearing => self.wake(port, Op::Hear),
+            DriverStep::Disarm => self.disarm(port),
         }
     }
 }

@@ -1,13 +1,15 @@
 //! A driver's end of a fresh ring.
-ghost use Rattle.std.specs.Prelude.{◌≡◌, ◌<◌, ◌≤◌, length, IfOk, false};
+ghost use Rattle.std.specs.Prelude.{◌≡◌, ◌<◌, ◌≤◌, ◌+◌, length, IfOk, false};
 ghost use Rattle.vd_ring.specs.Fresh.{fresh_driver};
 ghost use Rattle.vd_ring.specs.History.{upto};
 ghost use Rattle.vd_ring.specs.declared.frame.Frame.{Frame};
 ghost use Rattle.vd_split_ring.specs.SplitWords.{IsLawful, IsBuilt, width};
 ghost use Rattle.vd_split.specs.DriverEnd.{IsMadeFor, DriverStands};
+ghost use Rattle.vd_split.specs.Parts.{all_words};
 
 use super::{DriverStep, Slot, SplitDriver};
 use crate::descriptors::zero_words;
+use crate::layout::all_words;
 use arrayvec::ArrayVec;
 use circular_buffer::HeapCircularBuffer;
 use std::alloc::{AllocError, Global};
@@ -38,16 +40,25 @@ fn empty_slots(alloc: Global, size: u32) -> Result<Vec<Slot>, AllocError>
     Ok(slots)
 }
 
+/// The place of the driver's bell, the last word but one.
+pub(crate) fn kick_place(size: u32, indirect: bool, control: bool) -> u32
+    requires { size ≤ 32768 }
+    ensures { result + 2 ≡ all_words size indirect control }
+{
+    all_words(size, indirect, control) - 2
+}
+
 impl SplitDriver {
     /// The driver's end of a fresh ring.
     pub(crate) fn make(
         alloc: Global,
         size: u32,
         features: Features,
+        control: bool,
     ) -> Result<SplitDriver, AllocError>
         requires { (0 < size) × (size ≤ 32768) }
-        ensures stands { IfOk result (λ e. (f : Frame) → IsMadeFor size features f → DriverStands e (fresh_driver f (width f))) }
-        ensures idle { IfOk result (λ e. (e.doing ≡ DriverStep.Idle) × (e.size ≡ size) × (e.features ≡ features)) }
+        ensures stands { IfOk result (λ e. (f : Frame) → IsMadeFor size features f → f.control ≡ control → DriverStands e (fresh_driver f (width f))) }
+        ensures idle { IfOk result (λ e. (e.doing ≡ DriverStep.Idle) × (e.size ≡ size) × (e.features ≡ features) × (e.armed ≡ false)) }
     {
         let free = all_places(alloc, size)?;
         let slots = empty_slots(alloc, size)?;
@@ -63,6 +74,10 @@ impl SplitDriver {
             slots,
             area,
             shown: false,
+            kick: kick_place(size, features.indirect, control),
+            armed: false,
+            heard: 0,
+            bells: 0,
             pieces: ArrayVec::new(),
             doing: DriverStep::Idle,
         })

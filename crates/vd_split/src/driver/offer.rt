@@ -77,7 +77,7 @@ impl SplitDriver {
         );
         self.offered = number + 1;
         self.entry = next_place(self.entry, self.size);
-        self.doing = DriverStep::Idle;
+        self.doing = DriverStep::Check(number as u64, number as u64 + 1);
         DriverAct::Offered(number)
     }
 }

@@ -23,7 +23,7 @@ returns g c = λ v st own.
     (c.set_lane16-word.ensures ∙ ap (λ w. set_lane16 w 1 ((e.offered + 1) % 65536)) (get_or_read e.area.items 0 c.index.result.now (entry_below e v st).1 c.index.ensures 0))
     (t.ensures.left ∙ ap (λ n. drop n e.free.items) c.len-count.ensures.value) t.ensures.capacity t.ensures.number (t.ensures.places ∙ ap (λ n. take n e.free.items) c.len-count.ensures.value) in
     made g.P.Port.port c.args.port.now c.access.new.self e
-    (record e { offered = e.offered + 1; entry = c.next_place-self.result; free = t.new.free; slots = with_item e.slots h t.new.slot; area = with_item e.area 0 x; doing = step.Idle }) v op.Offer (Store (2 * e.size) x) c.access.result (act.Offered e.offered)
-    (subst (λ k. Goes e (record e { offered = e.offered + 1; entry = k; free = t.new.free; slots = with_item e.slots h t.new.slot; area = with_item e.area 0 x; doing = step.Idle }) v op.Offer (Store (2 * e.size) x) c.access.result (act.Offered e.offered)) (sym c.next_place-self.ensures)
-    (subst (λ k. Goes e (record e { offered = e.offered + 1; entry = next_place e.entry e.size; free = t.new.free; slots = with_item e.slots k t.new.slot; area = with_item e.area 0 x; doing = step.Idle }) v op.Offer (Store (2 * e.size) x) c.access.result (act.Offered e.offered)) (sym c.place_at-head.ensures) go))
+    (record e { offered = e.offered + 1; entry = c.next_place-self.result; free = t.new.free; slots = with_item e.slots h t.new.slot; area = with_item e.area 0 x; doing = step.Check e.offered (e.offered + 1) }) v op.Offer (Store (2 * e.size) x) c.access.result (act.Offered e.offered)
+    (subst (λ k. Goes e (record e { offered = e.offered + 1; entry = k; free = t.new.free; slots = with_item e.slots h t.new.slot; area = with_item e.area 0 x; doing = step.Check e.offered (e.offered + 1) }) v op.Offer (Store (2 * e.size) x) c.access.result (act.Offered e.offered)) (sym c.next_place-self.ensures)
+    (subst (λ k. Goes e (record e { offered = e.offered + 1; entry = next_place e.entry e.size; free = t.new.free; slots = with_item e.slots k t.new.slot; area = with_item e.area 0 x; doing = step.Check e.offered (e.offered + 1) }) v op.Offer (Store (2 * e.size) x) c.access.result (act.Offered e.offered)) (sym c.place_at-head.ensures) go))
     c.access.ensures

@@ -1,0 +1,7 @@
+use Rattle.std.proofs.Common.{refl}
+use Rattle.vd_split.specs.declared.device.DeviceStep.TheVariants as step
+use Rattle.vd_split.specs.DeviceLaws.{begins}
+use Rattle.vd_split.proofs.device.end.SplitDeviceDeviceEnd.begin_take.Goals as goal
+
+pub returns-clause-stands : goal.returns-clause-stands
+returns-clause-stands c = λ v st. begins c.args.self.now v step.Look c.requires.idle st (λ is. is) c.requires.unarmed refl

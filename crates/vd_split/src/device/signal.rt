@@ -1,0 +1,47 @@
+//! The steps that follow a give's publishing store: the check and the bell.
+ghost use Rattle.std.specs.Prelude.{◌≡◌};
+ghost use Rattle.vd_words.specs.Own.{IsOwn};
+ghost use Rattle.vd_ring.specs.declared.device.DeviceView.{DeviceView};
+ghost use Rattle.vd_split_ring.specs.SplitDevice.{device_side};
+ghost use Rattle.vd_layout.specs.Device.{IsDeviceStep};
+ghost use Rattle.vd_split.specs.DeviceEnd.{DeviceStands, split_device};
+
+use super::{DeviceStep, SplitDevice};
+use crate::driver::{own_lane, wanted};
+use vd_bits::lane16;
+use vd_ring::DeviceAct;
+use vd_words::{Access, Op, Port};
+
+impl SplitDevice {
+    /// The load of the driver's event word, after the index was stored: it answers the driver's arming, which looks again after its
+    /// own store.
+    pub(super) fn check<P: Port>(&mut self, port: &mut P, old: u64, new: u64) -> DeviceAct
+        requires now { self.old.doing ≡ DeviceStep.Check old new }
+        requires own { (v : DeviceView) × DeviceStands self.old v × IsOwn P.port device_side port.old v }
+        ensures { (v : DeviceView) → DeviceStands self.old v → IsOwn P.port device_side port.old v → IsDeviceStep P.port split_device port.old port.new v self.old self.new result }
+    {
+        let event_idx = self.features.event_idx;
+        let lane = own_lane(self.size, event_idx);
+        let word = port.access(Op::Give, Access::Load(2 * self.size + lane / 4));
+        let rings = wanted(event_idx, old, new, lane16(word, lane % 4));
+        self.doing = if rings {
+            DeviceStep::Ring(old, new)
+        } else {
+            DeviceStep::Idle
+        };
+        DeviceAct::Moved
+    }
+
+    /// The store of the bell.
+    pub(super) fn ring<P: Port>(&mut self, port: &mut P, old: u64, new: u64) -> DeviceAct
+        requires now { self.old.doing ≡ DeviceStep.Ring old new }
+        requires own { (v : DeviceView) × DeviceStands self.old v × IsOwn P.port device_side port.old v }
+        ensures { (v : DeviceView) → DeviceStands self.old v → IsOwn P.port device_side port.old v → IsDeviceStep P.port split_device port.old port.new v self.old self.new result }
+    {
+        let bells = self.bells + 1;
+        port.access(Op::Give, Access::Store(self.kick + 1, bells));
+        self.bells = bells;
+        self.doing = DeviceStep::Idle;
+        DeviceAct::Moved
+    }
+}

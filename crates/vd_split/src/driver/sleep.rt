@@ -1,0 +1,129 @@
+//! The steps of an arming, a hearing and a disarming.
+ghost use Rattle.std.specs.Prelude.{◌≡◌, ◌≤◌, false};
+ghost use Rattle.vd_words.specs.Own.{IsOwn};
+ghost use Rattle.vd_words.specs.declared.access.Op.{Op};
+ghost use Rattle.vd_ring.specs.declared.driver.DriverView.{DriverView};
+ghost use Rattle.vd_split_ring.specs.SplitDriver.{driver_side};
+ghost use Rattle.vd_layout.specs.Driver.{IsDriverStep};
+ghost use Rattle.vd_split.specs.DriverEnd.{DriverStands, Wakes, split_driver};
+ghost use Rattle.vd_split.specs.Parts.{own_lane, own_value};
+
+use super::{DriverStep, SplitDriver};
+use crate::descriptors::{shows_count, used_area};
+use vd_bits::set_lane16;
+use vd_ring::DriverAct;
+use vd_words::{Access, Op, Port};
+
+/// The lane of the own event word.
+#[inline]
+pub(crate) fn own_lane(size: u32, event_idx: bool) -> u32
+    requires { size ≤ 32768 }
+    ensures { result ≡ own_lane size event_idx }
+{
+    if event_idx { size + 2 } else { 0 }
+}
+
+/// What it holds where the end waits for the entry of this count.
+#[inline]
+pub(crate) fn own_value(count: u32, event_idx: bool) -> u16
+    ensures { result ≡ own_value count event_idx }
+{
+    if event_idx {
+        (count % 0x1_0000) as u16
+    } else {
+        0
+    }
+}
+
+impl SplitDriver {
+    /// The store of the own event word. What the device published before it is found by the second look; for what it publishes after
+    /// it, it finds this word.
+    pub(super) fn arm<P: Port>(&mut self, port: &mut P) -> DriverAct
+        requires now { self.old.doing ≡ DriverStep.Arm }
+        requires own { (v : DriverView) × DriverStands self.old v × IsOwn P.port driver_side port.old v }
+        ensures { (v : DriverView) → DriverStands self.old v → IsOwn P.port driver_side port.old v → IsDriverStep P.port split_driver port.old port.new v self.old self.new result }
+    {
+        let lane = own_lane(self.size, self.features.event_idx);
+        let value = own_value(self.collected, self.features.event_idx);
+        let i = lane / 4;
+        let word = set_lane16(self.area[i as usize], lane % 4, value);
+        port.access(Op::Arm, Access::Store(2 * self.size + i, word));
+        self.area[i as usize] = word;
+        self.armed = true;
+        self.doing = DriverStep::LookAgain;
+        DriverAct::Moved
+    }
+
+    /// The second look.
+    pub(super) fn look_again<P: Port>(&mut self, port: &mut P) -> DriverAct
+        requires now { self.old.doing ≡ DriverStep.LookAgain }
+        requires own { (v : DriverView) × DriverStands self.old v × IsOwn P.port driver_side port.old v }
+        ensures { (v : DriverView) → DriverStands self.old v → IsOwn P.port driver_side port.old v → IsDriverStep P.port split_driver port.old port.new v self.old self.new result }
+    {
+        let word = port.access(Op::Arm, Access::Load(used_area(self.size)));
+        if shows_count(word, self.collected) {
+            self.shown = false;
+            self.doing = DriverStep::Idle;
+            return DriverAct::Armed;
+        }
+        self.shown = true;
+        self.armed = false;
+        if self.features.event_idx {
+            self.doing = DriverStep::Idle;
+            return DriverAct::Awake;
+        }
+        self.doing = DriverStep::WakeArming;
+        DriverAct::Moved
+    }
+
+    /// The load of the device's bell.
+    pub(super) fn hear<P: Port>(&mut self, port: &mut P) -> DriverAct
+        requires now { self.old.doing ≡ DriverStep.Hear }
+        requires own { (v : DriverView) × DriverStands self.old v × IsOwn P.port driver_side port.old v }
+        ensures { (v : DriverView) → DriverStands self.old v → IsOwn P.port driver_side port.old v → IsDriverStep P.port split_driver port.old port.new v self.old self.new result }
+    {
+        let word = port.access(Op::Hear, Access::Load(self.kick + 1));
+        if word == self.heard {
+            self.doing = DriverStep::Idle;
+            return DriverAct::Asleep;
+        }
+        self.heard = word;
+        self.armed = false;
+        if self.features.event_idx {
+            self.doing = DriverStep::Idle;
+            return DriverAct::Awake;
+        }
+        self.doing = DriverStep::WakeHearing;
+        DriverAct::Moved
+    }
+
+    /// The disarming access: without EVENT_IDX a store that sets NO_INTERRUPT, with it a load, since no store disarms.
+    pub(super) fn disarm<P: Port>(&mut self, port: &mut P) -> DriverAct
+        requires now { self.old.doing ≡ DriverStep.Disarm }
+        requires own { (v : DriverView) × DriverStands self.old v × IsOwn P.port driver_side port.old v }
+        ensures { (v : DriverView) → DriverStands self.old v → IsOwn P.port driver_side port.old v → IsDriverStep P.port split_driver port.old port.new v self.old self.new result }
+    {
+        if self.features.event_idx {
+            port.access(Op::Disarm, Access::Load(self.kick + 1));
+            self.armed = false;
+            self.doing = DriverStep::Idle;
+            return DriverAct::Awake;
+        }
+        self.wake(port, Op::Disarm)
+    }
+
+    /// The disarming store of an arming, of a hearing, or alone.
+    pub(super) fn wake<P: Port>(&mut self, port: &mut P, op: Op) -> DriverAct
+        requires now { Wakes self.old.doing op }
+        requires flags { self.old.features.event_idx ≡ false }
+        requires own { (v : DriverView) × DriverStands self.old v × IsOwn P.port driver_side port.old v }
+        ensures { (v : DriverView) → DriverStands self.old v → IsOwn P.port driver_side port.old v → IsDriverStep P.port split_driver port.old port.new v self.old self.new result }
+    {
+        let word = set_lane16(self.area[0], 0, 1);
+        port.access(op, Access::Store(2 * self.size, word));
+        self.area[0] = word;
+        self.armed = false;
+        self.doing = DriverStep::Idle;
+        DriverAct::Awake
+    }
+}
