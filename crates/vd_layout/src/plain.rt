@@ -15,6 +15,7 @@ use vd_words::Port;
 
 /// Finishes the operation of the driver's end over a plain port. The words still meet the ring invariant, with what the
 /// device's side knows unchanged.
+#[inline(always)]
 pub fn finish_driver_beside<L: Layout, P: Port>(
     driver: &mut L::Driver,
     device: &L::Device,
@@ -33,6 +34,7 @@ pub fn finish_driver_beside<L: Layout, P: Port>(
 
 /// Finishes the operation of the device's end over a plain port. The words still meet the ring invariant, with what the
 /// driver's side knows unchanged.
+#[inline(always)]
 pub fn finish_device_beside<L: Layout, P: Port>(
     driver: &L::Driver,
     device: &mut L::Device,
