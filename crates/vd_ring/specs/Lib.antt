@@ -14,3 +14,4 @@ pub mod DriverSteps
 pub mod DeviceSteps
 pub mod Signals
 pub mod Sleep
+pub mod Looks
