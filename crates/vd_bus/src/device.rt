@@ -33,7 +33,7 @@ pub struct Refused<L: Layout> {
 
 /// A device of a queue: while it is attached it holds a ring's device end, takes chains in the ring's order, and records
 /// each chain that it begins.
-pub trait Device<L: Layout>: Send + Drop {
+pub trait Device<L: Layout>: Drop {
     /// Plain data that no call changes.
     type Carried;
 
@@ -75,10 +75,10 @@ pub trait Device<L: Layout>: Send + Drop {
         requires own { (w : DeviceView) × party.holds self.old w × IsOwn P.port L.Device.device.side port.old w }
         ensures { (w : DeviceView) → party.holds self.old w → IsOwn P.port L.Device.device.side port.old w → IsDeviceAccess P.port L.Device.device party port.old port.new w self.old self.new result };
 
-    /// Makes whole operations over plain words, until it is done or finds no further chain.
+    /// Makes whole operations over the plain words of its ring, until it is done or finds no further chain.
     fn phase<P: Port>(&mut self, port: &mut P)
         requires live { ¬ (party.is_done self.old) }
-        requires own { (ws : List ℕ) × (v : DriverView) × (w : DeviceView) × P.port.plain port.old ws × L.layout.ring ws v w × party.holds self.old w }
+        requires own { (ws : List ℕ) × (v : DriverView) × (w : DeviceView) × P.port.plain port.old ws × L.layout.ring ws v w × party.holds self.old w × (P.port.ring port.old ≡ v.frame.ring) }
         ensures { IsDevicePhaseFrom P.port L.Device.device L.layout party port.old port.new self.old self.new };
 
     /// Whether all chains of its order were begun and given, and its end rests.

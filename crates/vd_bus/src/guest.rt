@@ -14,7 +14,7 @@ use vd_words::Port;
 
 /// A guest of a queue: from `boot` to `halt` it holds a ring's driver end, offers the chains of its script in order, and
 /// keeps what comes back.
-pub trait Guest<L: Layout>: Send + Drop {
+pub trait Guest<L: Layout>: Drop {
     ghost party: { GuestParty Self };
 
     /// Copies the script, and takes room for all that will come back.
@@ -40,10 +40,10 @@ pub trait Guest<L: Layout>: Send + Drop {
         requires own { (v : DriverView) × party.holds self.old v × IsOwn P.port L.Driver.driver.side port.old v }
         ensures { (v : DriverView) → party.holds self.old v → IsOwn P.port L.Driver.driver.side port.old v → IsGuestAccess P.port L.Driver.driver party port.old port.new v self.old self.new result };
 
-    /// Makes whole operations over plain words, until it is done or can neither offer nor collect.
+    /// Makes whole operations over the plain words of its ring, until it is done or can neither offer nor collect.
     fn phase<P: Port>(&mut self, port: &mut P)
         requires live { ¬ (party.is_done self.old) }
-        requires own { (ws : List ℕ) × (v : DriverView) × (w : DeviceView) × P.port.plain port.old ws × L.layout.ring ws v w × party.holds self.old v }
+        requires own { (ws : List ℕ) × (v : DriverView) × (w : DeviceView) × P.port.plain port.old ws × L.layout.ring ws v w × party.holds self.old v × (P.port.ring port.old ≡ v.frame.ring) }
         ensures { IsGuestPhaseFrom P.port L.Driver.driver L.layout party port.old port.new self.old self.new };
 
     /// Whether all chains of the script were offered and returned, and the end is idle.
