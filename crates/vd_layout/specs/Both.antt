@@ -1,5 +1,5 @@
 -- Both ends of a ring, and its plain words.
-use Rattle.std.proofs.Common.{◌≡◌, ℕ, Bool, List, Option, replicate, refl, sym, ◌∙◌, subst}
+use Rattle.std.proofs.Common.{◌≡◌, ◌≢◌, ℕ, Bool, List, Option, None, replicate, refl, sym, ◌∙◌, subst}
 use Rattle.vd_model.specs.declared.features.Features.{Features}
 use Rattle.vd_model.specs.declared.map.Mapping.{Mapping}
 use Rattle.vd_words.specs.Model.{PortModel, IsLawfulPort}
@@ -60,6 +60,9 @@ pub record DriverBeside {P D E : Type 0} (port : PortModel P) (d : DriverModel D
   pub made : List Made
   pub run : IsRun port d.side made p a.view q z.on.view
   pub words : z.words ≡ written_by made ws
+  -- only an arming arms
+  pub unarmed : d.begun x ≢ DriverOp.arm → a.view.armed ≡ None → z.on.view.armed ≡ None
+  -- the access by which the answer was told
   pub at : IsToldAt port d.side d.act (λ u. u.done ≡ a.view.done) p a.view answer
 
 -- what the driver's side knows is what it knew, and by these accesses, the newest first, the device's side came to its view
@@ -68,6 +71,9 @@ pub record DeviceBeside {P D E : Type 0} (port : PortModel P) (d : DriverModel D
   pub made : List Made
   pub run : IsRun port e.side made p a.device_view q z.on.device_view
   pub words : z.words ≡ written_by made ws
+  -- only an arming arms
+  pub unarmed : e.begun y ≢ DeviceOp.arm → a.device_view.armed ≡ None → z.on.device_view.armed ≡ None
+  -- the access by which the answer was told
   pub at : IsToldAt port e.side e.act (λ u. u.done ≡ a.device_view.done) p a.device_view answer
 
 pub driver_finished : {P D E : Type 0} (port : PortModel P) (law : IsLawfulPort port) (d : DriverModel D) (e : DeviceModel E) (l : LayoutModel) (lawful : IsLawfulLayout d e l) (f : Frame) (p q : P) (ws : List ℕ) (x x' : D) (y : E) (answer : DriverAct) → port.plain p ws → (on : AreOn d e l f x y ws)
@@ -91,7 +97,7 @@ driver_finished port law d e l lawful fr p q ws x x' y answer plain on f =
 pub driver_did : {P D E : Type 0} (port : PortModel P) (law : IsLawfulPort port) (d : DriverModel D) (e : DeviceModel E) (l : LayoutModel) (lawful : IsLawfulLayout d e l) (f : Frame) (p q : P) (ws : List ℕ) (x x' : D) (y : E) (answer : DriverAct) → port.plain p ws → (on : AreOn d e l f x y ws)
     → IsDriverFinish port d p q on.view x x' answer → (z : Finished port d e l f p q x' y) × DriverSays answer (d.begun x) DriverOp.idle on.view.frame on.view.done z.on.view.done × DriverBeside port d e l f p q ws x x' y answer on z
 unfolding driver_finished
-driver_did port law d e l lawful fr p q ws x x' y answer plain on f = (driver_finished port law d e l lawful fr p q ws x x' y answer plain on f, f.says, record { same_device = refl; made = f.made; run = f.run; words = refl; at = f.at })
+driver_did port law d e l lawful fr p q ws x x' y answer plain on f = (driver_finished port law d e l lawful fr p q ws x x' y answer plain on f, f.says, record { same_device = refl; made = f.made; run = f.run; words = refl; unarmed = f.unarmed; at = f.at })
 
 pub device_finished : {P D E : Type 0} (port : PortModel P) (law : IsLawfulPort port) (d : DriverModel D) (e : DeviceModel E) (l : LayoutModel) (lawful : IsLawfulLayout d e l) (f : Frame) (p q : P) (ws : List ℕ) (x : D) (y y' : E) (answer : DeviceAct) → port.plain p ws → (on : AreOn d e l f x y ws)
     → IsDeviceFinish port e p q on.device_view y y' answer → Finished port d e l f p q x y'
@@ -113,7 +119,7 @@ device_finished port law d e l lawful fr p q ws x y y' answer plain on f =
 pub device_did : {P D E : Type 0} (port : PortModel P) (law : IsLawfulPort port) (d : DriverModel D) (e : DeviceModel E) (l : LayoutModel) (lawful : IsLawfulLayout d e l) (f : Frame) (p q : P) (ws : List ℕ) (x : D) (y y' : E) (answer : DeviceAct) → port.plain p ws → (on : AreOn d e l f x y ws)
     → IsDeviceFinish port e p q on.device_view y y' answer → (z : Finished port d e l f p q x y') × DeviceSays e.words answer (e.begun y) DeviceOp.idle on.device_view.frame on.device_view.done z.on.device_view.done × DeviceBeside port d e l f p q ws x y y' answer on z
 unfolding device_finished
-device_did port law d e l lawful fr p q ws x y y' answer plain on f = (device_finished port law d e l lawful fr p q ws x y y' answer plain on f, f.says, record { same_driver = refl; made = f.made; run = f.run; words = refl; at = f.at })
+device_did port law d e l lawful fr p q ws x y y' answer plain on f = (device_finished port law d e l lawful fr p q ws x y y' answer plain on f, f.says, record { same_driver = refl; made = f.made; run = f.run; words = refl; unarmed = f.unarmed; at = f.at })
 
 pub driver_owns : {P D E : Type 0} (port : PortModel P) (law : IsLawfulPort port) (d : DriverModel D) (e : DeviceModel E) (l : LayoutModel) (lawful : IsLawfulLayout d e l) (f : Frame) (p : P) (ws : List ℕ) (x : D) (y : E) → port.plain p ws → (on : AreOn d e l f x y ws) → IsOwn port d.side p on.view
 driver_owns port law d e l lawful f p ws x y plain on = own_plain_driver port law d e l lawful p ws on.view on.device_view plain on.ring

@@ -9,5 +9,6 @@ pub mod Run
 pub mod Stepped
 pub mod DriverFinish
 pub mod DeviceFinish
+pub mod Unarmed
 pub mod Whole
 pub mod Both
