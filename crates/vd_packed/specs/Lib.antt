@@ -16,3 +16,4 @@ pub mod DeviceLaws
 pub mod Opening
 pub mod PackedLayout
 pub mod Rig
+pub mod Telling

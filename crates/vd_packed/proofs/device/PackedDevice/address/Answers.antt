@@ -1,7 +1,6 @@
 use Rattle.std.proofs.Common.{◌≡◌, ℕ, ◌+◌, ◌*◌, ◌++◌, ◌∷◌, [], Some, List, length, arith, sym, ap, ◌∙◌, subst}
 use Rattle.std.proofs.lemmas.List.{length_push}
 use Rattle.std.specs.Vec.{with_item}
-use Rattle.arrayvec.specs.ArrayVec.{ArrayVec}
 use Rattle.vd_model.specs.declared.chain.Piece.{Piece}
 use Rattle.vd_model.specs.Chains.{IsChain}
 use Rattle.vd_words.specs.declared.access.Access.TheVariants.{Load}
@@ -33,31 +32,29 @@ push-requires g c =
     let e : PackedDevice = c.args.self.now in let v : DeviceView = c.requires.own.0 in let a = c.access-addr in
     (omega arith, few_pieces e v c.args.head a.result c.requires.own.1 (loaded_at g.P.Port.port c.args.port.now a.new.self e v c.args.head a.result c.requires.now c.requires.own.1 c.requires.own.2 a.ensures))
 
-pub of-requires : goal.of-requires
-of-requires g c =
-    let e : PackedDevice = c.args.self.now in let v : DeviceView = c.requires.own.0 in let a = c.access-addr in
-    let l = loaded_at g.P.Port.port c.args.port.now a.new.self e v c.args.head a.result c.requires.now c.requires.own.1 c.requires.own.2 a.ensures in
-    let same = ap (λ (b : ArrayVec Piece). b.items) c.take.ensures.value ∙ (c.push.ensures.items ∙ (ap (λ (q : Piece). e.pieces.items ++ q ∷ []) c.piece_from.ensures ∙ whole_chain e v c.args.head a.result (sym c.has_next.ensures ∙ c.if-has_next.false) c.requires.own.1 l)) in
-    subst IsChain (sym same) l.told.fits.chain
-
-pub returns-then-has_next : goal.returns-then-has_next
-returns-then-has_next g c = λ v st own.
+pub returns-then-has_next-clause-did : goal.returns-then-has_next-clause-did
+returns-then-has_next-clause-did g c = λ v st own.
     let e : PackedDevice = c.args.self.now in let a = c.access-addr in let x : ℕ = a.result in let h : ℕ = c.args.head in
     let l = loaded_at g.P.Port.port c.args.port.now a.new.self e v h x c.requires.now st own a.ensures in
     let go = address_more e (record e { pieces = c.push.new.self }) v h x l st c.requires.now (sym c.has_next.ensures ∙ c.if-has_next.true) (c.push.ensures.items ∙ ap (λ (q : Piece). e.pieces.items ++ q ∷ []) c.piece_from.ensures) in
-    made g.P.Port.port c.args.port.now a.new.self e (record e { pieces = c.push.new.self; at = c.forward-self.result; doing = step.Second h }) v op.Take (Load (2 * e.at.place)) x act.Moved
-    (subst (λ (s : Spot). Goes e (record e { pieces = c.push.new.self; at = s; doing = step.Second h }) v op.Take (Load (2 * e.at.place)) x act.Moved) (sym c.forward-self.ensures) go) a.ensures
+    made g.P.Port.port c.args.port.now a.new.self e (record e { pieces = c.push.new.self; at = c.forward-spot.result; doing = step.Second h }) v op.Take (Load (2 * e.at.place)) x act.Moved
+    (subst (λ (s : Spot). Goes e (record e { pieces = c.push.new.self; at = s; doing = step.Second h }) v op.Take (Load (2 * e.at.place)) x act.Moved) (sym c.forward-spot.ensures) go) a.ensures
 
-pub returns : goal.returns
-returns g c = λ v st own.
+pub returns-clause-did : goal.returns-clause-did
+returns-clause-did g c = λ v st own.
     let e : PackedDevice = c.args.self.now in let a = c.access-addr in let x : ℕ = a.result in let h : ℕ = c.args.head in let n : ℕ = c.len.result in
     let l = loaded_at g.P.Port.port c.args.port.now a.new.self e v h x c.requires.now st own a.ensures in
     let pushed = c.push.ensures.items ∙ ap (λ (q : Piece). e.pieces.items ++ q ∷ []) c.piece_from.ensures in
-    let same = c.of.ensures ∙ (ap (λ (b : ArrayVec Piece). b.items) c.take.ensures.value ∙ pushed) in
-    let e2 : PackedDevice = record e { guesses = c.remember.new.guesses; pieces = c.take.new.self } in
+    let e2 : PackedDevice = record e { guesses = c.remember.new.guesses; pieces = c.push.new.self } in
     let facts = address_facts e v h c.requires.now st in
-    let go = address_last e e2 v h x n c.of.result l st c.requires.now (sym c.has_next.ensures ∙ c.if-has_next.false) same (c.len.ensures.value ∙ (ap (λ (ps : List Piece). length ps) pushed ∙ length_push e.pieces.items (piece_of x e.second))) (omega (arith, facts.2, c.remember.ensures)) in
+    let go = address_last e e2 v h x n c.push.new.self.items l st c.requires.now (sym c.has_next.ensures ∙ c.if-has_next.false) pushed (c.len.ensures.value ∙ (ap (λ (ps : List Piece). length ps) pushed ∙ length_push e.pieces.items (piece_of x e.second))) (omega (arith, facts.2, c.remember.ensures)) in
     made g.P.Port.port c.args.port.now a.new.self e
-    (record e { taken = e.taken + 1; next = c.forward-self.result; running = with_item e.running h (Some e.taken); counts = with_item e.counts h n; guesses = c.remember.new.guesses; pieces = c.take.new.self; at = c.forward-self.result; doing = step.Idle }) v op.Take (Load (2 * e.at.place)) x (act.Taken e.taken c.of.result)
-    (subst (λ (s : Spot). Goes e (record e { taken = e.taken + 1; next = s; running = with_item e.running h (Some e.taken); counts = with_item e.counts h n; guesses = c.remember.new.guesses; pieces = c.take.new.self; at = s; doing = step.Idle }) v op.Take (Load (2 * e.at.place)) x (act.Taken e.taken c.of.result)) (sym c.forward-self.ensures) go)
+    (record e { taken = e.taken + 1; next = c.forward-spot.result; running = with_item e.running h (Some e.taken); counts = with_item e.counts h n; guesses = c.remember.new.guesses; pieces = c.push.new.self; at = c.forward-spot.result; doing = step.Idle }) v op.Take (Load (2 * e.at.place)) x (act.Taken e.taken c.push.new.self.items)
+    (subst (λ (s : Spot). Goes e (record e { taken = e.taken + 1; next = s; running = with_item e.running h (Some e.taken); counts = with_item e.counts h n; guesses = c.remember.new.guesses; pieces = c.push.new.self; at = s; doing = step.Idle }) v op.Take (Load (2 * e.at.place)) x (act.Taken e.taken c.push.new.self.items)) (sym c.forward-spot.ensures) go)
     a.ensures
+
+pub returns-clause-chain : goal.returns-clause-chain
+returns-clause-chain g c = λ k is.
+    let e : PackedDevice = c.args.self.now in let v : DeviceView = c.requires.own.0 in let a = c.access-addr in
+    let l = loaded_at g.P.Port.port c.args.port.now a.new.self e v c.args.head a.result c.requires.now c.requires.own.1 c.requires.own.2 a.ensures in
+    subst IsChain (sym (c.push.ensures.items ∙ (ap (λ (q : Piece). e.pieces.items ++ q ∷ []) c.piece_from.ensures ∙ whole_chain e v c.args.head a.result (sym c.has_next.ensures ∙ c.if-has_next.false) c.requires.own.1 l))) l.told.fits.chain

@@ -22,7 +22,7 @@ pub returns : goal.returns
 returns g c = λ v st own.
     let e : PackedDevice = c.args.self.now in let x : ℕ = c.used_word-word.result in let n : ℕ = c.index-count.result.now in
     made g.P.Port.port c.args.port.now c.access.new.self e
-    (record e { given = e.given + 1; used = c.forward-self.result; running = with_item e.running c.args.head None; doing = step.Idle }) v op.Give (Store (2 * e.used.place + 1) x) c.access.result (act.Given c.args.number)
-    (subst (λ (s : Spot). Goes e (record e { given = e.given + 1; used = s; running = with_item e.running c.args.head None; doing = step.Idle }) v op.Give (Store (2 * e.used.place + 1) x) c.access.result (act.Given c.args.number)) (sym c.forward-self.ensures)
+    (record e { given = e.given + 1; used = c.forward-spot.result; running = with_item e.running c.args.head None; doing = step.Idle }) v op.Give (Store (2 * e.used.place + 1) x) c.access.result (act.Given c.args.number)
+    (subst (λ (s : Spot). Goes e (record e { given = e.given + 1; used = s; running = with_item e.running c.args.head None; doing = step.Idle }) v op.Give (Store (2 * e.used.place + 1) x) c.access.result (act.Given c.args.number)) (sym c.forward-spot.ensures)
     (give_goes e v c.access.result c.args.number c.args.head c.args.len x n c.requires.now st c.used_word-word.ensures (subst (λ (k : ℕ). IsCount k v.frame v.done c.args.number) (sym c.index-count.ensures) ((give_facts e v c.args.number c.args.head c.args.len c.requires.now st).3 n))))
     c.access.ensures
