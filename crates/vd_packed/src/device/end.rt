@@ -6,7 +6,7 @@ ghost use Rattle.vd_ring.specs.declared.device.DeviceView.{DeviceView};
 ghost use Rattle.vd_packed_ring.specs.PackedDevice.{device_side};
 ghost use Rattle.vd_layout.specs.Begun.{DeviceOp};
 ghost use Rattle.vd_layout.specs.Device.{IsDeviceStep};
-ghost use Rattle.vd_packed.specs.DeviceEnd.{DeviceStands, packed_device, number_at};
+ghost use Rattle.vd_packed.specs.DeviceEnd.{DeviceStands, IsSignal, packed_device, number_at};
 ghost use Rattle.vd_packed.specs.Telling.{act_of};
 ghost use Rattle.vd_packed.specs.DeviceLaws.{device_laws};
 
@@ -17,7 +17,7 @@ use arrayvec::ArrayVec;
 use vd_layout::{BadBase, DeviceEnd};
 use vd_model::{Base, Chain, Features, Piece};
 use vd_ring::DeviceAct;
-use vd_words::Port;
+use vd_words::{Op, Port};
 
 impl DeviceEnd for PackedDevice {
     ghost device = { packed_device };
@@ -34,6 +34,10 @@ impl DeviceEnd for PackedDevice {
 
     fn idle(&self) -> bool {
         matches!(self.doing, DeviceStep::Idle | DeviceStep::Resting)
+    }
+
+    fn armed(&self) -> bool {
+        self.armed
     }
 
     fn taken(&self) -> u32 {
@@ -67,6 +71,18 @@ impl DeviceEnd for PackedDevice {
         }
     }
 
+    fn begin_arm(&mut self) {
+        self.doing = DeviceStep::Arm;
+    }
+
+    fn begin_hear(&mut self) {
+        self.doing = DeviceStep::Hear;
+    }
+
+    fn begin_disarm(&mut self) {
+        self.doing = DeviceStep::Disarm;
+    }
+
     fn begin_rest(&mut self) {
         self.doing = DeviceStep::Rest;
     }
@@ -78,6 +94,9 @@ impl DeviceEnd for PackedDevice {
             Told::Taken(number) => DeviceAct::Taken(number, chain_of(self.pieces.as_slice())),
             Told::Given(number) => DeviceAct::Given(number),
             Told::Nothing => DeviceAct::Nothing,
+            Told::Armed => DeviceAct::Armed,
+            Told::Awake => DeviceAct::Awake,
+            Told::Asleep => DeviceAct::Asleep,
             Told::Rested => DeviceAct::Rested,
         }
     }
@@ -108,10 +127,47 @@ impl PackedDevice {
         match self.doing {
             DeviceStep::Idle | DeviceStep::Resting => unreachable!(),
             DeviceStep::Look => self.look(port),
-            DeviceStep::Address(head) => self.address(port, head),
-            DeviceStep::Second(head) => self.second(port, head),
+            DeviceStep::Address => self.address(port),
+            DeviceStep::Second => self.second(port),
             DeviceStep::Give(number, head, len) => self.give(port, number, head, len),
-            DeviceStep::Rest => self.rest(port),
+            DeviceStep::Check(_)
+            | DeviceStep::Ring
+            | DeviceStep::Arm
+            | DeviceStep::LookAgain
+            | DeviceStep::Hear
+            | DeviceStep::WakeArming
+            | DeviceStep::WakeHearing
+            | DeviceStep::Disarm
+            | DeviceStep::Rest
+            | DeviceStep::RestLook => self.signal(port),
+        }
+    }
+
+    /// Makes one access of a check, a bell, an arming, a hearing, a disarming or a rest.
+    #[inline(never)]
+    fn signal<P: Port>(&mut self, port: &mut P) -> Told
+        requires now { IsSignal self.old.doing }
+        requires own { (v : DeviceView) × DeviceStands self.old v × IsOwn P.port device_side port.old v }
+        ensures did { (v : DeviceView) → DeviceStands self.old v → IsOwn P.port device_side port.old v → IsDeviceStep P.port packed_device port.old port.new v self.old self.new (act_of result self.new.pieces.items) }
+        ensures none { (k : ℕ) → result ≡ Told.Taken k → ⊥ }
+    {
+        match self.doing {
+            DeviceStep::Idle
+            | DeviceStep::Resting
+            | DeviceStep::Look
+            | DeviceStep::Address
+            | DeviceStep::Second
+            | DeviceStep::Give(_, _, _) => unreachable!(),
+            DeviceStep::Check(count) => self.check(port, count),
+            DeviceStep::Ring => self.ring(port),
+            DeviceStep::Arm => self.arm(port),
+            DeviceStep::LookAgain => self.look_again(port),
+            DeviceStep::Hear => self.hear(port),
+            DeviceStep::WakeArming => self.wake(port, Op::Arm),
+            DeviceStep::WakeHearing => self.wake(port, Op::Hear),
+            DeviceStep::Disarm => self.disarm(port),
+            DeviceStep::Rest => self.leave(port),
+            DeviceStep::RestLook => self.rest(port),
         }
     }
 }
