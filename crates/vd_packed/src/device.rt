@@ -5,7 +5,9 @@ use vd_model::{Features, Piece};
 
 mod end;
 mod give;
+mod loaded;
 mod make;
+mod rest;
 mod running;
 mod signal;
 mod sleep;

@@ -7,7 +7,7 @@ ghost use Rattle.vd_packed_ring.specs.PackedDevice.{device_side};
 ghost use Rattle.vd_layout.specs.Begun.{DeviceOp};
 ghost use Rattle.vd_layout.specs.Device.{IsDeviceStep};
 ghost use Rattle.vd_packed.specs.DeviceEnd.{DeviceStands, IsSignal, packed_device, number_at};
-ghost use Rattle.vd_packed.specs.Telling.{act_of};
+ghost use Rattle.vd_packed.specs.Telling.{act_of, TakesNone};
 ghost use Rattle.vd_packed.specs.DeviceLaws.{device_laws};
 
 use super::running::{find_head, guess, none_below};
@@ -149,7 +149,7 @@ impl PackedDevice {
         requires now { IsSignal self.old.doing }
         requires own { (v : DeviceView) × DeviceStands self.old v × IsOwn P.port device_side port.old v }
         ensures did { (v : DeviceView) → DeviceStands self.old v → IsOwn P.port device_side port.old v → IsDeviceStep P.port packed_device port.old port.new v self.old self.new (act_of result self.new.pieces.items) }
-        ensures none { (k : ℕ) → result ≡ Told.Taken k → ⊥ }
+        ensures none { TakesNone result }
     {
         match self.doing {
             DeviceStep::Idle

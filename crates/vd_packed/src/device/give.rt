@@ -1,13 +1,12 @@
-//! The step of a give, and that of a rest.
+//! The step of a give.
 ghost use Rattle.std.specs.Prelude.{◌≡◌};
 ghost use Rattle.vd_words.specs.Own.{IsOwn};
 ghost use Rattle.vd_ring.specs.declared.device.DeviceView.{DeviceView};
 ghost use Rattle.vd_packed_ring.specs.PackedDevice.{device_side};
 ghost use Rattle.vd_layout.specs.Device.{IsDeviceStep};
 ghost use Rattle.vd_packed.specs.DeviceEnd.{DeviceStands, packed_device};
-ghost use Rattle.vd_packed.specs.Telling.{act_of};
+ghost use Rattle.vd_packed.specs.Telling.{act_of, TakesNone};
 
-use super::running::clear;
 use super::{DeviceStep, PackedDevice, Told};
 use crate::spot::forward;
 use crate::words::used_word;
@@ -26,7 +25,8 @@ impl PackedDevice {
     ) -> Told
         requires now { self.old.doing ≡ DeviceStep.Give number head len }
         requires own { (v : DeviceView) × DeviceStands self.old v × IsOwn P.port device_side port.old v }
-        ensures { (v : DeviceView) → DeviceStands self.old v → IsOwn P.port device_side port.old v → IsDeviceStep P.port packed_device port.old port.new v self.old self.new (act_of result self.new.pieces.items) }
+        ensures did { (v : DeviceView) → DeviceStands self.old v → IsOwn P.port device_side port.old v → IsDeviceStep P.port packed_device port.old port.new v self.old self.new (act_of result self.new.pieces.items) }
+        ensures none { TakesNone result }
     {
         let word = used_word(len, head, self.used.wrap);
         port.access(Op::Give, Access::Store(2 * self.used.place + 1, word));
@@ -36,23 +36,8 @@ impl PackedDevice {
         let spot = forward(self.used, count, self.size);
         self.used.place = spot.place;
         self.used.wrap = spot.wrap;
-        self.doing = DeviceStep::Idle;
+        self.used_position += count as u64;
+        self.doing = DeviceStep::Check(count);
         Told::Given(number)
-    }
-
-    /// The look of a rest, whatever it shows. The chains taken and not given are offered still.
-    #[inline(always)]
-    pub(super) fn rest<P: Port>(&mut self, port: &mut P) -> Told
-        requires now { self.old.doing ≡ DeviceStep.Rest }
-        requires own { (v : DeviceView) × DeviceStands self.old v × IsOwn P.port device_side port.old v }
-        ensures { (v : DeviceView) → DeviceStands self.old v → IsOwn P.port device_side port.old v → IsDeviceStep P.port packed_device port.old port.new v self.old self.new (act_of result self.new.pieces.items) }
-    {
-        port.access(Op::Rest, Access::Load(2 * self.next.place + 1));
-        self.taken = self.given;
-        self.next.place = self.used.place;
-        self.next.wrap = self.used.wrap;
-        clear(&mut self.running);
-        self.doing = DeviceStep::Resting;
-        Told::Rested
     }
 }

@@ -1,11 +1,11 @@
 //! The steps that follow a give's publishing store: the check and the bell.
-ghost use Rattle.std.specs.Prelude.{◌≡◌, ℕ};
+ghost use Rattle.std.specs.Prelude.{◌≡◌};
 ghost use Rattle.vd_words.specs.Own.{IsOwn};
 ghost use Rattle.vd_ring.specs.declared.device.DeviceView.{DeviceView};
 ghost use Rattle.vd_packed_ring.specs.PackedDevice.{device_side};
 ghost use Rattle.vd_layout.specs.Device.{IsDeviceStep};
 ghost use Rattle.vd_packed.specs.DeviceEnd.{DeviceStands, packed_device};
-ghost use Rattle.vd_packed.specs.Telling.{act_of};
+ghost use Rattle.vd_packed.specs.Telling.{act_of, TakesNone};
 
 use super::{DeviceStep, PackedDevice, Told};
 use crate::event::asks;
@@ -18,8 +18,8 @@ impl PackedDevice {
     pub(super) fn check<P: Port>(&mut self, port: &mut P, count: u32) -> Told
         requires now { self.old.doing ≡ DeviceStep.Check count }
         requires own { (v : DeviceView) × DeviceStands self.old v × IsOwn P.port device_side port.old v }
-        ensures { (v : DeviceView) → DeviceStands self.old v → IsOwn P.port device_side port.old v → IsDeviceStep P.port packed_device port.old port.new v self.old self.new (act_of result self.new.pieces.items) }
-        ensures moved { result ≡ Told.Moved }
+        ensures did { (v : DeviceView) → DeviceStands self.old v → IsOwn P.port device_side port.old v → IsDeviceStep P.port packed_device port.old port.new v self.old self.new (act_of result self.new.pieces.items) }
+        ensures none { TakesNone result }
     {
         let word = port.access(Op::Give, Access::Load(2 * self.size));
         let new = self.used_position;
@@ -37,8 +37,8 @@ impl PackedDevice {
     pub(super) fn ring<P: Port>(&mut self, port: &mut P) -> Told
         requires now { self.old.doing ≡ DeviceStep.Ring }
         requires own { (v : DeviceView) × DeviceStands self.old v × IsOwn P.port device_side port.old v }
-        ensures { (v : DeviceView) → DeviceStands self.old v → IsOwn P.port device_side port.old v → IsDeviceStep P.port packed_device port.old port.new v self.old self.new (act_of result self.new.pieces.items) }
-        ensures moved { result ≡ Told.Moved }
+        ensures did { (v : DeviceView) → DeviceStands self.old v → IsOwn P.port device_side port.old v → IsDeviceStep P.port packed_device port.old port.new v self.old self.new (act_of result self.new.pieces.items) }
+        ensures none { TakesNone result }
     {
         let bells = self.bells + 1;
         port.access(Op::Give, Access::Store(self.kick + 1, bells));
