@@ -12,4 +12,12 @@ act_of told.Moved ps = act.Moved
 act_of (told.Taken k) ps = act.Taken k ps
 act_of (told.Given k) ps = act.Given k
 act_of told.Nothing ps = act.Nothing
+act_of told.Armed ps = act.Armed
+act_of told.Awake ps = act.Awake
+act_of told.Asleep ps = act.Asleep
 act_of told.Rested ps = act.Rested
+
+-- it told no taken chain
+abbrev pub TakesNone : Told → Type 0
+TakesNone (told.Taken k) = ⊥
+TakesNone _ = Unit {0}

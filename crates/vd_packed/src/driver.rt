@@ -7,7 +7,7 @@ use vd_model::{Features, Piece};
 mod collect;
 mod end;
 mod ids;
-mod make;
+pub(crate) mod make;
 mod offer;
 mod signal;
 mod sleep;

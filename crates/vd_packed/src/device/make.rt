@@ -7,7 +7,7 @@ ghost use Rattle.vd_packed.specs.DriverEnd.{IsMadeFor};
 ghost use Rattle.vd_packed.specs.DeviceEnd.{DeviceStands};
 
 use super::{DeviceStep, PackedDevice};
-use crate::driver::kick_place;
+use crate::driver::make::kick_place;
 use crate::spot::first_spot;
 use arrayvec::ArrayVec;
 use std::alloc::{AllocError, Global};
