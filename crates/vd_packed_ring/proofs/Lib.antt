@@ -10,6 +10,7 @@ pub mod Bells
 pub mod Clear
 pub mod Offers
 pub mod Collects
+pub mod DriverBells
 pub mod DriverControls
 pub mod DriverKeeps
 pub mod DeviceParts
