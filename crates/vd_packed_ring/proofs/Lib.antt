@@ -30,5 +30,6 @@ pub mod DeviceAnswers
 pub mod DeviceBagSteps
 pub mod Seen
 pub mod Signalling
+pub mod Sleeping
 mod Examples
 pub mod ControlFacts
