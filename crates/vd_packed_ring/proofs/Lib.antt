@@ -6,9 +6,11 @@ pub mod Spelled
 pub mod Tables
 pub mod Positions
 pub mod Made
+pub mod Bells
 pub mod Clear
 pub mod Offers
 pub mod Collects
+pub mod DriverBells
 pub mod DriverControls
 pub mod DriverKeeps
 pub mod DeviceParts
@@ -28,5 +30,6 @@ pub mod DeviceAnswers
 pub mod DeviceBagSteps
 pub mod Seen
 pub mod Signalling
+pub mod Sleeping
 mod Examples
 pub mod ControlFacts
