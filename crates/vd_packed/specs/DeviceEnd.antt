@@ -44,9 +44,9 @@ pub record TakesOnce (s : List DeviceDone) : Type 0 where
 abbrev pub number_at : List (Option ℕ) → ℕ → Option ℕ
 number_at table h = slice_index_or table h None
 
--- how many descriptors chain k has, which are no more than the ring's places
+-- how many descriptors chain k has: one at least, and no more than the ring's places
 abbrev pub IsCount : ℕ → Frame → List DeviceDone → ℕ → Type 0
-IsCount n f s k = (n ≡ needs f.features (chain_at (takes s) k)) × (needs f.features (chain_at (takes s) k) ≤ f.size)
+IsCount n f s k = (n ≡ needs f.features (chain_at (takes s) k)) × (needs f.features (chain_at (takes s) k) ≤ f.size) × (0 < needs f.features (chain_at (takes s) k))
 
 -- the running chains are in the table at their heads with their counts, and nothing else is
 pub record HoldsRunning (table : List (Option ℕ)) (counts : List ℕ) (guesses : ℕ) (f : Frame) (s : List DeviceDone) : Type 0 where

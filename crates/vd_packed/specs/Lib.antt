@@ -2,9 +2,9 @@ pub mod Spots
 pub mod Seconds
 pub mod Bounds
 pub mod Events
-pub mod OwnWords
 pub mod DriverEnd
 pub mod DeviceEnd
+pub mod Telling
 pub mod Places
 pub mod Offers
 pub mod DriverSteps
@@ -18,8 +18,10 @@ pub mod Loads
 pub mod DeviceLooking
 pub mod DeviceTaking
 pub mod DeviceTaken
+pub mod DeviceBells
+pub mod DeviceRest
+pub mod DeviceAnswers
 pub mod DeviceLaws
 pub mod Opening
 pub mod PackedLayout
 pub mod Rig
-pub mod Telling
