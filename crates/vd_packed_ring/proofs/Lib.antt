@@ -31,5 +31,7 @@ pub mod DeviceBagSteps
 pub mod Seen
 pub mod Signalling
 pub mod Sleeping
+pub mod DriverLooking
+pub mod DeviceLooking
 mod Examples
 pub mod ControlFacts
