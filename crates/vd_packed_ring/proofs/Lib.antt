@@ -6,6 +6,7 @@ pub mod Spelled
 pub mod Tables
 pub mod Positions
 pub mod Made
+pub mod Bells
 pub mod Clear
 pub mod Offers
 pub mod Collects
