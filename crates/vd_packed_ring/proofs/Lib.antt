@@ -16,6 +16,7 @@ pub mod DeviceParts
 pub mod Ahead
 pub mod Takes
 pub mod Gives
+pub mod DeviceBells
 pub mod DeviceControls
 pub mod DeviceKeeping
 pub mod Opens
