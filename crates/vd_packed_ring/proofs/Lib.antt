@@ -28,6 +28,7 @@ pub mod Spelling
 pub mod DriverAnswers
 pub mod DeviceAnswers
 pub mod DeviceBagSteps
+pub mod DeviceSleeping
 pub mod Seen
 pub mod Signalling
 mod Examples

@@ -1,0 +1,5 @@
+use Rattle.vd_packed_ring.proofs.DeviceSleeping.{device_asleep}
+use Rattle.vd_packed_ring.proofs.signal_laws.asleep_law.Goals as goal
+
+pub returns-clause-device : goal.returns-clause-device
+returns-clause-device c = device_asleep
