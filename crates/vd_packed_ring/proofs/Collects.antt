@@ -60,7 +60,7 @@ old_unavailable f o s q l b p li short = stands_unavailable f o q (made_at f o q
 -- ---- the word at the position of the driver's next collect
 
 -- all that was given is collected
-all_collected : (f : Frame) (o : List DriverDone) (s : List DeviceDone) → Lists f o s → length (gives s) ≤ length (collects o) → cpos f o ≡ upos f s
+pub all_collected : (f : Frame) (o : List DriverDone) (s : List DeviceDone) → Lists f o s → length (gives s) ≤ length (collects o) → cpos f o ≡ upos f s
 all_collected f o s l none = cpos_is f o s l ∙ (ap (sum_by (λ (u : Used). needs f.features (chain o u.number))) (take_all (length (collects o)) (gives s) none) ∙ sym (upos_is f o s l))
 
 -- where nothing is staged
@@ -122,6 +122,15 @@ found ws d e clear r more =
       here = here;
       is_id = id;
     }
+
+-- an entry given and not collected takes a descriptor at least
+pub entry_before : (f : Frame) (o : List DriverDone) (s : List DeviceDone) → Places f o → Lists f o s → length (collects o) < length (gives s) → cpos f o < upos f s
+entry_before f o s p l more =
+    let m : ℕ = length (collects o) in let u : Used = used_at (gives s) m in
+    let below : u.number < length (offers o) = open_below f o u.number p (next_open f o s p l more) in
+    let lists2 = lists_collected f o s l more in
+    let ord = order f (Collect (u ∷ []) ∷ o) s (collect_places f o u p (next_open f o s p l more)) lists2 in
+    omega (arith, cpos_collected f o u, ord.collected, needs_some f (chain o u.number) (chain_fits f o u.number p below))
 
 -- ---- the collect
 

@@ -1,4 +1,4 @@
--- What the ring invariant says of a sleeping device: who is armed, what Asleep says, and what a hearing adds.
+-- What the ring invariant says of a sleeping device: what Asleep says, and what a hearing adds.
 use Rattle.std.proofs.Common.{◌≡◌, ◌≢◌, ℕ, ◌+◌, ◌-◌, ◌≤◌, ◌==◌, ◌++◌, Bool, true, false, Option, None, List, [], ◌∷◌, length, if◌then◌else◌, slice_index, refl, sym, ap, ◌∙◌, subst, arith}
 use Rattle.std.proofs.lemmas.Bool.{eqb-true, eqb-false}
 use Rattle.vd_model.specs.declared.chain.Piece.{Piece}
@@ -24,78 +24,6 @@ use Rattle.vd_packed_ring.specs.PackedDevice.{DeviceNextAt, DeviceNext, device_a
 use Rattle.vd_packed_ring.specs.PackedRing.{Ring, DeviceArmed, Woke}
 use Rattle.vd_packed_ring.proofs.Bells.{kick_stands}
 use Rattle.vd_packed_ring.proofs.DeviceViews.{saw, saw_none, saw_again, sleeps, heard}
-
--- ---- who is armed
-
-either : (x : Option ℕ) (v w : DeviceView) (b : Bool) → v.armed ≡ x → w.armed ≡ x → (if b then v else w).armed ≡ x
-either x v w true a c = a
-either x v w false a c = c
-
-unarmed_at : (now : DeviceNow) (v : DeviceView) (o : Op) (a : Access) (r : ℕ) → o ≢ op.Arm → v.armed ≡ None → (device_after_at now v o a r).armed ≡ None
-unarmed_at Idle v op.Take (Load p) r other is = either None (saw v r) (saw_none v) (is_available v.frame.size (tpos v.frame v.done) r) is is
-unarmed_at (Taking (w ∷ us)) v op.Take (Load p) r other is = either None (device_takes v (w ∷ us ++ r ∷ [])) (record v { doing = Taking (w ∷ us ++ r ∷ []) }) (is_whole v.frame (w ∷ us ++ r ∷ [])) is is
-unarmed_at Idle v op.Give (Store p x) r other is = is
-unarmed_at (Checking old new) v op.Give (Load p) r other is = is
-unarmed_at (Ringing old new) v op.Give (Store p x) r other is = is
-unarmed_at Idle v op.Arm (Store p x) r other is = absurd (other refl)
-unarmed_at Arming v op.Arm (Load p) r other is = absurd (other refl)
-unarmed_at (Disarming k) v op.Arm (Store p x) r other is = is
-unarmed_at (Disarming k) v op.Hear (Store p x) r other is = is
-unarmed_at Idle v op.Hear (Load p) r other is = either None v (heard v r) (r == v.heard) is refl
-unarmed_at Idle v op.Disarm (Store p x) r other is = refl
-unarmed_at Idle v op.Disarm (Load p) r other is = refl
-unarmed_at Idle v op.Rest (Store p x) r other is = refl
-unarmed_at Idle v op.Rest (Load p) r other is = refl
-unarmed_at Resting v op.Rest (Load p) r other is = is
-unarmed_at Idle v op.Control (Load p) r other is = is
-unarmed_at Idle v op.Control (Store p x) r other is = is
-unarmed_at _ v _ _ r other is = is
-
--- no access but one of an arming arms
-pub device_unarmed : (v : DeviceView) (o : Op) (a : Access) (r : ℕ) → o ≢ op.Arm → v.armed ≡ None → (device_after v o a r).armed ≡ None
-device_unarmed v o a r other is = unarmed_at v.doing v o a r other is
-
--- a rest leaves the device unarmed
-abbrev is_rested : DeviceAct → Bool
-is_rested act.Rested = true
-is_rested _ = false
-
-not_rested : (x : DeviceAct) → is_rested x ≡ false → x ≡ act.Rested → ⊥
-not_rested x off is = let e : false ≡ true = sym off ∙ ap is_rested is in cc
-
-look_no_rest : (b : Bool) → is_rested (if b then act.Moved else act.Nothing) ≡ false
-look_no_rest true = refl
-look_no_rest false = refl
-
-take_no_rest : (k : ℕ) (c : List Piece) (b : Bool) → is_rested (if b then act.Taken k c else act.Moved) ≡ false
-take_no_rest k c true = refl
-take_no_rest k c false = refl
-
-wakes_no_rest : (b c : Bool) → is_rested (if b then (if c then act.Awake else act.Moved) else act.Armed) ≡ false
-wakes_no_rest true true = refl
-wakes_no_rest true false = refl
-wakes_no_rest false c = refl
-
-hears_no_rest : (b c : Bool) → is_rested (if b then act.Asleep else (if c then act.Awake else act.Moved)) ≡ false
-hears_no_rest true c = refl
-hears_no_rest false true = refl
-hears_no_rest false false = refl
-
-rested_at : (now : DeviceNow) (v : DeviceView) (o : Op) (a : Access) (r : ℕ) → DeviceArmed now v.frame v.armed (tpos v.frame v.done) v.heard → device_act_at now v o a r ≡ act.Rested → (device_after_at now v o a r).armed ≡ None
-rested_at Resting v op.Rest (Load p) r at is = at
-rested_at Idle v op.Take (Load p) r at is = absurd (not_rested _ (look_no_rest (is_available v.frame.size (tpos v.frame v.done) r)) is)
-rested_at (Taking (w ∷ us)) v op.Take (Load p) r at is = let vs : List ℕ = w ∷ us ++ r ∷ [] in absurd (not_rested _ (take_no_rest (length (takes v.done)) (chain_of v.frame vs) (is_whole v.frame vs)) is)
-rested_at Idle v op.Give (Store p x) r at is = absurd (not_rested _ refl is)
-rested_at Arming v op.Arm (Load p) r at is = absurd (not_rested _ (wakes_no_rest (is_available v.frame.size (tpos v.frame v.done) r) v.frame.features.event_idx) is)
-rested_at Idle v op.Hear (Load p) r at is = absurd (not_rested _ (hears_no_rest (r == v.heard) v.frame.features.event_idx) is)
-rested_at (Disarming k) v op.Arm (Store p x) r at is = absurd (not_rested _ refl is)
-rested_at (Disarming k) v op.Hear (Store p x) r at is = absurd (not_rested _ refl is)
-rested_at Idle v op.Disarm (Store p x) r at is = absurd (not_rested _ refl is)
-rested_at Idle v op.Disarm (Load p) r at is = absurd (not_rested _ refl is)
-rested_at _ v _ _ r at is = absurd (not_rested _ refl is)
-
-pub rested_unarmed : (ws : List ℕ) (d : DriverView) (v : DeviceView) (o : Op) (a : Access) (r : ℕ) → Ring ws d v → device_act v o a r ≡ act.Rested → (device_after v o a r).armed ≡ None
-rested_unarmed ws d v o a r ring is = rested_at v.doing v o a r (subst (λ (f : Frame). DeviceArmed v.doing f v.armed (tpos f v.done) v.heard) (sym ring.same) ring.device_armed) is
 
 -- ---- Asleep
 

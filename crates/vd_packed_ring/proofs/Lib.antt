@@ -10,6 +10,7 @@ pub mod Bells
 pub mod Clear
 pub mod Offers
 pub mod Collects
+pub mod DriverBells
 pub mod DriverControls
 pub mod DriverKeeps
 pub mod DeviceParts
@@ -31,5 +32,6 @@ pub mod DeviceBagSteps
 pub mod DeviceSleeping
 pub mod Seen
 pub mod Signalling
+pub mod Sleeping
 mod Examples
 pub mod ControlFacts
