@@ -139,7 +139,7 @@ rings_bell ws d e old new p x r n =
     let wide : length e.stored ≡ width f = r.words.wide.2 in
     subst (λ (i : ℕ). Ring (slice_set ws i x) d (device_rings E i x)) (sym n.place) (subst (λ (z : ℕ). Ring (slice_set ws q z) d (device_rings E q z)) (sym n.word)
     (own_store ws d E q y (e.bells + 1) Idle e.armed r (inr (inr refl)) (omega (arith, areas f)) (signals_rung f (device_event f) q e.armed e.bells (e.bells + 1) e.stored (omega arith) (λ is. apart f (sym is)) r.device_signals)
-        (acks_call f d.done e.done e.stored y r.places r.lists r.acks) tt (signal.moves (chains_out d) (chains_in E) (tpos f e.done) true r.device_armed r.kicks) (signal.rung (entries_out E) (entries_in d) old new refl r.calls) tt))
+    (acks_call f d.done e.done e.stored y r.places r.lists r.acks) tt (signal.moves (chains_out d) (chains_in E) (tpos f e.done) true r.device_armed r.kicks) (signal.rung (entries_out E) (entries_in d) old new refl r.calls) tt))
 
 -- ---- arming
 
@@ -149,7 +149,7 @@ arms ws d e p x r n =
     let q : ℕ = device_event f in let at : ℕ = tpos f e.done in let y : ℕ = armed_value f at in
     subst (λ (i : ℕ). Ring (slice_set ws i x) d (device_arms E i x)) (sym n.place) (subst (λ (z : ℕ). Ring (slice_set ws q z) d (device_arms E q z)) (sym n.word)
     (own_store ws d E q y e.bells Arming (Some at) r (inl refl) (omega arith) (signals_armed f q (call_at f) e.armed e.bells at e.stored (event_inside ws d E r) (apart f) r.device_signals)
-        (acks_event f d.done e.done e.stored y r.places r.lists r.acks) tt (signal.arms (chains_out d) (chains_in E) r.kicks) r.calls refl))
+    (acks_event f d.done e.done e.stored y r.places r.lists r.acks) tt (signal.arms (chains_out d) (chains_in E) r.kicks) r.calls refl))
 
 -- ---- the second look
 
@@ -186,6 +186,7 @@ hears_at ws d e g false is r eq = woken d.frame.features.event_idx refl
   where
     some : (a h : ℕ) → a ≢ h → h ≤ a → 1 ≤ a
     some a h ne le = omega (arith, ne)
+
     woken : (k : Bool) → d.frame.features.event_idx ≡ k → Ring ws d (record e { frame = d.frame; heard = g; armed = None; doing = if k then Idle else Disarming op.Hear })
     woken true on =
         let f : Frame = d.frame in let E : DeviceView = record e { frame = d.frame; doing = Idle } in
@@ -213,7 +214,7 @@ disarms ws d e now next p x r doing is_armed kicks calls n =
     subst (λ (i : ℕ). Ring (slice_set ws i x) d (record e { frame = d.frame; stored = slice_set e.stored i x; armed = None; doing = next }) × (i < width f)) (sym n.place)
     (subst (λ (z : ℕ). Ring (slice_set ws q z) d (record e { frame = d.frame; stored = slice_set e.stored q z; armed = None; doing = next }) × (q < width f)) (sym n.word) (
       own_store ws d E q disabled e.bells next None r (inl refl) (omega arith) (signals_disarmed f q (call_at f) e.armed e.bells e.stored n.flagged (event_inside ws d E r) (apart f) r.device_signals)
-      (acks_event f d.done e.done e.stored disabled r.places r.lists r.acks) doing kicks calls is_armed,
+          (acks_event f d.done e.done e.stored disabled r.places r.lists r.acks) doing kicks calls is_armed,
       devices_inside f q (inl refl),
     ))
 

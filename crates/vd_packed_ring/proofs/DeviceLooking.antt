@@ -10,9 +10,9 @@ use Rattle.vd_ring.specs.declared.act.DeviceAct.TheVariants as act
 use Rattle.vd_ring.specs.declared.device.DeviceNow.{DeviceNow}
 use Rattle.vd_ring.specs.declared.device.DeviceNow.TheVariants as now
 use Rattle.vd_ring.specs.declared.device.DeviceView.{DeviceView}
-use Rattle.vd_ring.specs.History.{takes, gives, given, last_used}
+use Rattle.vd_ring.specs.History.{takes, given, last_used}
 use Rattle.vd_ring.specs.Looks.{DeviceLooks}
-use Rattle.vd_packed_ring.specs.PackedWords.{is_available, len_of, id_of}
+use Rattle.vd_packed_ring.specs.PackedWords.{len_of, id_of}
 use Rattle.vd_packed_ring.specs.PackedChains.{is_whole, chain_of}
 use Rattle.vd_packed_ring.specs.PackedSignals.{asks}
 use Rattle.vd_packed_ring.specs.PackedPositions.{tpos, later}
@@ -101,6 +101,7 @@ second v r n m false c idx = record {
     none : Wakes (record v { doing = now.Arming }) op.Arm r false → ⊥
     none (inl a) = cc a.2
     none (inr b) = cc b.0
+
     awake_not : (Wakes (record v { doing = now.Arming }) op.Arm r false × (v.frame.features.event_idx ≡ true)) ⊎ (now.Arming ≡ now.Disarming op.Arm) ⊎ (op.Arm ≡ op.Disarm) → ⊥
     awake_not (inl a) = none a.0
     awake_not (inr (inl b)) = cc b
@@ -139,6 +140,7 @@ hears v r more true c eq idx = record {
     none : Wakes (record v { doing = now.Idle }) op.Hear r more → ⊥
     none (inl a) = cc a.0
     none (inr b) = b.2 (eqb-true r v.heard eq)
+
     awake_not : (Wakes (record v { doing = now.Idle }) op.Hear r more × (v.frame.features.event_idx ≡ true)) ⊎ (now.Idle ≡ now.Disarming op.Hear) ⊎ (op.Hear ≡ op.Disarm) → ⊥
     awake_not (inl a) = none a.0
     awake_not (inr (inl b)) = cc b

@@ -1,5 +1,5 @@
 -- What the ring invariant says of a sleeping device: what Asleep says, and what a hearing adds.
-use Rattle.std.proofs.Common.{◌≡◌, ◌≢◌, ℕ, ◌+◌, ◌-◌, ◌≤◌, ◌==◌, ◌++◌, Bool, true, false, Option, None, List, [], ◌∷◌, length, if◌then◌else◌, slice_index, refl, sym, ap, ◌∙◌, subst, arith}
+use Rattle.std.proofs.Common.{◌≡◌, ◌≢◌, ℕ, ◌+◌, ◌-◌, ◌≤◌, ◌==◌, ◌++◌, Bool, true, false, None, List, [], ◌∷◌, length, if◌then◌else◌, slice_index, refl, sym, ap, ◌∙◌, subst, arith}
 use Rattle.std.proofs.lemmas.Bool.{eqb-true, eqb-false}
 use Rattle.vd_model.specs.declared.chain.Piece.{Piece}
 use Rattle.vd_words.specs.declared.access.Access.{Access}
@@ -12,7 +12,7 @@ use Rattle.vd_ring.specs.declared.act.DeviceAct.TheVariants as act
 use Rattle.vd_ring.specs.declared.frame.Frame.{Frame}
 use Rattle.vd_ring.specs.declared.driver.DriverView.{DriverView}
 use Rattle.vd_ring.specs.declared.device.DeviceNow.{DeviceNow}
-use Rattle.vd_ring.specs.declared.device.DeviceNow.TheVariants.{Idle, Taking, Giving, Checking, Ringing, Arming, Disarming, Resting}
+use Rattle.vd_ring.specs.declared.device.DeviceNow.TheVariants.{Idle, Taking, Checking, Ringing, Arming, Disarming, Resting}
 use Rattle.vd_ring.specs.declared.device.DeviceView.{DeviceView}
 use Rattle.vd_ring.specs.History.{takes}
 use Rattle.vd_ring.specs.Sleep.{DeviceWaits, device_disarming, device_hearings, device_woken}
@@ -21,7 +21,7 @@ use Rattle.vd_packed_ring.specs.PackedChains.{is_whole, chain_of}
 use Rattle.vd_packed_ring.specs.PackedSignals.{asks}
 use Rattle.vd_packed_ring.specs.PackedPositions.{tpos}
 use Rattle.vd_packed_ring.specs.PackedDevice.{DeviceNextAt, DeviceNext, device_after_at, device_after, device_act_at, device_act, device_takes}
-use Rattle.vd_packed_ring.specs.PackedRing.{Ring, DeviceArmed, Woke}
+use Rattle.vd_packed_ring.specs.PackedRing.{Ring, Woke}
 use Rattle.vd_packed_ring.proofs.Bells.{kick_stands}
 use Rattle.vd_packed_ring.proofs.DeviceViews.{saw, saw_none, saw_again, sleeps, heard}
 

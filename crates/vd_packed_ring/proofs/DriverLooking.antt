@@ -11,9 +11,9 @@ use Rattle.vd_ring.specs.declared.act.DriverAct.TheVariants as act
 use Rattle.vd_ring.specs.declared.driver.DriverNow.{DriverNow}
 use Rattle.vd_ring.specs.declared.driver.DriverNow.TheVariants as now
 use Rattle.vd_ring.specs.declared.driver.DriverView.{DriverView}
-use Rattle.vd_ring.specs.History.{offers, collects}
+use Rattle.vd_ring.specs.History.{offers}
 use Rattle.vd_ring.specs.Looks.{DriverLooks}
-use Rattle.vd_packed_ring.specs.PackedWords.{second_word, is_used, put}
+use Rattle.vd_packed_ring.specs.PackedWords.{second_word, put}
 use Rattle.vd_packed_ring.specs.PackedSignals.{asks}
 use Rattle.vd_packed_ring.specs.PackedPositions.{opos, cpos, later}
 use Rattle.vd_packed_ring.specs.PackedDriver.{driver_shows, DriverNextAt, driver_after_at, driver_after, driver_act_at, driver_act, driver_side, driver_offers, driver_collects, stores, collect_act}
@@ -101,6 +101,7 @@ second v r n m false c idx = record {
     none : Wakes (record v { doing = now.Arming }) op.Arm r false → ⊥
     none (inl a) = cc a.2
     none (inr b) = cc b.0
+
     awake_not : (Wakes (record v { doing = now.Arming }) op.Arm r false × (v.frame.features.event_idx ≡ true)) ⊎ (now.Arming ≡ now.Disarming op.Arm) ⊎ (op.Arm ≡ op.Disarm) → ⊥
     awake_not (inl a) = none a.0
     awake_not (inr (inl b)) = cc b
@@ -139,6 +140,7 @@ hears v r more true c eq idx = record {
     none : Wakes (record v { doing = now.Idle }) op.Hear r more → ⊥
     none (inl a) = cc a.0
     none (inr b) = b.2 (eqb-true r v.heard eq)
+
     awake_not : (Wakes (record v { doing = now.Idle }) op.Hear r more × (v.frame.features.event_idx ≡ true)) ⊎ (now.Idle ≡ now.Disarming op.Hear) ⊎ (op.Hear ≡ op.Disarm) → ⊥
     awake_not (inl a) = none a.0
     awake_not (inr (inl b)) = cc b
