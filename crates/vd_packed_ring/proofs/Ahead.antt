@@ -111,27 +111,27 @@ begins us d e ws r more some is most =
     let read : reading f q h c ≡ next_words f o s = reading_is f q h c r.built in
     let count : length (reading f q h c) ≡ length (next_words f o s) = ap (λ (l : List Put). length l) read in
     let ord = order f o s r.places r.lists in
-      record {
-        head = h;
-        is_new = record {
-          inside = a.inside;
-          apart = λ j runs e2.
-              let occ = occurs_from j (running s) runs in
-              let hd = running_head f o s j r.places r.lists occ in
-              let same : j ≡ k = same_head f o j k r.places (running_open f o s j r.places r.lists occ) is_open (sym hd.0 ∙ e2) in
-              omega (arith, (running_below f o s j r.lists occ).0);
-        };
-        chain = c;
-        fits = a.fits;
-        control = λ on. r.commands.chains on k more;
-        words = is ∙ ap (λ (l : List Put). words_of (take (length ws) l)) (sym read);
-        left = λ off. elim (cases_lt (length ws) (length (next_words f o s))) [
-          | inl less ↦ omega (arith, count)
-          | inr all ↦ absurd (let x : false ≡ true = sym off ∙ (whole_all f q h c ws r.built a.small ok full is all).0 in cc)
-        ];
-        complete = λ on. elim (cases_lt (length ws) (length (next_words f o s))) [
-          | inl less ↦ absurd (let x : false ≡ true = sym (whole_less f q h c ws r.built a.small ok is (omega (arith, a.long))) ∙ on in cc)
-          | inr all ↦ (let w = whole_all f q h c ws r.built a.small ok full is all in (omega (arith, count), w.1, w.2))
-        ];
-        room = omega (arith, room_left f o s r.lists r.places more, ord.open_span, r.room);
-      }
+    record {
+      head = h;
+      is_new = record {
+        inside = a.inside;
+        apart = λ j runs e2.
+            let occ = occurs_from j (running s) runs in
+            let hd = running_head f o s j r.places r.lists occ in
+            let same : j ≡ k = same_head f o j k r.places (running_open f o s j r.places r.lists occ) is_open (sym hd.0 ∙ e2) in
+            omega (arith, (running_below f o s j r.lists occ).0);
+      };
+      chain = c;
+      fits = a.fits;
+      control = λ on. r.commands.chains on k more;
+      words = is ∙ ap (λ (l : List Put). words_of (take (length ws) l)) (sym read);
+      left = λ off. elim (cases_lt (length ws) (length (next_words f o s))) [
+        | inl less ↦ omega (arith, count)
+        | inr all ↦ absurd (let x : false ≡ true = sym off ∙ (whole_all f q h c ws r.built a.small ok full is all).0 in cc)
+      ];
+      complete = λ on. elim (cases_lt (length ws) (length (next_words f o s))) [
+        | inl less ↦ absurd (let x : false ≡ true = sym (whole_less f q h c ws r.built a.small ok is (omega (arith, a.long))) ∙ on in cc)
+        | inr all ↦ (let w = whole_all f q h c ws r.built a.small ok full is all in (omega (arith, count), w.1, w.2))
+      ];
+      room = omega (arith, room_left f o s r.lists r.places more, ord.open_span, r.room);
+    }

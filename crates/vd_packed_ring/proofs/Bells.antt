@@ -1,9 +1,9 @@
 -- What an event word and a bell that stand in the ring's words say.
-use Rattle.std.proofs.Common.{◌≡◌, ◌≢◌, ℕ, ◌+◌, ◌*◌, ◌/◌, ◌%◌, ◌<◌, ◌≤◌, ◌==◌, Bool, true, false, Option, Some, None, List, length, if◌then◌else◌, nat_lt, slice_index, slice_set, refl, sym, ap, ◌∙◌, subst, arith, inl, inr}
+use Rattle.std.proofs.Common.{◌≡◌, ◌≢◌, ℕ, ◌+◌, ◌*◌, ◌/◌, ◌%◌, ◌<◌, ◌≤◌, Bool, true, false, Option, Some, None, List, length, if◌then◌else◌, nat_lt, slice_index, slice_set, refl, sym, ap, ◌∙◌, subst, arith, inl, inr}
 use Rattle.std.proofs.lemmas.Bool.Decides.{nat_tests}
 use Rattle.std.proofs.lemmas.List.{get_or-set_same, get_or-set_other}
 use Rattle.std.proofs.lemmas.Nat.{mod_below}
-use Rattle.vd_bits.specs.Lanes.{is_even, lane32}
+use Rattle.vd_bits.specs.Lanes.{is_even}
 use Rattle.vd_event.specs.Words.{arm_word}
 use Rattle.vd_event.specs.Rings.{wants}
 use Rattle.vd_event.specs.declared.rule.EventRule.TheVariants.{Packed}
@@ -12,11 +12,10 @@ use Rattle.vd_ring.specs.declared.frame.Frame.{Frame}
 use Rattle.vd_ring.specs.declared.driver.DriverView.{DriverView}
 use Rattle.vd_ring.specs.declared.device.DeviceView.{DeviceView}
 use Rattle.vd_ring.specs.Frames.{limit}
-use Rattle.vd_ring.specs.History.{offers, gives}
-use Rattle.vd_ring.specs.Signals.{owing}
-use Rattle.vd_ring.specs.Sleep.{driver_owed, device_owed, gives_made}
+use Rattle.vd_ring.specs.History.{offers}
+use Rattle.vd_ring.specs.Sleep.{gives_made}
 use Rattle.vd_ring.proofs.Quiet.{few_gives}
-use Rattle.vd_packed_ring.specs.PackedWords.{IsLawful, kick_at, call_at, wrap_bit, event_word}
+use Rattle.vd_packed_ring.specs.PackedWords.{IsLawful, kick_at, call_at, event_word}
 use Rattle.vd_packed_ring.specs.PackedSignals.{armed_value, disabled, bell_word, asks, IsRange}
 use Rattle.vd_packed_ring.specs.PackedRing.{Ring, SideSignals}
 

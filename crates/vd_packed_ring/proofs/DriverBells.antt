@@ -1,7 +1,6 @@
 -- The driver's accesses of event words and bells keep the ring invariant.
-use Rattle.std.proofs.Common.{◌≡◌, ◌≢◌, ℕ, ◌+◌, ◌*◌, ◌%◌, ◌<◌, ◌≤◌, ◌==◌, Bool, true, false, Option, Some, None, List, [], ◌∷◌, length, if◌then◌else◌, slice_index, slice_set, refl, sym, ap, ◌∙◌, subst, arith, inl, inr, ◌⊎◌}
+use Rattle.std.proofs.Common.{◌≡◌, ◌≢◌, ℕ, ◌+◌, ◌*◌, ◌<◌, ◌≤◌, ◌==◌, Bool, true, false, Option, Some, None, List, [], length, if◌then◌else◌, slice_index, slice_set, refl, sym, ap, ◌∙◌, subst, arith, inl, inr}
 use Rattle.std.proofs.lemmas.Bool.{eqb-false, cases_lt}
-use Rattle.vd_words.specs.declared.access.Op.{Op}
 use Rattle.vd_words.specs.declared.access.Op.TheVariants as op
 use Rattle.vd_ring.specs.declared.frame.Frame.{Frame}
 use Rattle.vd_ring.specs.declared.frame.Put.{Put}
@@ -17,15 +16,15 @@ use Rattle.vd_ring.specs.Places.{Places}
 use Rattle.vd_ring.specs.Signals.{Signals}
 use Rattle.vd_ring.specs.Signals as signal
 use Rattle.vd_ring.proofs.ControlSteps.{commands_elsewhere}
-use Rattle.vd_packed_ring.specs.PackedWords.{IsDrivers, width, tables_from, driver_event, device_event, kick_at, call_at, command_word, ack_word, second_word, is_used}
-use Rattle.vd_packed_ring.specs.PackedSignals.{armed_value, disabled, bell_word, asks, IsRange, StoresEvent, StoresDisable, StoresBell}
+use Rattle.vd_packed_ring.specs.PackedWords.{IsDrivers, width, driver_event, device_event, kick_at, call_at, command_word, ack_word, second_word, is_used}
+use Rattle.vd_packed_ring.specs.PackedSignals.{armed_value, disabled, bell_word, asks, StoresEvent, StoresDisable, StoresBell}
 use Rattle.vd_packed_ring.specs.PackedPositions.{opos, cpos, upos, made_at, second_at, later}
 use Rattle.vd_packed_ring.specs.PackedDriver.{driver_checks, driver_rings, driver_arms, driver_wakes, driver_looks_again, driver_hears}
 use Rattle.vd_packed_ring.specs.PackedRing.{Ring, Words, Row, SideSignals, puts_of, DriverDoing, chains_out, chains_in, entries_out, entries_in, DriverArmed}
 use Rattle.vd_packed_ring.proofs.Areas.{areas, acks_follow, driver_stores}
 use Rattle.vd_packed_ring.proofs.Rows.{row_elsewhere}
 use Rattle.vd_packed_ring.proofs.Spelled.{table_stands}
-use Rattle.vd_packed_ring.proofs.Positions.{order, later_second, later_within}
+use Rattle.vd_packed_ring.proofs.Positions.{later_second, later_within}
 use Rattle.vd_packed_ring.proofs.Bells.{asks_armed, armed_word, signals_armed, signals_disarmed, signals_awake, signals_rung}
 use Rattle.vd_packed_ring.proofs.Collects.{all_collected, shows_none, found, entry_before}
 
@@ -245,7 +244,7 @@ pub looks_again : (ws : List ℕ) (d : DriverView) (e : DeviceView) (w : ℕ) �
 looks_again ws d e w r is =
     let f : Frame = d.frame in let D : DriverView = record d { doing = Arming } in let q : ℕ = cpos f d.done in
     let after : Bool → Type 0 = λ b.
-        Ring ws (if b then record d { seen = later d.seen (q + 1); shown = true; armed = None; doing = driver_wakes f op.Arm } else record d { seen = later d.seen q; shown = false; doing = Idle }) e in
+    Ring ws (if b then record d { seen = later d.seen (q + 1); shown = true; armed = None; doing = driver_wakes f op.Arm } else record d { seen = later d.seen q; shown = false; doing = Idle }) e in
     elim (cases_lt (length (collects d.done)) (length (gives e.done))) [
       | inl more ↦ subst after (sym (ap (is_used f.size q) is ∙ (found ws D e refl r more).shows)) (wakes_at ws d e f.features.event_idx r more refl)
       | inr none ↦ subst after (sym (ap (is_used f.size q) is ∙ shows_none ws D e refl r none)) (sleeps_at ws d e r none)

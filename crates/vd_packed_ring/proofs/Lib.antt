@@ -17,6 +17,7 @@ pub mod DeviceParts
 pub mod Ahead
 pub mod Takes
 pub mod Gives
+pub mod DeviceBells
 pub mod DeviceControls
 pub mod DeviceKeeping
 pub mod Opens
@@ -28,8 +29,11 @@ pub mod Spelling
 pub mod DriverAnswers
 pub mod DeviceAnswers
 pub mod DeviceBagSteps
+pub mod DeviceSleeping
 pub mod Seen
 pub mod Signalling
 pub mod Sleeping
+pub mod DriverLooking
+pub mod DeviceLooking
 mod Examples
 pub mod ControlFacts

@@ -1,6 +1,6 @@
 -- What the ring invariant says of sleeping sides: the signals of both directions, what the driver's Asleep says, and what a hearing of
 -- the driver adds.
-use Rattle.std.proofs.Common.{◌≡◌, ◌≢◌, ℕ, ◌+◌, ◌-◌, ◌<◌, ◌≤◌, ◌==◌, ◌++◌, Bool, true, false, Some, None, List, [], ◌∷◌, length, if◌then◌else◌, slice_index, refl, sym, ap, ◌∙◌, subst, arith}
+use Rattle.std.proofs.Common.{◌≡◌, ◌≢◌, ℕ, ◌+◌, ◌-◌, ◌≤◌, ◌==◌, ◌++◌, Bool, true, false, None, List, [], ◌∷◌, length, if◌then◌else◌, slice_index, refl, sym, ap, ◌∙◌, subst, arith}
 use Rattle.std.specs.List.{sum_by}
 use Rattle.std.proofs.lemmas.Bool.{eqb-true, eqb-false}
 use Rattle.vd_model.specs.declared.chain.Piece.{Piece}
@@ -13,7 +13,6 @@ use Rattle.vd_words.specs.Step.{answered}
 use Rattle.vd_ring.specs.declared.act.DriverAct.{DriverAct}
 use Rattle.vd_ring.specs.declared.act.DriverAct.TheVariants as act
 use Rattle.vd_ring.specs.declared.frame.Frame.{Frame}
-use Rattle.vd_ring.specs.declared.frame.Put.{Put}
 use Rattle.vd_ring.specs.declared.frame.Used.{Used}
 use Rattle.vd_ring.specs.declared.driver.DriverNow.{DriverNow}
 use Rattle.vd_ring.specs.declared.driver.DriverNow.TheVariants.{Idle, Offering, Checking, Ringing, Arming, Disarming}
@@ -21,7 +20,7 @@ use Rattle.vd_ring.specs.declared.driver.DriverView.{DriverView}
 use Rattle.vd_ring.specs.declared.device.DeviceView.{DeviceView}
 use Rattle.vd_ring.specs.History.{offers, collects, takes, gives, chain}
 use Rattle.vd_ring.specs.Signals.{Publisher, Listener, Signals}
-use Rattle.vd_ring.specs.Sleep.{position, used_position, span, RingSignals, DriverWaits, driver_disarming, driver_hearings, driver_woken}
+use Rattle.vd_ring.specs.Sleep.{position, used_position, RingSignals, DriverWaits, driver_disarming, driver_hearings, driver_woken}
 use Rattle.vd_packed_ring.specs.PackedWords.{put, call_at, second_word, is_used}
 use Rattle.vd_packed_ring.specs.PackedSignals.{asks}
 use Rattle.vd_packed_ring.specs.PackedPositions.{opos, cpos, tpos, upos, later}

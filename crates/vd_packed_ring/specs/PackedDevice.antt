@@ -1,6 +1,6 @@
 -- The accesses of a packed ring's device: which may be made next, the view after one, what its answer tells, and what the end's step
 -- answers.
-use Rattle.std.specs.Prelude.{◌≡◌, ◌≢◌, ℕ, ◌+◌, ◌-◌, ◌/◌, ◌%◌, ◌<◌, ◌≤◌, true, false, List, [], ◌∷◌, ◌++◌, length, take, None, Some, if◌then◌else◌, ◌==◌, slice_index, slice_set}
+use Rattle.std.specs.Prelude.{◌≡◌, ◌≢◌, ℕ, ◌+◌, ◌-◌, ◌/◌, ◌%◌, ◌<◌, ◌≤◌, Bool, true, false, List, [], ◌∷◌, ◌++◌, length, take, None, Some, if◌then◌else◌, ◌==◌, slice_index, slice_set}
 use Rattle.std.specs.List.{Contains}
 use Rattle.vd_model.specs.declared.chain.Piece.{Piece}
 use Rattle.vd_model.specs.Chains.{needs}
@@ -213,6 +213,10 @@ abbrev pub DeviceTells : DeviceView → Op → Access → ℕ → Type 0
 DeviceTells v op a r = DeviceKnows v a r × DeviceTellsAt v.doing v op a r
 
 -- ---- the step's answer
+
+-- the word that a look loads shows a chain that is not taken
+abbrev pub device_shows : DeviceView → ℕ → Bool
+device_shows v r = is_available v.frame.size (tpos v.frame v.done) r
 
 abbrev pub take_act : DeviceView → List ℕ → DeviceAct
 take_act v ws = if is_whole v.frame ws then act.Taken (length (takes v.done)) (chain_of v.frame ws) else act.Moved

@@ -1,6 +1,6 @@
 -- The accesses of a packed ring's driver: which may be made next, the view after one, what its answer tells, and what the end's step
 -- answers.
-use Rattle.std.specs.Prelude.{◌≡◌, ℕ, ◌+◌, ◌-◌, ◌/◌, ◌%◌, ◌<◌, ◌≤◌, ◌⊎◌, ◌==◌, true, false, List, [], ◌∷◌, ◌++◌, length, take, None, Some, if◌then◌else◌, slice_index, slice_set, unwrap_or}
+use Rattle.std.specs.Prelude.{◌≡◌, ℕ, ◌+◌, ◌-◌, ◌/◌, ◌%◌, ◌<◌, ◌≤◌, ◌⊎◌, ◌==◌, Bool, true, false, List, [], ◌∷◌, ◌++◌, length, take, None, Some, if◌then◌else◌, slice_index, slice_set, unwrap_or}
 use Rattle.std.specs.List.{Contains}
 use Rattle.vd_model.specs.declared.chain.Piece.{Piece}
 use Rattle.vd_model.specs.Chains.{needs}
@@ -195,6 +195,10 @@ abbrev pub DriverTells : DriverView → Op → Access → ℕ → Type 0
 DriverTells v op a r = DriverKnows v a r × DriverTellsAt v.doing v op a r
 
 -- ---- the step's answer
+
+-- the word that a look loads shows a used entry that is not collected
+abbrev pub driver_shows : DriverView → ℕ → Bool
+driver_shows v r = is_used v.frame.size (cpos v.frame v.done) r
 
 abbrev pub offer_act : DriverView → ℕ → DriverAct
 offer_act v p = if p == second_word v.frame.size (opos v.frame v.done) then act.Offered (length (offers v.done)) else act.Moved
