@@ -7,6 +7,7 @@ use Rattle.vd_event.specs.declared.rule.EventRule.TheVariants.{SplitFlags, Split
 use Rattle.vd_event.specs.Words.{packed_word, offset_of, wrap_of, flags_of, arm_word, off_word, reach, IsArmable, IsOn}
 use Rattle.vd_event.specs.Rings.{HasPlace, Rings, period}
 use Rattle.vd_event.proofs.LapLaws.{apart}
+use Rattle.vd_event.proofs.Among.{packed_rings, rings_packed}
 
 -- the parts of a packed word
 pub flags-packed : (o f : ℕ) (w : Bool) → o < 32768 → f < 4 → flags_of (packed_word o w f) ≡ f
@@ -27,10 +28,10 @@ rings_armed SplitFlags old new s a near low high = refl
 rings_armed SplitIndex old new s a near low high = grind (arith, nat_tests)
 rings_armed (Packed n) old new s a near low high =
     let o : s % n < 32768 = omega (arith, a.0, a.1) in
-    inr (
+    rings_packed n old new (arm_word (Packed n) s) (inr (
       flags-packed (s % n) 2 (is_even (s / n)) o (omega arith),
       (s, low, high, sym (offset-packed (s % n) 2 (is_even (s / n)) o), sym (wrap-packed (s % n) 2 (is_even (s / n)) o)),
-    )
+    ))
 
 -- one that waits for a position outside it, less than a period away, isn't
 pub quiet_apart : (rule : EventRule) (old new s : ℕ) → IsArmable rule → old < new → new - old ≤ reach rule → new ≤ s + period rule → s < old + period rule
@@ -40,7 +41,7 @@ quiet_apart SplitIndex old new s a some near low high side r = grind (arith, nat
 quiet_apart (Packed n) old new s a some near low high side r =
     let o : s % n < 32768 = omega (arith, a.0, a.1) in
     let f : flags_of (packed_word (s % n) (is_even (s / n)) 2) ≡ 2 = flags-packed (s % n) 2 (is_even (s / n)) o (omega arith) in
-    elim r [
+    elim (packed_rings n old new (arm_word (Packed n) s) (omega arith) r) [
       | inl none ↦ absurd (omega (arith, f, none))
       | inr named ↦ apart n old new s (omega (arith, a.0)) low high side
           (let P : ℕ → Type 0 = λ x. HasPlace n old new x (is_even (s / n)) in
@@ -50,12 +51,12 @@ quiet_apart (Packed n) old new s a some near low high side r =
 
 -- a side that wants no signal gets none
 pub quiet_off : (rule : EventRule) (old new word : ℕ) → off_word rule ≡ Some word → Rings rule old new word → ⊥
-quiet_off SplitFlags old new word e r = grind arith
+quiet_off SplitFlags old new word e r = grind (arith, nat_tests)
 quiet_off SplitIndex old new word e r = cc
-quiet_off (Packed n) old new word e r = elim r [ inl none ↦ grind arith | inr named ↦ let f = named.0 in grind arith ]
+quiet_off (Packed n) old new word e r = grind (arith, nat_tests)
 
 -- a side that wants every signal gets it
 pub rings_on : (rule : EventRule) (old new word : ℕ) → IsOn rule word → Rings rule old new word
-rings_on SplitFlags old new word e = omega (arith, e)
+rings_on SplitFlags old new word e = grind (arith, nat_tests)
 rings_on SplitIndex old new word e = absurd e
-rings_on (Packed n) old new word e = inl (omega (arith, e))
+rings_on (Packed n) old new word e = rings_packed n old new word (inl (omega (arith, e)))

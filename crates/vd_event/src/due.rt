@@ -1,7 +1,8 @@
 //! A published range that is to be checked against the other side's event word.
 ghost use Rattle.std.specs.Prelude.{◌≡◌, ◌<◌, ◌≤◌, ◌-◌, ◌+◌, ◌↔◌, ◌⊎◌, ℕ, IsTrue};
 ghost use Rattle.vd_event.specs.Words.{IsArmedAt, IsOn, off_word, reach};
-ghost use Rattle.vd_event.specs.Rings.{HasPlace, Rings, Published, period};
+ghost use Rattle.vd_event.specs.Rings.{HasPlace, Rings, RingsPacked, Published, period};
+ghost use Rattle.vd_event.specs.declared.rule.EventRule.TheVariants.{Packed};
 ghost use Rattle.vd_event.specs.declared.due.Answer.TheVariants.{Ring, Quiet};
 
 use crate::EventRule;
@@ -54,6 +55,9 @@ impl Due {
     pub fn check(self, word: u32) -> Answer
         ensures ring { (result ≡ Ring) ↔ Rings self.rule self.old self.new word }
         ensures quiet { (result ≡ Quiet) ↔ ¬ Rings self.rule self.old self.new word }
+
+        // Of a packed ring: its flags enable every signal, or name a position of the range.
+        ensures packed { (size : ℕ) → self.rule ≡ Packed size → (result ≡ Ring) ↔ RingsPacked size self.old self.new word }
 
         // A side that waits for a position of the range is told.
         ensures armed { (s : ℕ) → IsArmedAt self.rule s word → self.old ≤ s → s < self.new → result ≡ Ring }
