@@ -5,7 +5,7 @@ use Rattle.vd_model.specs.declared.chain.Piece.{Piece}
 use Rattle.vd_model.specs.declared.features.Features.{Features}
 use Rattle.vd_words.specs.declared.access.Access.{Access}
 use Rattle.vd_words.specs.declared.access.Op.{Op}
-use Rattle.vd_words.specs.declared.access.Op.TheVariants.{Control}
+use Rattle.vd_words.specs.declared.access.Op.TheVariants.{Control, Arm}
 use Rattle.vd_words.specs.Model.{PortModel}
 use Rattle.vd_words.specs.Own.{SideModel}
 use Rattle.vd_ring.specs.declared.act.DeviceAct.{DeviceAct}
@@ -21,9 +21,10 @@ use Rattle.vd_ring.specs.Frames.{Fits, limit}
 use Rattle.vd_ring.specs.History.{takes, gives, heads, running, running_size, taken_head, numbers, occurs, IsWhole}
 use Rattle.vd_ring.specs.Control.{IsControlChain}
 use Rattle.vd_ring.specs.ControlLaws.{DeviceControls, HasOwnHead}
+use Rattle.vd_ring.specs.Looks.{DeviceLooks}
 use Rattle.vd_layout.specs.Control.{ControlWords}
 use Rattle.vd_layout.specs.Pairs.{WereGiven}
-use Rattle.vd_layout.specs.Begun.{DeviceOp, DevicePublished, DeviceGoesOn, DeviceMayWake}
+use Rattle.vd_layout.specs.Begun.{DeviceOp, DevicePublished, DeviceGoesOn, DeviceMayWake, IsDeviceOp}
 
 -- the chain runs, and may be given next
 pub record MayGive (f : Frame) (s : List DeviceDone) (k : ℕ) : Type 0 where
@@ -49,12 +50,13 @@ pub record Runs (f : Frame) (s : List DeviceDone) : Type 0 where
   pub inside : (k : ℕ) → Contains (running s) k → taken_head s k < f.size
   pub apart : (k : ℕ) → Contains (running s) k → HasOwnHead s k
 
--- a device's end: what its side may do, what its steps answer, for which views it stands, the operation that it has begun, a
--- bound of the steps that this still takes, what it was made with, whether it rests or is fresh, where its layout keeps commands
--- and acks, and its base
+-- a device's end: what its side may do, what its steps answer, whether a word that a look loads shows a further chain, for which views
+-- it stands, the operation that it has begun, whether it is armed, a bound of the steps that this still takes, what it was made with,
+-- whether it rests or is fresh, where its layout keeps commands and acks, and its base
 pub record DeviceModel (E : Type 0) : Type 1 where
   pub side : SideModel DeviceView
   pub act : DeviceView → Op → Access → ℕ → DeviceAct
+  pub shows : DeviceView → ℕ → Bool
   pub stands : E → DeviceView → Type 0
   pub begun : E → DeviceOp
   pub armed : E → Bool
@@ -83,12 +85,13 @@ abbrev pub is_rested : DeviceAct → Bool
 is_rested act.Rested = true
 is_rested _ = false
 
--- one access of the port was made, which was next in the view; the end stands for the view after it, answers by it, is
--- nearer the operation's end, and rests exactly where it answers so
+-- one access of the port was made, of the operation begun, which was next in the view; the end stands for the view after it, answers
+-- by it, is nearer the operation's end, and rests exactly where it answers so
 pub record IsDeviceStep {P E : Type 0} (port : PortModel P) (m : DeviceModel E) (p q : P) (v : DeviceView) (e e' : E) (answer : DeviceAct) : Type 0 where
   pub op : Op
   pub access : Access
   pub got : ℕ
+  pub of_it : IsDeviceOp (m.begun e) op
   pub was_next : m.side.next v op access
   pub moved : port.moves p op access got q
   pub now_stands : m.stands e' (m.side.after v op access got)
@@ -123,6 +126,10 @@ pub record IsLawfulDevice {E : Type 0} (m : DeviceModel E) : Type 0 where
   pub control : (e : E) (v : DeviceView) (a : Access) (r : ℕ) → m.stands e v → m.side.next v Control a → m.stands e (m.side.after v Control a r)
   -- no access changes what the ring was made with
   pub framed : (v : DeviceView) (op : Op) (a : Access) (r : ℕ) → (m.side.after v op a r).frame ≡ v.frame
+  -- only an access of an arming arms
+  pub stays_unarmed : (v : DeviceView) (op : Op) (a : Access) (r : ℕ) → op ≢ Arm → v.armed ≡ None → (m.side.after v op a r).armed ≡ None
+  -- when a look finds nothing, and when an arming or a hearing ends asleep or awake
+  pub looks : DeviceLooks m.side m.act m.shows
   -- each chain taken runs or is given, and only once; the heads of those that run differ
   pub runs : (e : E) (v : DeviceView) → m.stands e v → Runs v.frame v.done
   -- when a command word may be loaded, and an ack stored, and the view after it

@@ -1,12 +1,14 @@
 -- An operation of a device's end made to its end, step by step.
-use Rattle.std.proofs.Common.{Bool, false, ◌≡◌, ◌≢◌, ◌⊎◌, List, [], ◌∷◌, sym, ap, ◌∙◌, subst, refl, inl, inr}
+use Rattle.std.proofs.Common.{Bool, false, ◌≡◌, ◌≢◌, ◌⊎◌, None, List, [], ◌∷◌, sym, ap, ◌∙◌, subst, refl, inl, inr}
+use Rattle.vd_words.specs.declared.access.Op.{Op}
+use Rattle.vd_words.specs.declared.access.Op.TheVariants.{Arm}
 use Rattle.vd_words.specs.Model.{PortModel}
 use Rattle.vd_ring.specs.declared.act.DeviceAct.{DeviceAct}
 use Rattle.vd_ring.specs.declared.act.DeviceAct.TheVariants as act
 use Rattle.vd_ring.specs.declared.device.DeviceDone.{DeviceDone}
 use Rattle.vd_ring.specs.declared.device.DeviceView.{DeviceView}
 use Rattle.vd_ring.specs.declared.frame.Frame.{Frame}
-use Rattle.vd_layout.specs.Begun.{DeviceOp, DevicePublished, DeviceGoesOn, DeviceMayWake}
+use Rattle.vd_layout.specs.Begun.{DeviceOp, DevicePublished, DeviceGoesOn, DeviceMayWake, IsDeviceOp}
 use Rattle.vd_layout.specs.Control.{ControlWords}
 use Rattle.vd_layout.specs.Device.{DeviceModel, DeviceSays, IsDeviceStep, IsLawfulDevice, is_rested}
 use Rattle.vd_layout.specs.Run.{Made, IsRun, IsToldAt}
@@ -37,6 +39,8 @@ pub record IsDeviceFinish {P E : Type 0} (port : PortModel P) (m : DeviceModel E
   pub told : answer ≢ act.Moved
   pub says : DeviceSays m.words answer (m.begun e) DeviceOp.idle v.frame v.done view.done
   pub rests : m.resting e' ≡ is_rested answer
+  -- only an arming arms
+  pub unarmed : m.begun e ≢ DeviceOp.arm → v.armed ≡ None → view.armed ≡ None
   -- the access by which it was told
   pub at : IsToldAt port m.side m.act (λ u. u.done ≡ v.done) p v answer
 
@@ -53,10 +57,11 @@ pub record DeviceGoing {P E : Type 0} (port : PortModel P) (m : DeviceModel E) (
   pub run : IsRun port m.side made p v q view
   pub stands : m.stands e view
   pub framed : view.frame ≡ v.frame
+  pub unarmed : b ≢ DeviceOp.arm → v.armed ≡ None → view.armed ≡ None
   pub phase : ((answer ≡ act.Moved) × (m.begun e ≡ b) × (view.done ≡ v.done)) ⊎ ((answer ≢ act.Moved) × DeviceToldStage answer (m.begun e) (m.resting e) × DeviceSays m.words answer b DeviceOp.idle v.frame v.done view.done × IsToldAt port m.side m.act (λ u. u.done ≡ v.done) p v answer)
 
 pub device_starts : {P E : Type 0} (port : PortModel P) (m : DeviceModel E) (p : P) (v : DeviceView) (e : E) → m.stands e v → DeviceGoing port m (m.begun e) p v p e act.Moved
-device_starts port m p v e stands = record { view = v; made = []; run = (refl, refl); stands = stands; framed = refl; phase = inl (refl, refl, refl) }
+device_starts port m p v e stands = record { view = v; made = []; run = (refl, refl); stands = stands; framed = refl; unarmed = λ other none. none; phase = inl (refl, refl, refl) }
 
 -- what one step's answer says, where nothing was told before it
 said : (words : ControlWords) (x : DeviceAct) (b b' : DeviceOp) (f : Frame) (s s' : List DeviceDone) (resting : Bool) → IsDeviceWork b → DeviceSays words x b b' f s s' → resting ≡ is_rested x
@@ -98,6 +103,16 @@ told_first x act.Armed is ne = refl
 told_first x act.Awake is ne = refl
 told_first x act.Asleep is ne = refl
 
+not_arm : (x : DeviceOp) (o : Op) → IsDeviceOp x o → x ≢ DeviceOp.arm → o ≢ Arm
+not_arm DeviceOp.idle o is other = absurd is
+not_arm DeviceOp.take o is other = λ e. cc (is, e)
+not_arm (DeviceOp.give k n) o is other = λ e. cc (is, e)
+not_arm DeviceOp.rest o is other = λ e. cc (is, e)
+not_arm DeviceOp.arm o is other = absurd (other refl)
+not_arm DeviceOp.hear o is other = λ e. cc (is, e)
+not_arm DeviceOp.disarm o is other = λ e. cc (is, e)
+not_arm DeviceOp.signal o is other = λ e. cc (is, e)
+
 pub device_goes : {P E : Type 0} (port : PortModel P) (m : DeviceModel E) (law : IsLawfulDevice m) (b : DeviceOp) (p q q' : P) (v : DeviceView) (e e' : E) (answer x : DeviceAct) → IsDeviceWork b → (g : DeviceGoing port m b p v q e answer) → (m.begun e ≡ DeviceOp.idle → ⊥)
     → IsDeviceStep port m q q' g.view e e' x → DeviceGoing port m b p v q' e' (device_told answer x)
 device_goes {P} {E} port m law b p q q' v e e' answer x work g busy s =
@@ -109,6 +124,7 @@ device_goes {P} {E} port m law b p q q' v e e' answer x work g busy s =
       run = (q, w, g.run, record { was_next = s.was_next; moved = s.moved; is_after = refl });
       stands = s.now_stands;
       framed = law.framed w s.op s.access s.got ∙ g.framed;
+      unarmed = λ other none. law.stays_unarmed w s.op s.access s.got (not_arm (m.begun e) s.op s.of_it (goes_unarmed other)) (g.unarmed other none);
       phase = elim g.phase [
         | inl a ↦ elim (said m.words x b (m.begun e') v.frame v.done u.done (m.resting e') work (at a.1 a.2) s.rests) [
           | inl t ↦ inl (ap (device_told answer) t.0 ∙ a.0, t.1, t.2)
@@ -144,6 +160,9 @@ device_goes {P} {E} port m law b p q q' v e e' answer x work g busy s =
     which (inl i) = absurd (busy i.0)
     which (inr i) = i
 
+    goes_unarmed : b ≢ DeviceOp.arm → m.begun e ≢ DeviceOp.arm
+    goes_unarmed other is = elim g.phase [ inl a ↦ other (sym a.1 ∙ is) | inr a ↦ absurd (cc ((which a.1).0, is)) ]
+
     left : DevicePublished (m.begun e') → m.resting e' ≡ is_rested answer → is_rested answer ≡ false → DeviceToldStage answer (m.begun e') (m.resting e')
     left (inl i) rests none = inl (i, rests)
     left (inr i) rests none = inr (i, none)
@@ -151,7 +170,7 @@ device_goes {P} {E} port m law b p q q' v e e' answer x work g busy s =
 pub device_ends : {P E : Type 0} (port : PortModel P) (m : DeviceModel E) (p q : P) (v : DeviceView) (e e' : E) (answer : DeviceAct) → IsDeviceWork (m.begun e) → DeviceGoing port m (m.begun e) p v q e' answer → m.begun e' ≡ DeviceOp.idle → IsDeviceFinish port m p q v e e' answer
 device_ends port m p q v e e' answer work g idle = elim g.phase [
   | inl a ↦ absurd (no (m.begun e) work (sym a.1 ∙ idle))
-  | inr a ↦ record { view = g.view; made = g.made; run = g.run; now_stands = g.stands; idle = idle; told = a.0; says = a.2; rests = at_end a.1; at = a.3 }
+  | inr a ↦ record { view = g.view; made = g.made; run = g.run; now_stands = g.stands; idle = idle; told = a.0; says = a.2; rests = at_end a.1; unarmed = g.unarmed; at = a.3 }
 ]
   where
     no : (b : DeviceOp) → IsDeviceWork b → b ≡ DeviceOp.idle → ⊥

@@ -1,10 +1,10 @@
 -- What a driver's end is, as one record, and what one step of it is.
-use Rattle.std.specs.Prelude.{◌≡◌, ℕ, ◌+◌, ◌<◌, ◌≤◌, Bool, true, false, Some, None, List, ◌∷◌, length}
+use Rattle.std.specs.Prelude.{◌≡◌, ◌≢◌, ℕ, ◌+◌, ◌<◌, ◌≤◌, Bool, true, false, Some, None, List, ◌∷◌, length}
 use Rattle.vd_model.specs.declared.chain.Piece.{Piece}
 use Rattle.vd_model.specs.declared.features.Features.{Features}
 use Rattle.vd_words.specs.declared.access.Access.{Access}
 use Rattle.vd_words.specs.declared.access.Op.{Op}
-use Rattle.vd_words.specs.declared.access.Op.TheVariants.{Control}
+use Rattle.vd_words.specs.declared.access.Op.TheVariants.{Control, Arm}
 use Rattle.vd_words.specs.Model.{PortModel}
 use Rattle.vd_words.specs.Own.{SideModel}
 use Rattle.vd_ring.specs.declared.act.DriverAct.{DriverAct}
@@ -20,10 +20,11 @@ use Rattle.vd_ring.specs.Frames.{Fits, limit}
 use Rattle.vd_ring.specs.History.{offers, open_size, head, next_head}
 use Rattle.vd_ring.specs.Control.{IsControlChain}
 use Rattle.vd_ring.specs.ControlLaws.{DriverControls}
+use Rattle.vd_ring.specs.Looks.{DriverLooks}
 use Rattle.vd_ring.specs.Places.{Places}
 use Rattle.vd_layout.specs.Control.{ControlWords}
 use Rattle.vd_layout.specs.Pairs.{WereCollected}
-use Rattle.vd_layout.specs.Begun.{DriverOp, DriverPublished, DriverGoesOn, MayWake}
+use Rattle.vd_layout.specs.Begun.{DriverOp, DriverPublished, DriverGoesOn, MayWake, IsDriverOp}
 
 -- there are as many free places as the chain needs
 abbrev pub HasRoom : Frame → List DriverDone → List Piece → Type 0
@@ -36,11 +37,13 @@ pub record MayOffer (words : ControlWords) (v : DriverView) (c : List Piece) : T
   pub limited : length (offers v.done) < limit v.frame
   pub control : v.frame.control ≡ true → IsControlChain (words.command v.frame (next_head v.frame v.done)) (words.ack v.frame (next_head v.frame v.done)) c
 
--- a driver's end: what its side may do, what its steps answer, for which views it stands, the operation that it has begun, whether it
--- is armed, a bound of the steps that this still takes, what it was made with, and where its layout keeps commands and acks
+-- a driver's end: what its side may do, what its steps answer, whether a word that a look loads shows a further used entry, for which
+-- views it stands, the operation that it has begun, whether it is armed, a bound of the steps that this still takes, what it was made
+-- with, and where its layout keeps commands and acks
 pub record DriverModel (E : Type 0) : Type 1 where
   pub side : SideModel DriverView
   pub act : DriverView → Op → Access → ℕ → DriverAct
+  pub shows : DriverView → ℕ → Bool
   pub stands : E → DriverView → Type 0
   pub begun : E → DriverOp
   pub armed : E → Bool
@@ -49,22 +52,29 @@ pub record DriverModel (E : Type 0) : Type 1 where
   pub features : E → Features
   pub words : ControlWords
 
+-- what is known of a chain that was offered: it may stand on the ring, and had room there
+pub record WasOffered (f : Frame) (o : List DriverDone) (c : List Piece) : Type 0 where
+  pub fits : Fits f c
+  pub room : HasRoom f o c
+  pub limited : length (offers o) < limit f
+
 -- an answer, the operation before and after the step, the frame, and what was done before and after
 abbrev pub DriverSays : DriverAct → DriverOp → DriverOp → Frame → List DriverDone → List DriverDone → Type 0
 DriverSays act.Moved b b' f o o' = DriverGoesOn b b' × (o' ≡ o)
 DriverSays act.Nothing b b' f o o' = (b ≡ DriverOp.collect) × (b' ≡ DriverOp.idle) × (o' ≡ o)
-DriverSays (act.Offered k) b b' f o o' = (c : List Piece) × (b ≡ DriverOp.offer c) × DriverPublished b' × (k ≡ length (offers o)) × (o' ≡ Offer c ∷ o)
+DriverSays (act.Offered k) b b' f o o' = (c : List Piece) × (b ≡ DriverOp.offer c) × DriverPublished b' × (k ≡ length (offers o)) × (o' ≡ Offer c ∷ o) × WasOffered f o c
 DriverSays (act.Collected k n h) b b' f o o' = (us : List Used) × (b ≡ DriverOp.collect) × (b' ≡ DriverOp.idle) × (o' ≡ Collect us ∷ o) × WereCollected f o us k n × (h ≡ head f o k)
 DriverSays act.Armed b b' f o o' = (b ≡ DriverOp.arm) × (b' ≡ DriverOp.idle) × (o' ≡ o)
 DriverSays act.Awake b b' f o o' = MayWake b × (b' ≡ DriverOp.idle) × (o' ≡ o)
 DriverSays act.Asleep b b' f o o' = (b ≡ DriverOp.hear) × (b' ≡ DriverOp.idle) × (o' ≡ o)
 
--- one access of the port was made, which was next in the view; the end stands for the view after it, answers by it, and is
--- nearer the operation's end
+-- one access of the port was made, of the operation begun, which was next in the view; the end stands for the view after it, answers
+-- by it, and is nearer the operation's end
 pub record IsDriverStep {P E : Type 0} (port : PortModel P) (m : DriverModel E) (p q : P) (v : DriverView) (e e' : E) (answer : DriverAct) : Type 0 where
   pub op : Op
   pub access : Access
   pub got : ℕ
+  pub of_it : IsDriverOp (m.begun e) op
   pub was_next : m.side.next v op access
   pub moved : port.moves p op access got q
   pub now_stands : m.stands e' (m.side.after v op access got)
@@ -85,6 +95,10 @@ pub record IsLawfulDriver {E : Type 0} (m : DriverModel E) : Type 0 where
   pub control : (e : E) (v : DriverView) (a : Access) (r : ℕ) → m.stands e v → m.side.next v Control a → m.stands e (m.side.after v Control a r)
   -- no access changes what the ring was made with
   pub framed : (v : DriverView) (op : Op) (a : Access) (r : ℕ) → (m.side.after v op a r).frame ≡ v.frame
+  -- only an access of an arming arms
+  pub stays_unarmed : (v : DriverView) (op : Op) (a : Access) (r : ℕ) → op ≢ Arm → v.armed ≡ None → (m.side.after v op a r).armed ≡ None
+  -- when a look finds nothing, and when an arming or a hearing ends asleep or awake
+  pub looks : DriverLooks m.side m.act m.shows
   -- each place is free or held by one open chain; each chain offered is open or collected, and only once
   pub places : (e : E) (v : DriverView) → m.stands e v → Places v.frame v.done
   -- when a command word may be stored, and an ack loaded, and the view after it

@@ -1,12 +1,14 @@
 -- An operation of a driver's end made to its end, step by step.
-use Rattle.std.proofs.Common.{◌≡◌, ◌≢◌, ◌⊎◌, List, [], ◌∷◌, sym, ap, ◌∙◌, subst, refl, inl, inr}
+use Rattle.std.proofs.Common.{◌≡◌, ◌≢◌, ◌⊎◌, None, List, [], ◌∷◌, sym, ap, ◌∙◌, subst, refl, inl, inr}
+use Rattle.vd_words.specs.declared.access.Op.{Op}
+use Rattle.vd_words.specs.declared.access.Op.TheVariants.{Arm}
 use Rattle.vd_words.specs.Model.{PortModel}
 use Rattle.vd_ring.specs.declared.act.DriverAct.{DriverAct}
 use Rattle.vd_ring.specs.declared.act.DriverAct.TheVariants as driver_act
 use Rattle.vd_ring.specs.declared.driver.DriverDone.{DriverDone}
 use Rattle.vd_ring.specs.declared.driver.DriverView.{DriverView}
 use Rattle.vd_ring.specs.declared.frame.Frame.{Frame}
-use Rattle.vd_layout.specs.Begun.{DriverOp, DriverPublished, DriverGoesOn, MayWake}
+use Rattle.vd_layout.specs.Begun.{DriverOp, DriverPublished, DriverGoesOn, MayWake, IsDriverOp}
 use Rattle.vd_layout.specs.Driver.{DriverModel, DriverSays, IsDriverStep, IsLawfulDriver}
 use Rattle.vd_layout.specs.Run.{Made, IsRun, IsToldAt}
 
@@ -34,6 +36,8 @@ pub record IsDriverFinish {P E : Type 0} (port : PortModel P) (m : DriverModel E
   pub idle : m.begun e' ≡ DriverOp.idle
   pub told : answer ≢ driver_act.Moved
   pub says : DriverSays answer (m.begun e) DriverOp.idle v.frame v.done view.done
+  -- only an arming arms
+  pub unarmed : m.begun e ≢ DriverOp.arm → v.armed ≡ None → view.armed ≡ None
   -- the access by which it was told
   pub at : IsToldAt port m.side m.act (λ u. u.done ≡ v.done) p v answer
 
@@ -46,10 +50,11 @@ pub record DriverGoing {P E : Type 0} (port : PortModel P) (m : DriverModel E) (
   pub run : IsRun port m.side made p v q view
   pub stands : m.stands e view
   pub framed : view.frame ≡ v.frame
+  pub unarmed : b ≢ DriverOp.arm → v.armed ≡ None → view.armed ≡ None
   pub phase : ((answer ≡ driver_act.Moved) × (m.begun e ≡ b) × (view.done ≡ v.done)) ⊎ ((answer ≢ driver_act.Moved) × DriverPublished (m.begun e) × DriverSays answer b DriverOp.idle v.frame v.done view.done × IsToldAt port m.side m.act (λ u. u.done ≡ v.done) p v answer)
 
 pub driver_starts : {P E : Type 0} (port : PortModel P) (m : DriverModel E) (p : P) (v : DriverView) (e : E) → m.stands e v → DriverGoing port m (m.begun e) p v p e driver_act.Moved
-driver_starts port m p v e stands = record { view = v; made = []; run = (refl, refl); stands = stands; framed = refl; phase = inl (refl, refl, refl) }
+driver_starts port m p v e stands = record { view = v; made = []; run = (refl, refl); stands = stands; framed = refl; unarmed = λ other none. none; phase = inl (refl, refl, refl) }
 
 -- what one step's answer says, where nothing was told before it
 said : (x : DriverAct) (b b' : DriverOp) (f : Frame) (o o' : List DriverDone) → IsDriverWork b → DriverSays x b b' f o o'
@@ -62,7 +67,7 @@ said driver_act.Moved DriverOp.disarm b' f o o' w s = inl (refl, s.0, s.1)
 said driver_act.Moved DriverOp.idle b' f o o' w s = absurd w
 said driver_act.Moved DriverOp.signal b' f o o' w s = absurd w
 said driver_act.Nothing b b' f o o' w s = inr (λ e. cc, inl s.1, (s.0, refl, s.2))
-said (driver_act.Offered k) b b' f o o' w s = inr (λ e. cc, s.2, (s.0, s.1, inl refl, s.3, s.4))
+said (driver_act.Offered k) b b' f o o' w s = inr (λ e. cc, s.2, (s.0, s.1, inl refl, s.3, s.4, s.5))
 said (driver_act.Collected k n h) b b' f o o' w s = inr (λ e. cc, inl s.2, (s.0, s.1, refl, s.3, s.4, s.5))
 said driver_act.Armed b b' f o o' w s = inr (λ e. cc, inl s.1, (s.0, refl, s.2))
 said driver_act.Awake b b' f o o' w s = inr (λ e. cc, inl s.1, (s.0, refl, s.2))
@@ -87,6 +92,15 @@ told_first x driver_act.Armed is ne = refl
 told_first x driver_act.Awake is ne = refl
 told_first x driver_act.Asleep is ne = refl
 
+not_arm : (x : DriverOp) (o : Op) → IsDriverOp x o → x ≢ DriverOp.arm → o ≢ Arm
+not_arm DriverOp.idle o is other = absurd is
+not_arm (DriverOp.offer c) o is other = λ e. cc (is, e)
+not_arm DriverOp.collect o is other = λ e. cc (is, e)
+not_arm DriverOp.arm o is other = absurd (other refl)
+not_arm DriverOp.hear o is other = λ e. cc (is, e)
+not_arm DriverOp.disarm o is other = λ e. cc (is, e)
+not_arm DriverOp.signal o is other = λ e. cc (is, e)
+
 pub driver_goes : {P E : Type 0} (port : PortModel P) (m : DriverModel E) (law : IsLawfulDriver m) (b : DriverOp) (p q q' : P) (v : DriverView) (e e' : E) (answer x : DriverAct) → IsDriverWork b → (g : DriverGoing port m b p v q e answer) → (m.begun e ≡ DriverOp.idle → ⊥)
     → IsDriverStep port m q q' g.view e e' x → DriverGoing port m b p v q' e' (driver_told answer x)
 driver_goes {P} {E} port m law b p q q' v e e' answer x work g busy s =
@@ -98,6 +112,7 @@ driver_goes {P} {E} port m law b p q q' v e e' answer x work g busy s =
       run = (q, w, g.run, record { was_next = s.was_next; moved = s.moved; is_after = refl });
       stands = s.now_stands;
       framed = law.framed w s.op s.access s.got ∙ g.framed;
+      unarmed = λ other none. law.stays_unarmed w s.op s.access s.got (not_arm (m.begun e) s.op s.of_it (goes_unarmed other)) (g.unarmed other none);
       phase = elim g.phase [
         | inl a ↦ elim (said x b (m.begun e') v.frame v.done u.done work (at a.1 a.2)) [
           | inl t ↦ inl (ap (driver_told answer) t.0 ∙ a.0, t.1, t.2)
@@ -126,10 +141,13 @@ driver_goes {P} {E} port m law b p q q' v e e' answer x work g busy s =
     which (inl is) = absurd (busy is)
     which (inr is) = is
 
+    goes_unarmed : b ≢ DriverOp.arm → m.begun e ≢ DriverOp.arm
+    goes_unarmed other is = elim g.phase [ inl a ↦ other (sym a.1 ∙ is) | inr a ↦ absurd (cc (which a.1, is)) ]
+
 pub driver_ends : {P E : Type 0} (port : PortModel P) (m : DriverModel E) (p q : P) (v : DriverView) (e e' : E) (answer : DriverAct) → IsDriverWork (m.begun e) → DriverGoing port m (m.begun e) p v q e' answer → m.begun e' ≡ DriverOp.idle → IsDriverFinish port m p q v e e' answer
 driver_ends port m p q v e e' answer work g idle = elim g.phase [
   | inl a ↦ absurd (no (m.begun e) work (sym a.1 ∙ idle))
-  | inr a ↦ record { view = g.view; made = g.made; run = g.run; now_stands = g.stands; idle = idle; told = a.0; says = a.2; at = a.3 }
+  | inr a ↦ record { view = g.view; made = g.made; run = g.run; now_stands = g.stands; idle = idle; told = a.0; says = a.2; unarmed = g.unarmed; at = a.3 }
 ]
   where
     no : (b : DriverOp) → IsDriverWork b → b ≡ DriverOp.idle → ⊥

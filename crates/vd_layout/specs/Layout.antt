@@ -1,5 +1,5 @@
 -- What a layout of a ring is, as one record, and its laws.
-use Rattle.std.specs.Prelude.{◌≡◌, ℕ, ◌+◌, ◌<◌, ◌≤◌, Bool, true, false, List, [], ◌∷◌, length, replicate, None}
+use Rattle.std.specs.Prelude.{◌≡◌, ℕ, ◌+◌, ◌<◌, ◌≤◌, Bool, true, false, List, [], ◌∷◌, length, replicate}
 use Rattle.vd_model.specs.declared.chain.Piece.{Piece}
 use Rattle.vd_model.specs.declared.features.Features.{Features}
 use Rattle.vd_words.specs.declared.access.Access.{Access}
@@ -88,6 +88,8 @@ pub record IsLawfulLayout {D E : Type 0} (d : DriverModel D) (e : DeviceModel E)
   pub wide : (ws : List ℕ) (v : DriverView) (w : DeviceView) → l.ring ws v w → (length ws ≡ l.width v.frame) × (w.frame ≡ v.frame)
   pub frames : (ws : List ℕ) (v : DriverView) (w : DeviceView) → l.ring ws v w → l.lawful_frame v.frame
   pub framed : (size : ℕ) (f : Features) (control : Bool) (g : Frame) → CanMake l size f → IsMadeWith l size f control g → l.lawful_frame g
+  -- a ring has a word at least
+  pub some_word : (g : Frame) → l.lawful_frame g → 0 < l.width g
   -- the word of an access that is next is one of the ring's, by the view alone
   pub driver_low : (v : DriverView) (op : Op) (a : Access) → l.lawful_frame v.frame → d.side.next v op a → place_of a < l.width v.frame
   pub device_low : (w : DeviceView) (op : Op) (a : Access) → l.lawful_frame w.frame → e.side.next w op a → place_of a < l.width w.frame

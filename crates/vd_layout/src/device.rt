@@ -22,7 +22,7 @@ pub struct BadBase {
 
 /// The device's end of a ring. It is idle, or in the middle of one operation. A `begin_` call starts an operation and
 /// makes no access; each `step` makes one.
-pub trait DeviceEnd: Send + Drop {
+pub trait DeviceEnd: Drop {
     ghost device: { DeviceModel Self };
 
     /// How many places the ring has.

@@ -12,7 +12,7 @@ use vd_words::Port;
 
 /// The driver's end of a ring. It is idle, or in the middle of one operation. A `begin_` call starts an operation and
 /// makes no access; each `step` makes one.
-pub trait DriverEnd: Send + Drop {
+pub trait DriverEnd: Drop {
     ghost driver: { DriverModel Self };
 
     /// How many places the ring has.

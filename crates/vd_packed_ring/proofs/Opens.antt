@@ -40,6 +40,7 @@ opens f l b =
         some = omega arith;
         as_many = refl;
         heads = λ k a. absurd (omega arith);
+        ever = tt;
         given = λ k. sym (one_above k 0 (omega arith));
         count = refl;
         entries = tt;

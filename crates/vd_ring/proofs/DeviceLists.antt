@@ -82,6 +82,7 @@ lists_taken f o s h l below is =
         | inl b ↦ get_or_append_left (heads s) (h ∷ []) 0 k (omega (arith, l.as_many)) ∙ l.heads k b
         | inr b ↦ (let e : t ≡ k = omega arith in subst (λ j. slice_index (heads s ++ h ∷ []) j ≡ head f o j) e (get_or_push (heads s) h 0 t l.as_many ∙ is))
       ];
+      ever = (below, refl, is, l.ever);
       given = λ k. omega (arith, l.given k, occurs_push k (running s) t, one_more k t, ap (λ n. one (nat_lt k n)) longer);
       count = omega (arith, l.count, length_push (running s) t);
       entries = l.entries;
@@ -125,6 +126,7 @@ lists_given f o s u l runs is =
       some = l.some;
       as_many = l.as_many;
       heads = l.heads;
+      ever = l.ever;
       given = λ k. omega (arith, l.given k, occurs_without k u.number (running s) runs, numbers_push (gives s) u k);
       count = omega (arith, l.count, length_without u.number (running s) runs);
       entries = (is, l.entries);
@@ -151,6 +153,7 @@ lists_rested f o s l is =
       some = omega (arith, l.some);
       as_many = length-take-le g (heads s) (omega (arith, l.as_many)) ∙ sym len;
       heads = λ k a. get_or-take g (heads s) k 0 (omega arith) ∙ l.heads k (omega arith);
+      ever = l.ever;
       given = λ k. elim (cases_lt k g) [
         | inl h ↦ omega (arith, is k h, one_below k g h, ap (λ n. one (nat_lt k n)) len)
         | inr h ↦ omega (arith, occurs_rest g k (numbers (gives s)) h (λ j b. omega (arith, is j b)), length-map (gives s) (λ (u : Used). u.number), one_above k g h, ap (λ n. one (nat_lt k n)) len)
@@ -166,10 +169,10 @@ lists_rested f o s l is =
 -- ---- what the control accesses leave
 
 pub lists_commanded : (f : Frame) (o : List DriverDone) (s : List DeviceDone) (k i x : ℕ) → Lists f o s → Lists f o (LoadCommand k i x ∷ s)
-lists_commanded f o s k i x l = record { taken = l.taken; some = l.some; as_many = l.as_many; heads = l.heads; given = l.given; count = l.count; entries = l.entries; collected = l.collected; fewer = l.fewer; cut = l.cut; in_order = l.in_order }
+lists_commanded f o s k i x l = record { taken = l.taken; some = l.some; as_many = l.as_many; heads = l.heads; ever = l.ever; given = l.given; count = l.count; entries = l.entries; collected = l.collected; fewer = l.fewer; cut = l.cut; in_order = l.in_order }
 
 pub lists_acked : (f : Frame) (o : List DriverDone) (s : List DeviceDone) (h x : ℕ) → Lists f o s → Lists f o (StoreAck h x ∷ s)
-lists_acked f o s h x l = record { taken = l.taken; some = l.some; as_many = l.as_many; heads = l.heads; given = l.given; count = l.count; entries = l.entries; collected = l.collected; fewer = l.fewer; cut = l.cut; in_order = l.in_order }
+lists_acked f o s h x l = record { taken = l.taken; some = l.some; as_many = l.as_many; heads = l.heads; ever = l.ever; given = l.given; count = l.count; entries = l.entries; collected = l.collected; fewer = l.fewer; cut = l.cut; in_order = l.in_order }
 
 -- ---- the last entry
 

@@ -11,9 +11,10 @@ use Rattle.vd_ring.specs.declared.driver.DriverDone.TheVariants.{Offer, Collect}
 use Rattle.vd_ring.specs.declared.device.DeviceDone.{DeviceDone}
 use Rattle.vd_ring.specs.declared.device.DeviceDone.TheVariants.{Take, Give, Rest, StoreAck, LoadCommand}
 use Rattle.vd_ring.specs.Batches.{IsEntry, MayReturn}
-use Rattle.vd_ring.specs.History.{last_used, is_batching, offers, collects, takes, gives, open_at, entry, numbers, occurs, used_at, first, batch, between, upto, chain}
+use Rattle.vd_ring.specs.History.{last_used, is_batching, offers, collects, takes, gives, open_at, entry, numbers, occurs, used_at, first, batch, between, upto, chain, held, free}
 use Rattle.vd_ring.specs.Places.{Places}
-use Rattle.vd_ring.specs.Lists.{Lists, AreGives, entry_at, Collects}
+use Rattle.vd_ring.specs.Frames.{lent}
+use Rattle.vd_ring.specs.Lists.{Lists, AreGives, AreTakes, entry_at, Collects}
 use Rattle.vd_ring.proofs.Counts.{one_same, one_below, one_small, one_above, occurs_before, occurs_parts}
 use Rattle.vd_ring.proofs.HeldPlaces.{few_open, places_before}
 
@@ -172,11 +173,25 @@ collects_next f o s u o2 l more is did = record {
   collected = did;
 }
 
+takes_offered : (cs : List (List Piece)) (ps : List (List ℕ)) (c : List Piece) (p : List ℕ) (s : List DeviceDone) → length ps ≡ length cs → AreTakes cs ps s → AreTakes (cs ++ c ∷ []) (ps ++ p ∷ []) s
+takes_offered cs ps c p [] n a = tt
+takes_offered cs ps c p (Take d h ∷ s) n a = (
+  omega (arith, length_push cs c, a.0),
+  a.1 ∙ sym (get_or_append_left cs (c ∷ []) [] (length (takes s)) a.0),
+  a.2 ∙ ap first (sym (get_or_append_left ps (p ∷ []) [] (length (takes s)) (omega (arith, a.0)))),
+  takes_offered cs ps c p s n a.3,
+)
+takes_offered cs ps c p (Give us ∷ s) n a = takes_offered cs ps c p s n a
+takes_offered cs ps c p (Rest ∷ s) n a = takes_offered cs ps c p s n a
+takes_offered cs ps c p (StoreAck h x ∷ s) n a = takes_offered cs ps c p s n a
+takes_offered cs ps c p (LoadCommand k i x ∷ s) n a = takes_offered cs ps c p s n a
+
 pub lists_offered : (f : Frame) (o : List DriverDone) (c : List Piece) (s : List DeviceDone) → Places f o → Lists f o s → Lists f (Offer c ∷ o) s
 lists_offered f o c s pl l = record {
   taken = l.taken ∙ sym (take-append-le (length (takes s)) (offers o) (c ∷ []) l.some);
   some = omega (arith, length_push (offers o) c, l.some);
   as_many = l.as_many;
+  ever = takes_offered (offers o) ((held f o).1) c (take (lent f c) (free f o)) s pl.listed l.ever;
   heads = λ k below. l.heads k below ∙ ap first (sym (places_before f o c k pl (omega (arith, l.some))));
   given = l.given;
   count = l.count;
@@ -196,6 +211,7 @@ lists_collected f o s l below =
       some = l.some;
       as_many = l.as_many;
       heads = l.heads;
+      ever = l.ever;
       given = l.given;
       count = l.count;
       entries = l.entries;

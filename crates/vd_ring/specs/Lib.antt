@@ -13,3 +13,4 @@ pub mod DriverSteps
 pub mod DeviceSteps
 pub mod Signals
 pub mod Sleep
+pub mod Looks

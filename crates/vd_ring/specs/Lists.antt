@@ -1,5 +1,6 @@
 -- What the two sides' acts have in common: what was taken of what was offered, and collected of what was given.
 use Rattle.std.specs.Prelude.{◌≡◌, ℕ, ◌+◌, ◌<◌, ◌≤◌, ◌==◌, true, List, [], ◌∷◌, length, take, Option, Some, None, if◌then◌else◌, nat_lt, drop}
+use Rattle.vd_model.specs.declared.chain.Piece.{Piece}
 use Rattle.vd_ring.specs.declared.frame.Frame.{Frame}
 use Rattle.vd_ring.specs.declared.frame.Used.{Used}
 use Rattle.vd_ring.specs.declared.driver.DriverDone.{DriverDone}
@@ -7,7 +8,7 @@ use Rattle.vd_ring.specs.declared.driver.DriverDone.TheVariants.{Collect}
 use Rattle.vd_ring.specs.declared.device.DeviceDone.{DeviceDone}
 use Rattle.vd_ring.specs.declared.device.DeviceDone.TheVariants.{Take, Give, Rest, StoreAck, LoadCommand}
 use Rattle.vd_ring.specs.Batches.{IsEntry}
-use Rattle.vd_ring.specs.History.{offers, collects, takes, gives, heads, taken_head, running, head, numbers, occurs, used_at, last_used, chain_at, IsWhole, chain, entry}
+use Rattle.vd_ring.specs.History.{offers, collects, takes, gives, heads, taken_head, running, head, numbers, occurs, used_at, last_used, chain_at, IsWhole, chain, entry, first, held, places_at}
 
 -- the used entry that begins at entry number j: the last pair of the give that begins there
 abbrev pub entry_at : List DeviceDone → ℕ → Option Used
@@ -31,12 +32,23 @@ AreGives f (Rest ∷ s) = AreGives f s
 AreGives f (StoreAck h x ∷ s) = AreGives f s
 AreGives f (LoadCommand k i x ∷ s) = AreGives f s
 
+-- each take ever made, one before a rest too, was of the chain offered with the next number, at the head that the driver gave it; the
+-- chains offered, and the places that each borrowed, in order
+abbrev pub AreTakes : List (List Piece) → List (List ℕ) → List DeviceDone → Type 0
+AreTakes cs ps [] = Unit {0}
+AreTakes cs ps (Take c h ∷ s) = (length (takes s) < length cs) × (c ≡ chain_at cs (length (takes s))) × (h ≡ first (places_at ps (length (takes s)))) × AreTakes cs ps s
+AreTakes cs ps (Give us ∷ s) = AreTakes cs ps s
+AreTakes cs ps (Rest ∷ s) = AreTakes cs ps s
+AreTakes cs ps (StoreAck h x ∷ s) = AreTakes cs ps s
+AreTakes cs ps (LoadCommand k i x ∷ s) = AreTakes cs ps s
+
 pub record Lists (f : Frame) (o : List DriverDone) (s : List DeviceDone) : Type 0 where
   -- the chains taken are the first ones offered, at the heads that the driver gave them
   pub taken : takes s ≡ take (length (takes s)) (offers o)
   pub some : length (takes s) ≤ length (offers o)
   pub as_many : length (heads s) ≡ length (takes s)
   pub heads : (k : ℕ) → k < length (takes s) → taken_head s k ≡ head f o k
+  pub ever : AreTakes (offers o) ((held f o).1) s
   -- each chain taken runs or is given, and only once
   pub given : (k : ℕ) → occurs k (running s) + occurs k (numbers (gives s)) ≡ (if nat_lt k (length (takes s)) then 1 else 0)
   pub count : length (takes s) ≡ length (gives s) + length (running s)

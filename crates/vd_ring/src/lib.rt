@@ -11,4 +11,4 @@ pub use act::{DeviceAct, DriverAct};
 pub use device::{DeviceDone, DeviceNow, DeviceView};
 pub use driver::{DriverDone, DriverNow, DriverView};
 pub use frame::{Frame, Put, Used};
-pub use laws::account_law;
+pub use laws::{account_law, quiet_law};

@@ -24,7 +24,7 @@ loop-end-preserved g c = λ v stands own.
     let busy : g.E.DeviceEnd.device.begun c.loop-end.end ≡ DeviceOp.idle → ⊥ = search rules in
     let s = c.step.ensures at.view at.stands (own_run g.P.Port.port g.E.DeviceEnd.device.side at.made c.args.port.now c.loop-end.port v at.view own at.run) in
     subst (λ x. DeviceGoing g.P.Port.port g.E.DeviceEnd.device (g.E.DeviceEnd.device.begun c.args.end.now) c.args.port.now v c.step.new.port c.step.new.self x) (sym c.later_device-answer.ensures)
-    (device_goes g.P.Port.port g.E.DeviceEnd.device (g.met.E.DeviceEnd g.world.𝓛 g.world.𝓜 g.world.𝓡 ((λ s x. x), (λ x. x), (λ x. x), λ x. x)).device_lawful (g.E.DeviceEnd.device.begun c.args.end.now) c.args.port.now c.loop-end.port c.step.new.port v c.loop-end.end c.step.new.self c.loop-end.answer c.step.result c.requires.begun at busy s)
+    (device_goes g.P.Port.port g.E.DeviceEnd.device g.met.E.DeviceEnd.device_lawful (g.E.DeviceEnd.device.begun c.args.end.now) c.args.port.now c.loop-end.port c.step.new.port v c.loop-end.end c.step.new.self c.loop-end.answer c.step.result c.requires.begun at busy s)
 
 pub returns : goal.returns
 returns g c = λ v stands own.

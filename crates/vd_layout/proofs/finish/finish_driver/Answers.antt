@@ -24,7 +24,7 @@ loop-end-preserved g c = λ v stands own.
     let busy : g.E.DriverEnd.driver.begun c.loop-end.end ≡ DriverOp.idle → ⊥ = search rules in
     let s = c.step.ensures at.view at.stands (own_run g.P.Port.port g.E.DriverEnd.driver.side at.made c.args.port.now c.loop-end.port v at.view own at.run) in
     subst (λ x. DriverGoing g.P.Port.port g.E.DriverEnd.driver (g.E.DriverEnd.driver.begun c.args.end.now) c.args.port.now v c.step.new.port c.step.new.self x) (sym c.later_driver-answer.ensures)
-    (driver_goes g.P.Port.port g.E.DriverEnd.driver (g.met.E.DriverEnd g.world.𝓛 g.world.𝓜 g.world.𝓡 ((λ s x. x), (λ x. x), (λ x. x), λ x. x)).driver_lawful (g.E.DriverEnd.driver.begun c.args.end.now) c.args.port.now c.loop-end.port c.step.new.port v c.loop-end.end c.step.new.self c.loop-end.answer c.step.result c.requires.begun at busy s)
+    (driver_goes g.P.Port.port g.E.DriverEnd.driver g.met.E.DriverEnd.driver_lawful (g.E.DriverEnd.driver.begun c.args.end.now) c.args.port.now c.loop-end.port c.step.new.port v c.loop-end.end c.step.new.self c.loop-end.answer c.step.result c.requires.begun at busy s)
 
 pub returns : goal.returns
 returns g c = λ v stands own.

@@ -2,7 +2,7 @@ use Rattle.vd_layout.specs.Both.{device_owns, device_finished, device_did}
 use Rattle.vd_layout.proofs.plain.finish_device_beside.Goals as goal
 
 pub finish_device-requires-clause-own : goal.finish_device-requires-clause-own
-finish_device-requires-clause-own g c κs within =
+finish_device-requires-clause-own g c =
     let h = c.requires.on in
     (h.3.device_view, h.3.serves, device_owns g.P.Port.port g.met.P.Port.lawful g.L.Driver.DriverEnd.driver g.L.Device.DeviceEnd.device g.L.Layout.layout g.met.L.Layout.lawful h.0 c.args.port.now h.1 c.args.driver.now c.args.device.now h.2 h.3)
 
