@@ -28,6 +28,7 @@ use Rattle.vd_packed.specs.declared.driver.DriverStep.TheVariants as step
 use Rattle.vd_packed.specs.declared.spot.Spot.{Spot}
 use Rattle.vd_packed.specs.DriverEnd.{DriverStands, DriverStepStands, DriverStepArmed, driver_owes, driver_begun, driver_left, not_armed, is_armed, packed_driver, packed_words}
 use Rattle.vd_packed.specs.DriverAnswers.{stays_unarmed, driver_looks_laws}
+use Rattle.vd_packed_ring.proofs.DriverStaying.{driver_stays}
 use Rattle.vd_packed.specs.Places.{same_at}
 
 pub room_from : (e : PackedDriver) (v : DriverView) (c : List Piece) → DriverStands e v → length c ≤ e.space → HasRoom v.frame v.done c
@@ -183,6 +184,7 @@ driver_laws = record {
   framed = λ v o a r. driver_frame v o a r;
   stays_unarmed = λ v o a r other off. stays_unarmed v o a r other off;
   looks = driver_looks_laws;
+  stays = driver_stays;
   places = λ e v st. st.holds.held;
   controls = driver_controls;
 }
