@@ -11,7 +11,7 @@ use Rattle.vd_packed.specs.Spots.{forward}
 use Rattle.vd_packed.proofs.device.PackedDevice.loaded_address.Goals as goal
 
 -- the end after a chain was taken in: where its descriptors end, its id, and how many they are
-taken : PackedDevice → PackedDevice → Spot → ℕ → ℕ → PackedDevice
+abbrev taken : PackedDevice → PackedDevice → Spot → ℕ → ℕ → PackedDevice
 taken e e2 spot id n = record e { taken = e.taken + 1; next = spot; next_position = e.next_position + n; running = with_item e.running id (Some e.taken); counts = with_item e.counts id n; guesses = e2.guesses; pieces = e2.pieces; at = spot; doing = step.Idle }
 
 pub returns-clause-whole : goal.returns-clause-whole
