@@ -2,7 +2,7 @@
 ghost use Rattle.std.specs.Prelude.{◌≡◌, ◌<◌, ◌≤◌, ◌+◌, ◌++◌, ◌∷◌, [], ℕ, true, false, length};
 ghost use Rattle.vd_packed_ring.specs.PackedWords.{goes_on, id_of};
 ghost use Rattle.vd_packed_ring.specs.PackedChains.{piece_of};
-ghost use Rattle.vd_packed.specs.Loaded.{HasSeen, HasSecond, HasMore, HasTaken, MayTake};
+ghost use Rattle.vd_packed.specs.Loaded.{HasSeen, HasMore, HasTaken, MayTake};
 ghost use Rattle.vd_packed.specs.Seconds.{shows_available};
 ghost use Rattle.vd_packed.specs.Telling.{TakesNone};
 
