@@ -6,6 +6,7 @@ mod bench;
 use bench::model_bench;
 use std::alloc::{AllocError, Global};
 use std::process::ExitCode;
+use std::io::{BufWriter, Write};
 use std::{env, io};
 use vd_machine::MachineFault;
 use vd_packed::Packed;
@@ -88,15 +89,23 @@ fn run(rt: &HostRuntime, alloc: Global) -> Result<Status, AllocError> {
     let mut split = model_bench::<Split>(alloc)?;
     let mut packed = model_bench::<Packed>(alloc)?;
     let mut source = ReadSource::new(rt.stdin());
-    let mut sink = WriteSink::new(rt.stdout());
-    Ok(vdpa(
+    let Ok(mut out) = BufWriter::with_capacity(alloc, 65536, rt.stdout()) else {
+        return Err(AllocError);
+    };
+    let mut sink = WriteSink::new(&mut out);
+    let status = vdpa(
         alloc,
         &words,
         &mut source,
         &mut sink,
         &mut split,
         &mut packed,
-    ))
+    );
+    drop(sink);
+    Ok(match out.flush() {
+        Ok(()) => status,
+        Err(_) => Status::WriteFault,
+    })
 }
 
 fn main(rt: HostRuntime) -> ExitCode {

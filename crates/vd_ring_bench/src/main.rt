@@ -43,10 +43,10 @@ fn chain(k: u32, most: u32) -> Chain {
 }
 
 /// Offers, takes, gives and collects so many chains.
-fn round<L: Layout>(rig: &mut Rig<L>, window: u32, most: u32) -> u64 {
+fn round<L: Layout>(rig: &mut Rig<L>, window: u32, chains: &[Chain; 3]) -> u64 {
     let mut sum = 0u64;
     for k in 0..window {
-        let _ = rig.offer(&chain(k, most));
+        let _ = rig.offer(&chains[(k % 3) as usize]);
     }
     for _ in 0..window {
         if let Some(DeviceAct::Taken(number, chain)) = rig.take() {
@@ -64,8 +64,9 @@ fn round<L: Layout>(rig: &mut Rig<L>, window: u32, most: u32) -> u64 {
 
 fn run<L: Layout>(rig: &mut Rig<L>, rounds: u32, window: u32, most: u32) -> u64 {
     let mut sum = 0u64;
+    let chains = [chain(0, most), chain(1, most), chain(2, most)];
     for _ in 0..rounds {
-        sum = sum.wrapping_add(round(rig, window, most));
+        sum = sum.wrapping_add(round(rig, window, &chains));
     }
     sum
 }
