@@ -14,3 +14,5 @@ pub mod Rig
 pub mod Tracked
 pub mod DriverBells
 pub mod DeviceBells
+pub mod Telling
+pub mod Kept

@@ -1,7 +1,8 @@
 //! The device's end.
-use arrayvec::ArrayVec;
-use vd_model::{Features, Piece};
+use crate::pieces::Pieces;
+use vd_model::Features;
 
+mod advance;
 mod end;
 mod give;
 mod make;
@@ -60,7 +61,20 @@ pub struct SplitDevice {
     pub(crate) heard: u64,
     pub(crate) bells: u64,
     // what a take has loaded so far
-    pub(crate) pieces: ArrayVec<Piece, 16>,
+    pub(crate) pieces: Pieces,
     pub(crate) addr: u64,
     pub(crate) doing: DeviceStep,
+}
+
+/// What a step did. The chain of a take is in the pieces that it has loaded.
+#[derive(Copy, Clone)]
+pub enum Told {
+    Moved,
+    Taken(u32),
+    Given(u32),
+    Nothing,
+    Armed,
+    Awake,
+    Asleep,
+    Rested,
 }

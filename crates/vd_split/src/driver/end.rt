@@ -1,15 +1,13 @@
 //! What the driver's end offers its holder.
-ghost use Rattle.std.specs.Prelude.{◌≡◌, ◌≤◌, length};
 ghost use Rattle.vd_split.specs.DriverEnd.{split_driver};
 ghost use Rattle.vd_split.specs.DriverLaws.{driver_laws};
 
 use super::{DriverStep, SplitDriver};
 use crate::descriptors::place_at;
-use arrayvec::ArrayVec;
 use vd_layout::DriverEnd;
-use vd_model::{Chain, Features, Piece};
+use vd_model::{Chain, Features};
 use vd_ring::DriverAct;
-use vd_words::{Op, Port};
+use vd_words::Port;
 
 impl DriverEnd for SplitDriver {
     ghost driver = { split_driver };
@@ -49,7 +47,7 @@ impl DriverEnd for SplitDriver {
     }
 
     fn begin_offer(&mut self, c: &Chain) {
-        copy_pieces(&mut self.pieces, c.pieces());
+        self.pieces.fill(c.pieces());
         self.doing = DriverStep::Describe(0);
     }
 
@@ -69,36 +67,8 @@ impl DriverEnd for SplitDriver {
         self.doing = DriverStep::Disarm;
     }
 
-    #[inline]
+    #[inline(always)]
     fn step<P: Port>(&mut self, port: &mut P) -> DriverAct {
-        match self.doing {
-            DriverStep::Idle => unreachable!(),
-            DriverStep::Describe(at) => self.describe(port, at),
-            DriverStep::Enter => self.enter(port),
-            DriverStep::Publish => self.publish(port),
-            DriverStep::Look => self.look(port),
-            DriverStep::Find(word) => self.find(port, word),
-            DriverStep::Finish(word, found) => self.finish(port, word, found),
-            DriverStep::Check(old, new) => self.check(port, old, new),
-            DriverStep::Ring(old, new) => self.ring(port, old, new),
-            DriverStep::Arm => self.arm(port),
-            DriverStep::LookAgain => self.look_again(port),
-            DriverStep::Hear => self.hear(port),
-            DriverStep::WakeArming => self.wake(port, Op::Arm),
-            DriverStep::WakeHearing => self.wake(port, Op::Hear),
-            DriverStep::Disarm => self.disarm(port),
-        }
-    }
-}
-
-/// Puts these pieces in place of those that are there.
-fn copy_pieces(to: &mut ArrayVec<Piece, 16>, from: &[Piece])
-    requires { length from.now ≤ 16 }
-    ensures { to.new.items ≡ from.now }
-{
-    to.clear();
-    match to.try_extend_from_slice(from) {
-        Ok(()) => {}
-        Err(_) => unreachable!(),
+        self.advance(port)
     }
 }
