@@ -29,6 +29,8 @@ pub mod DeviceAnswers
 pub mod Seen
 pub mod Signalling
 pub mod Sleeping
+pub mod DriverLooking
+pub mod DeviceLooking
 pub mod TableReads
 mod Examples
 pub mod ControlFacts
