@@ -5,6 +5,7 @@ mod descriptors;
 mod device;
 mod driver;
 mod layout;
+mod tables;
 
 pub use device::SplitDevice;
 pub use driver::SplitDriver;

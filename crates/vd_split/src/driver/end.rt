@@ -2,9 +2,11 @@
 ghost use Rattle.std.specs.Prelude.{◌≡◌, ◌≤◌, length};
 ghost use Rattle.vd_split.specs.DriverEnd.{split_driver};
 ghost use Rattle.vd_split.specs.DriverLaws.{driver_laws};
+ghost use Rattle.vd_split.specs.Parts.{first_store};
 
 use super::{DriverStep, SplitDriver};
 use crate::descriptors::place_at;
+use crate::tables::needed;
 use arrayvec::ArrayVec;
 use vd_layout::DriverEnd;
 use vd_model::{Chain, Features, Piece};
@@ -41,7 +43,7 @@ impl DriverEnd for SplitDriver {
     }
 
     fn room(&self, c: &Chain) -> bool {
-        c.pieces().len() <= self.free.len()
+        needed(self.features.indirect, c.pieces().len()) <= self.free.len()
     }
 
     fn next_head(&self) -> u32 {
@@ -50,7 +52,7 @@ impl DriverEnd for SplitDriver {
 
     fn begin_offer(&mut self, c: &Chain) {
         copy_pieces(&mut self.pieces, c.pieces());
-        self.doing = DriverStep::Describe(0);
+        self.doing = first_store(self.features.indirect, c.pieces().len());
     }
 
     fn begin_collect(&mut self) {
@@ -84,5 +86,17 @@ fn copy_pieces(to: &mut ArrayVec<Piece, 16>, from: &[Piece])
     match to.try_extend_from_slice(from) {
         Ok(()) => {}
         Err(_) => unreachable!(),
+    }
+}
+
+/// The first step of the offer of a chain of so many pieces: two and more stand in a table where the ring has them.
+#[inline]
+fn first_store(indirect: bool, pieces: usize) -> DriverStep
+    ensures { result ≡ first_store indirect pieces }
+{
+    if indirect && pieces > 1 {
+        DriverStep::Table(0)
+    } else {
+        DriverStep::Describe(0)
     }
 }
