@@ -5,6 +5,8 @@ mod descriptors;
 mod device;
 mod driver;
 mod layout;
+mod pieces;
+mod places;
 mod tables;
 
 pub use device::SplitDevice;

@@ -29,7 +29,7 @@ push-requires g c =
     let p : ℕ = c.table_place.result + 2 * c.len-loaded.result + 1 in let x : ℕ = c.access-second.result in
     let next = table_second_next e v r h m p c.requires.now c.requires.own.1 (place_is c.table_place.result (table_place e.size h) c.len-loaded.result (length e.pieces.items) c.table_place.ensures c.len-loaded.ensures.value) in
     let l = loaded_table e v r h m p x c.requires.now c.requires.own.1 (c.requires.own.2.told op.Take (Load p) next x c.access-second.new.self c.access-second.ensures) in
-    (omega arith, table_few e v r h m x l)
+    table_few e v r h m x l
 
 pub returns-then-loaded-count-clause-did : goal.returns-then-loaded-count-clause-did
 returns-then-loaded-count-clause-did g c = λ v st own.
@@ -38,7 +38,7 @@ returns-then-loaded-count-clause-did g c = λ v st own.
     let next = table_second_next e v r h m p c.requires.now st (place_is c.table_place.result (table_place e.size h) c.len-loaded.result (length e.pieces.items) c.table_place.ensures c.len-loaded.ensures.value) in
     let l = loaded_table e v r h m p x c.requires.now st (own.told op.Take (Load p) next x c.access-second.new.self c.access-second.ensures) in
     let go = table_more e (record e { pieces = c.push.new.self }) v r h m p x l st next (λ z. c.if-loaded-count.true (ap (λ k. k + 1) c.len-loaded.ensures.value ∙ z))
-    (c.push.ensures.items ∙ ap (λ (q : Piece). e.pieces.items ++ q ∷ []) c.piece_from.ensures) c.requires.now in
+    (c.push.ensures ∙ ap (λ (q : Piece). e.pieces.items ++ q ∷ []) c.piece_from.ensures) c.requires.now in
     made g.P.Port.port c.args.port.now c.access-second.new.self e (record e { pieces = c.push.new.self; doing = step.TableAddress r h m }) v op.Take (Load p) x act.Moved go c.access-second.ensures
 
 pub returns-clause-did : goal.returns-clause-did
@@ -47,7 +47,7 @@ returns-clause-did g c = λ v st own.
     let p : ℕ = c.table_place.result + 2 * c.len-loaded.result + 1 in let x : ℕ = c.access-second.result in
     let next = table_second_next e v r h m p c.requires.now st (place_is c.table_place.result (table_place e.size h) c.len-loaded.result (length e.pieces.items) c.table_place.ensures c.len-loaded.ensures.value) in
     let l = loaded_table e v r h m p x c.requires.now st (own.told op.Take (Load p) next x c.access-second.new.self c.access-second.ensures) in
-    let same = c.push.ensures.items ∙ ap (λ (q : Piece). e.pieces.items ++ q ∷ []) c.piece_from.ensures in
+    let same = c.push.ensures ∙ ap (λ (q : Piece). e.pieces.items ++ q ∷ []) c.piece_from.ensures in
     let e2 : SplitDevice = record e { guesses = c.remember.new.guesses; pieces = c.push.new.self } in
     let go = table_last e e2 v r h m p x c.push.new.self.items l st next (sym (ap (λ k. k + 1) c.len-loaded.ensures.value) ∙ c.if-loaded-count.false) c.requires.now same c.remember.ensures in
     made g.P.Port.port c.args.port.now c.access-second.new.self e
@@ -62,5 +62,5 @@ returns-clause-chain g c = λ k is.
     let p : ℕ = c.table_place.result + 2 * c.len-loaded.result + 1 in let x : ℕ = c.access-second.result in
     let next = table_second_next e v r h m p c.requires.now c.requires.own.1 (place_is c.table_place.result (table_place e.size h) c.len-loaded.result (length e.pieces.items) c.table_place.ensures c.len-loaded.ensures.value) in
     let l = loaded_table e v r h m p x c.requires.now c.requires.own.1 (c.requires.own.2.told op.Take (Load p) next x c.access-second.new.self c.access-second.ensures) in
-    let same = c.push.ensures.items ∙ ap (λ (q : Piece). e.pieces.items ++ q ∷ []) c.piece_from.ensures ∙ tabled_chain e v r h m x l (sym (ap (λ k. k + 1) c.len-loaded.ensures.value) ∙ c.if-loaded-count.false) in
+    let same = c.push.ensures ∙ ap (λ (q : Piece). e.pieces.items ++ q ∷ []) c.piece_from.ensures ∙ tabled_chain e v r h m x l (sym (ap (λ k. k + 1) c.len-loaded.ensures.value) ∙ c.if-loaded-count.false) in
     subst IsChain (sym same) l.told.fits.chain
