@@ -88,7 +88,7 @@ impl SplitDevice {
             return Told::Asleep;
         }
         self.heard = word;
-        self.armed = false; // it was rung
+        self.armed = false;
         if self.features.event_idx {
             self.doing = DeviceStep::Idle;
             return Told::Awake;
@@ -123,8 +123,8 @@ impl SplitDevice {
     {
         let word = set_lane16(self.area[0], 0, 1);
         port.access(op, Access::Store(used_area(self.size), word));
-        self.area[0] = word;
         self.armed = false;
+        self.area[0] = word;
         self.doing = DeviceStep::Idle;
         Told::Awake
     }
@@ -154,8 +154,8 @@ impl SplitDevice {
     {
         let word = set_lane16(self.area[0], 0, 1);
         port.access(Op::Rest, Access::Store(used_area(self.size), word));
-        self.area[0] = word;
         self.armed = false;
+        self.area[0] = word;
         self.doing = DeviceStep::RestLook;
         Told::Moved
     }

@@ -90,7 +90,7 @@ impl SplitDriver {
     }
 
     /// The store of the index, by which the chain is offered. The device's look at it is the first access of its take.
-    #[inline(always)]
+    #[inline(never)]
     pub(super) fn publish<P: Port>(&mut self, port: &mut P) -> DriverAct
         requires now { self.old.doing ≡ DriverStep.Publish }
         requires own { (v : DriverView) × DriverStands self.old v × IsOwn P.port driver_side port.old v }

@@ -91,7 +91,7 @@ impl SplitDriver {
             return DriverAct::Asleep;
         }
         self.heard = word;
-        self.armed = false; // it was rung
+        self.armed = false;
         if self.features.event_idx {
             self.doing = DriverStep::Idle;
             return DriverAct::Awake;
@@ -126,8 +126,8 @@ impl SplitDriver {
     {
         let word = set_lane16(self.area[0], 0, 1);
         port.access(op, Access::Store(2 * self.size, word));
-        self.area[0] = word;
         self.armed = false;
+        self.area[0] = word;
         self.doing = DriverStep::Idle;
         DriverAct::Awake
     }
