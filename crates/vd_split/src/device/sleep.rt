@@ -88,7 +88,7 @@ impl SplitDevice {
             return Told::Asleep;
         }
         self.heard = word;
-        self.armed = false;
+        self.armed = false; // it was rung
         if self.features.event_idx {
             self.doing = DeviceStep::Idle;
             return Told::Awake;
