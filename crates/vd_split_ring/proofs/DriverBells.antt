@@ -1,10 +1,9 @@
 -- The driver's accesses of event words and bells keep the ring invariant.
-use Rattle.std.proofs.Common.{◌≡◌, ◌≢◌, ℕ, ◌+◌, ◌%◌, ◌<◌, ◌≤◌, ◌==◌, Bool, true, false, Option, Some, None, List, [], ◌∷◌, length, if◌then◌else◌, slice_index, slice_set, refl, sym, ap, ◌∙◌, subst, arith, inl, inr, ◌⊎◌}
+use Rattle.std.proofs.Common.{◌≡◌, ◌≢◌, ℕ, ◌+◌, ◌%◌, ◌<◌, ◌≤◌, ◌==◌, Bool, true, false, Option, Some, None, List, length, if◌then◌else◌, slice_index, slice_set, refl, sym, ap, ◌∙◌, subst, arith, inl, inr, ◌⊎◌}
 use Rattle.std.proofs.lemmas.Bool.{eqb-false}
 use Rattle.std.proofs.lemmas.List.{get_or-set_same, get_or-set_other}
 use Rattle.std.proofs.lemmas.Nat.{mod_below}
 use Rattle.vd_bits.specs.Lanes.{lane16}
-use Rattle.vd_words.specs.declared.access.Op.{Op}
 use Rattle.vd_words.specs.declared.access.Op.TheVariants as op
 use Rattle.vd_ring.specs.declared.frame.Frame.{Frame}
 use Rattle.vd_ring.specs.declared.driver.DriverDone.{DriverDone}
@@ -19,13 +18,13 @@ use Rattle.vd_ring.specs.Signals.{Signals}
 use Rattle.vd_ring.specs.Signals as signal
 use Rattle.vd_ring.proofs.ControlSteps.{commands_elsewhere}
 use Rattle.vd_ring.proofs.ListSteps.{given_within}
-use Rattle.vd_split_ring.specs.SplitWords.{IsLawful, width, used_from, kick_at, call_at, command_word, ack_word, lane_at, lane_word, with_lane, entry_lane, event_lane, driver_event_lane, device_event_word, device_event_lane, armed_value, wants, bell_word, shows, shown_from}
-use Rattle.vd_split_ring.specs.SplitDriver.{StoresKick, StoresUsedEvent, StoresNoInterrupt, stores, driver_checks, driver_rings, driver_arms, driver_wakes, driver_looks_again, driver_hears}
-use Rattle.vd_split_ring.specs.SplitRing.{Ring, Words, DriverWords, DriverSignals, DriverDoing, chains_out, chains_in, entries_out, entries_in, DriverArmed, IsRange}
+use Rattle.vd_split_ring.specs.SplitWords.{IsLawful, width, used_from, kick_at, command_word, ack_word, lane_at, lane_word, with_lane, entry_lane, event_lane, driver_event_lane, device_event_word, device_event_lane, armed_value, wants, bell_word, shows, shown_from}
+use Rattle.vd_split_ring.specs.SplitDriver.{StoresKick, StoresUsedEvent, StoresNoInterrupt, driver_checks, driver_rings, driver_arms, driver_looks_again, driver_hears}
+use Rattle.vd_split_ring.specs.SplitRing.{Ring, Words, DriverWords, DriverSignals, DriverDoing, chains_out, chains_in, entries_out, entries_in, DriverArmed, EndsGive}
 use Rattle.vd_split_ring.proofs.Areas.{areas, acks_follow, driver_stores, area_no_descriptor, lane_same, lane_other, lane_past, lane_inside, shows_same, shows_more}
-use Rattle.vd_split_ring.proofs.DriverParts.{open_past, driver_words_past, signals_past}
+use Rattle.vd_split_ring.proofs.DriverParts.{open_past, driver_words_past}
 use Rattle.vd_split_ring.proofs.DriverCollects.{counts_given}
-use Rattle.vd_split_ring.proofs.Bells.{wants_armed, device_event, driver_event_low, device_event_inside}
+use Rattle.vd_split_ring.proofs.Bells.{wants_armed, device_event, device_event_inside}
 
 -- the parts that such an access changes
 record DriverSide (ws : List ℕ) (d : DriverView) (e : DeviceView) : Type 0 where
@@ -38,6 +37,7 @@ record DriverSide (ws : List ℕ) (d : DriverView) (e : DeviceView) : Type 0 whe
   calls : Signals (entries_out e) (entries_in d)
   is_armed : DriverArmed d.doing d.frame d.armed (length (collects d.done)) d.heard
   seen : d.seen ≤ length (gives e.done)
+  cut : EndsGive e.done d.seen
   shown : d.shown ≡ true → length (collects d.done) < d.seen
 
 -- the others stay
@@ -46,7 +46,6 @@ ring_after : (ws us : List ℕ) (d : DriverView) (e : DeviceView) (st : List ℕ
 ring_after ws us d e st now at h b n x r s = record {
   same = r.same;
   lawful = r.lawful;
-  built = r.built;
   words = s.words;
   places = r.places;
   driver_words = s.driver_words;
@@ -63,6 +62,7 @@ ring_after ws us d e st now at h b n x r s = record {
   driver_armed = s.is_armed;
   device_armed = r.device_armed;
   driver_seen = s.seen;
+  driver_cut = s.cut;
   device_seen = r.device_seen;
   driver_shown = s.shown;
   device_shown = r.device_shown;
@@ -155,6 +155,7 @@ checks_at ws d e old new event true r stands is = ring_after ws ws (record d { d
   calls = r.calls;
   is_armed = r.driver_armed.0;
   seen = r.driver_seen;
+  cut = r.driver_cut;
   shown = r.driver_shown;
 }
 checks_at ws d e old new event false r stands is = ring_after ws ws (record d { doing = Checking old new }) e d.stored Idle d.armed d.heard d.bells d.seen d.shown r record {
@@ -168,6 +169,7 @@ checks_at ws d e old new event false r stands is = ring_after ws ws (record d { 
   calls = signal.moves (entries_out e) (entries_in (record d { doing = Checking old new })) (length (collects d.done)) true r.driver_armed.0 r.calls;
   is_armed = tt;
   seen = r.driver_seen;
+  cut = r.driver_cut;
   shown = r.driver_shown;
 }
 
@@ -199,6 +201,7 @@ rings_bell ws d e old new p x r n =
       calls = signal.moves (entries_out e) (entries_in D) (length (collects d.done)) true r.driver_armed r.calls;
       is_armed = tt;
       seen = r.driver_seen;
+      cut = r.driver_cut;
       shown = r.driver_shown;
     }))
 
@@ -233,6 +236,7 @@ arms_at ws d e b r unarmed is =
         calls = signal.arms (entries_out e) (entries_in D) r.calls;
         is_armed = refl;
         seen = r.driver_seen;
+        cut = r.driver_cut;
         shown = r.driver_shown;
       },
       near,
@@ -241,15 +245,19 @@ arms_at ws d e b r unarmed is =
     either : (c : Bool) → ((if c then event_lane d.frame else 0) ≡ 0) ⊎ ((if c then event_lane d.frame else 0) ≡ event_lane d.frame)
     either true = inr refl
     either false = inl refl
+
     low : (c : Bool) → (if c then event_lane d.frame else 0) ≤ d.frame.size + 2
     low true = omega arith
     low false = omega arith
+
     index : (c : Bool) → 1 ≢ (if c then event_lane d.frame else 0)
     index true = λ e. omega arith
     index false = λ e. omega arith
+
     value : (c : Bool) → (if c then length (collects d.done) % 65536 else 0) < 65536
     value true = omega arith
     value false = omega arith
+
     stored : (c : Bool) → d.frame.features.event_idx ≡ c → used_from d.frame ≤ length d.stored → DriverSignals d.frame d.armed d.bells d.stored
         → let j = if c then event_lane d.frame else 0 in DriverSignals d.frame (Some (length (collects d.done))) d.bells (slice_set d.stored (lane_word d.frame j) (with_lane d.frame d.stored j (if c then length (collects d.done) % 65536 else 0)))
     stored true on far g = event_stored d.frame d.armed d.bells (length (collects d.done)) d.stored on far g
@@ -282,6 +290,7 @@ looks_again_at ws d e g true c lane r eq idx =
       calls = signal.armed (entries_out e) (entries_in D) (omega arith) r.calls;
       is_armed = tt;
       seen = omega arith;
+      cut = λ h. absurd (omega arith);
       shown = λ h. absurd cc;
     }
 looks_again_at ws d e g false c lane r eq idx = woken c idx
@@ -301,6 +310,7 @@ looks_again_at ws d e g false c lane r eq idx = woken c idx
           calls = signal.wakes (entries_out e) (entries_in D) true r.calls;
           is_armed = tt;
           seen = omega arith;
+          cut = λ h. absurd (omega arith);
           shown = λ h. omega arith;
         }
     woken false off =
@@ -317,6 +327,7 @@ looks_again_at ws d e g false c lane r eq idx = woken c idx
           calls = signal.wakes (entries_out e) (entries_in D) false r.calls;
           is_armed = (refl, off, tt);
           seen = omega arith;
+          cut = λ h. absurd (omega arith);
           shown = λ h. omega arith;
         }
 
@@ -343,6 +354,7 @@ hears_at ws d e g false c is r eq idx = woken c idx
           calls = subst (λ n. Signals (entries_out e) (record { at = length (collects d.done); idle = true; armed = None; heard = n })) (sym is) (signal.hears (entries_out e) (entries_in D) true r.calls);
           is_armed = tt;
           seen = r.driver_seen;
+          cut = r.driver_cut;
           shown = r.driver_shown;
         }
     woken false off =
@@ -358,6 +370,7 @@ hears_at ws d e g false c is r eq idx = woken c idx
           calls = subst (λ n. Signals (entries_out e) (record { at = length (collects d.done); idle = false; armed = None; heard = n })) (sym is) (signal.hears (entries_out e) (entries_in D) false r.calls);
           is_armed = (refl, off, some g d.heard other (omega (arith, r.calls.heard)));
           seen = r.driver_seen;
+          cut = r.driver_cut;
           shown = r.driver_shown;
         }
       where
@@ -390,6 +403,7 @@ disarms ws d e now p x r kicks n =
         calls = signal.wakes (entries_out e) (entries_in D) true r.calls;
         is_armed = tt;
         seen = r.driver_seen;
+        cut = r.driver_cut;
         shown = r.driver_shown;
       },
       near,
@@ -409,5 +423,6 @@ disarmed ws d e r =
       calls = signal.wakes (entries_out e) (entries_in D) true r.calls;
       is_armed = tt;
       seen = r.driver_seen;
+      cut = r.driver_cut;
       shown = r.driver_shown;
     }

@@ -39,7 +39,6 @@ looks_at : (ws : List ℕ) (d : DriverView) (e : DeviceView) (g : ℕ) (b : Bool
 looks_at ws d e g true lane r unarmed eq = record {
   same = r.same;
   lawful = r.lawful;
-  built = r.built;
   words = r.words;
   places = r.places;
   driver_words = r.driver_words;
@@ -52,6 +51,7 @@ looks_at ws d e g true lane r unarmed eq = record {
   driver_doing = tt;
   device_doing = r.device_doing;
   driver_seen = omega (arith, counts_given ws (record d { doing = Idle }) e g lane r);
+  driver_cut = λ h. absurd (omega (arith, counts_given ws (record d { doing = Idle }) e g lane r));
   device_seen = r.device_seen;
   driver_shown = λ h. absurd cc;
   device_shown = r.device_shown;
@@ -66,7 +66,6 @@ looks_at ws d e g false lane r unarmed eq =
     let more : length (collects d.done) < length (gives e.done) = shows_more g (length (collects d.done)) (length (gives e.done)) lane r.lists.fewer eq in record {
       same = r.same;
       lawful = r.lawful;
-      built = r.built;
       words = r.words;
       places = r.places;
       driver_words = r.driver_words;
@@ -79,6 +78,7 @@ looks_at ws d e g false lane r unarmed eq =
       driver_doing = record { lane = lane ∙ ap (λ n. n % 65536) (sym is); more = omega (arith, is) };
       device_doing = r.device_doing;
       driver_seen = omega (arith, is);
+      driver_cut = λ h. absurd (omega (arith, is));
       device_seen = r.device_seen;
       driver_shown = λ h. omega (arith, is);
       device_shown = r.device_shown;
@@ -122,7 +122,6 @@ finds ws d e g w r is =
       record {
         same = r.same;
         lawful = r.lawful;
-        built = r.built;
         words = r.words;
         places = r.places;
         driver_words = r.driver_words;
@@ -135,6 +134,7 @@ finds ws d e g w r is =
         driver_doing = (seen, n);
         device_doing = r.device_doing;
         driver_seen = r.driver_seen;
+        driver_cut = r.driver_cut;
         device_seen = r.device_seen;
         driver_shown = r.driver_shown;
         device_shown = r.device_shown;
@@ -210,7 +210,6 @@ collects_last ws d e g w x r is =
       subst (λ (us : List Used). Ring ws (record d { done = Collect us ∷ o; shown = not (shows g (length (collects o ++ us))); doing = Idle }) e) (sym c.0) record {
         same = r.same;
         lawful = r.lawful;
-        built = r.built;
         words = r.words;
         places = collect_places f o u r.places c.2;
         driver_words = driver_words_collected f o u d.stored c.2 r.driver_words;
@@ -223,6 +222,7 @@ collects_last ws d e g w x r is =
         driver_doing = tt;
         device_doing = doing_collected e.doing f o u s e.stored e.seen r.device_doing;
         driver_seen = r.driver_seen;
+        driver_cut = r.driver_cut;
         device_seen = r.device_seen;
         driver_shown = λ h. shows_more g (length (collects o ++ u ∷ [])) d.seen seen.lane (omega (arith, seen.more)) (not-true (shows g (length (collects o ++ u ∷ []))) h);
         device_shown = r.device_shown;

@@ -2,58 +2,28 @@
 -- spell.
 use Rattle.std.proofs.Common.{◌≡◌, ◌≢◌, ℕ, zero, suc, ◌+◌, ◌-◌, ◌*◌, ◌/◌, ◌%◌, ◌^◌, ◌<◌, ◌≤◌, ◌==◌, ◌&&◌, Bool, true, false, List, [], ◌∷◌, ◌++◌, length, take, drop, if◌then◌else◌, slice_index, slice_index_or, refl, sym, ap, ◌∙◌, subst, arith, inl, inr}
 use Rattle.std.specs.List.{All}
-use Rattle.std.proofs.lemmas.Bool.{cases_eq, cases_lt, eq-eqb, ne_eqb}
-use Rattle.std.proofs.lemmas.List.{length-map, length-take-le, take_all, get_or_append_left, get_or_push}
+use Rattle.std.proofs.lemmas.Bool.{eq-eqb, ne_eqb}
+use Rattle.std.proofs.lemmas.List.{length-map, length-take-le, take_all}
 use Rattle.std.proofs.lemmas.List.Elements.{All-head}
 use Rattle.vd_model.specs.declared.chain.Piece.{Piece}
 use Rattle.vd_model.specs.Chains.{IsPiece, IsChain, needs}
 use Rattle.vd_ring.specs.declared.frame.Frame.{Frame}
 use Rattle.vd_ring.specs.declared.frame.Put.{Put}
-use Rattle.vd_ring.specs.History.{first, upto}
-use Rattle.vd_ring.proofs.Counts.{length_upto}
-use Rattle.vd_split_ring.specs.SplitWords.{put, words_of, second, described, table, table_of, pointer, is_tabled, reading, pieces_of, ends, names_table, has_table, table_words, is_whole, chain_of, linked, cursor}
-use Rattle.vd_split_ring.proofs.Descriptors.{length-described, described_first, described_second, pieces_back, not_whole, whole, linked_at}
+use Rattle.vd_ring.specs.History.{first}
+use Rattle.vd_split_ring.specs.SplitWords.{put, words_of, second, described, table, table_of, pointer, is_tabled, reading, pieces_of, ends, names_table, has_table, named_words, is_whole, chain_of, linked, cursor}
+use Rattle.vd_split_ring.proofs.Descriptors.{length-described, pieces_back, not_whole, whole, linked_at}
+use Rattle.vd_split_ring.proofs.Rows.{length_table, table_place, table_spells}
 use Rattle.vd_split_ring.proofs.Tables.{is_either, tabled_is, direct_is, direct_needs, reading_tabled, reading_direct}
-
--- ---- a table's words stand one after the other
-
-pub upto_at : (n j : ℕ) → j < n → slice_index (upto n) j ≡ j
-upto_at zero j h = absurd (omega arith)
-upto_at (suc n) j h = elim (cases_lt j n) [
-  | inl a ↦ get_or_append_left (upto n) (n ∷ []) 0 j (omega (arith, length_upto n)) ∙ upto_at n j a
-  | inr a ↦ (let e : n ≡ j = omega arith in get_or_push (upto n) n 0 j (length_upto n ∙ e) ∙ e)
-]
-
-table_place : (f : Frame) (h : ℕ) (c : List Piece) (j : ℕ) → j < 2 * length c → (slice_index_or (table f h c) j (put 0 0)).place ≡ table_of f h + j
-table_place f h c j below = elim (cases_eq (j % 2) 0) [
-  | inl e ↦ (
-      let i : ℕ = j / 2 in
-      let at : slice_index (upto (length c)) i ≡ i = upto_at (length c) i (omega arith) in
-      omega (arith, at, (described_first (table_of f h) (upto (length c)) c j i (length_upto (length c)) (omega arith) (omega arith)).0)
-      )
-  | inr ne ↦ (
-      let i : ℕ = j / 2 in
-      let one : j % 2 ≡ 1 = odd j ne in
-      let at : slice_index (upto (length c)) i ≡ i = upto_at (length c) i (omega arith) in
-      omega (arith, at, (described_second (table_of f h) (upto (length c)) c j i (i + 1) (length_upto (length c)) (omega arith) (omega arith) refl).0)
-      )
-]
-  where
-    odd : (j : ℕ) → (j % 2 ≡ 0 → ⊥) → j % 2 ≡ 1
-    odd j ne = elim (cases_eq (j % 2) 1) [ inl e ↦ e | inr n2 ↦ absurd (ne (omega (arith, two j n2))) ]
-      where
-        two : (j : ℕ) → (j % 2 ≡ 1 → ⊥) → j % 2 ≡ 0
-        two j n2 = elim (cases_lt (j % 2) 1) [ inl a ↦ omega arith | inr a ↦ absurd (n2 (omega arith)) ]
 
 -- ---- the second word of a table's descriptor
 
 abbrev pointer_second : List Piece → ℕ
 pointer_second c = 16 * length c + 17179869184
 
-names_it : (c : List Piece) → length c ≤ 16 → names_table (pointer_second c) ≡ true
+pub names_it : (c : List Piece) → length c ≤ 16 → names_table (pointer_second c) ≡ true
 names_it c few = eq-eqb ((pointer_second c / 17179869184) % 2) 1 (omega arith)
 
-its_words : (c : List Piece) → length c ≤ 16 → table_words (pointer_second c) ≡ 2 * length c
+its_words : (c : List Piece) → length c ≤ 16 → named_words (pointer_second c) ≡ 2 * length c
 its_words c few = omega arith
 
 no_name : (x : Piece) → IsPiece x → names_table (second x [] 0) ≡ false
@@ -65,7 +35,7 @@ no_name x is = ne_eqb ((second x [] 0 / 17179869184) % 2) 1 (at x.write x.len is
 
 -- ---- a direct chain has no table
 
-no_table : (f : Frame) (ps : List ℕ) (c : List Piece) (k : ℕ) → length ps ≡ length c → All IsPiece c → is_tabled f c ≡ false → has_table f (words_of (take k (described 0 ps c))) ≡ false
+pub no_table : (f : Frame) (ps : List ℕ) (c : List Piece) (k : ℕ) → length ps ≡ length c → All IsPiece c → is_tabled f c ≡ false → has_table f (words_of (take k (described 0 ps c))) ≡ false
 no_table f [] c zero len is off = refl
 no_table f [] c (suc k) len is off = refl
 no_table f (p ∷ ps) [] zero len is off = refl
@@ -87,7 +57,7 @@ cursor_off : (f : Frame) (h : ℕ) (ws : List ℕ) → has_table f ws ≡ false 
 cursor_off f h ws off = ap (λ (b : Bool). if b then table_of f h + (length ws - 2) else linked h ws) off
 
 whole_off : (f : Frame) (ws : List ℕ) → has_table f ws ≡ false → is_whole f ws ≡ ends ws
-whole_off f ws off = ap (λ (b : Bool). if b then length ws == 2 + table_words (slice_index ws 1) else ends ws) off
+whole_off f ws off = ap (λ (b : Bool). if b then length ws == 2 + named_words (slice_index ws 1) else ends ws) off
 
 chain_off : (f : Frame) (ws : List ℕ) → has_table f ws ≡ false → chain_of f ws ≡ pieces_of ws
 chain_off f ws off = ap (λ (b : Bool). if b then pieces_of (drop 2 ws) else pieces_of ws) off
@@ -106,8 +76,8 @@ whole_on : (f : Frame) (a : ℕ) (c : List Piece) (ws : List ℕ) → f.features
 whole_on f a c ws on few =
     let all : List ℕ = a ∷ pointer_second c ∷ ws in
     let len : length all ≡ 2 + length ws = omega arith in
-    ap (λ (b : Bool). if b then length all == 2 + table_words (pointer_second c) else ends all) (has_on f a c ws on few)
-    ∙ ap (λ n. n == 2 + table_words (pointer_second c)) len ∙ ap (λ n. 2 + length ws == 2 + n) (its_words c few)
+    ap (λ (b : Bool). if b then length all == 2 + named_words (pointer_second c) else ends all) (has_on f a c ws on few)
+    ∙ ap (λ n. n == 2 + named_words (pointer_second c)) len ∙ ap (λ n. 2 + length ws == 2 + n) (its_words c few)
 
 chain_on : (f : Frame) (a : ℕ) (c : List Piece) (ws : List ℕ) → f.features.indirect ≡ true → length c ≤ 16 → chain_of f (a ∷ pointer_second c ∷ ws) ≡ pieces_of ws
 chain_on f a c ws on few = ap (λ (b : Bool). if b then pieces_of (drop 2 (a ∷ pointer_second c ∷ ws)) else pieces_of (a ∷ pointer_second c ∷ ws)) (has_on f a c ws on few)
@@ -122,7 +92,7 @@ length_reading f ps c len some = elim (is_either (is_tabled f c)) [
 ]
   where
     tabled : (f : Frame) (h : ℕ) (c : List Piece) → length (pointer f h c ++ table f h c) ≡ 2 + 2 * length c
-    tabled f h c = omega (arith, length-described (table_of f h) (upto (length c)) c (length_upto (length c)))
+    tabled f h c = omega (arith, length_table f h c)
 
 -- what is told of the first words of a chain
 pub record Reads (f : Frame) (h : ℕ) (c : List Piece) (pl : List Put) (k : ℕ) : Type 0 where
@@ -149,7 +119,7 @@ reads_tabled f h c zero on is = record { place = λ b. refl; partial = λ b. ref
 reads_tabled f h c (suc zero) on is = record { place = λ b. refl; partial = λ b. refl; whole = λ b. absurd (omega arith); spelled = λ b. absurd (omega arith) }
 reads_tabled f h c (suc (suc j)) on is =
     let m : ℕ = length c in
-    let tl : length (table f h c) ≡ 2 * m = length-described (table_of f h) (upto m) c (length_upto m) in
+    let tl : length (table f h c) ≡ 2 * m = length_table f h c in
     let ws : List ℕ = words_of (take j (table f h c)) in
     let a : ℕ = 8 * table_of f h in
     let short : j ≤ length (table f h c) → length ws ≡ j = λ b. length-map (take j (table f h c)) (λ (p : Put). p.word) ∙ length-take-le j (table f h c) b in
@@ -158,7 +128,7 @@ reads_tabled f h c (suc (suc j)) on is =
       place = λ b. cursor_on f h a c ws on is.1 ∙ ap (λ n. table_of f h + n) (short (omega arith)) ∙ sym (table_place f h c j (omega arith));
       partial = λ b. whole_on f a c ws on is.1 ∙ ne_eqb (2 + length ws) (2 + 2 * m) (λ e. omega (arith, short (omega arith)));
       whole = λ b. whole_on f a c ws on is.1 ∙ eq-eqb (2 + length ws) (2 + 2 * m) (omega (arith, ap (λ (l : List ℕ). length l) (long (omega arith)), length-map (table f h c) (λ (p : Put). p.word), tl));
-      spelled = λ b. chain_on f a c ws on is.1 ∙ ap pieces_of (long (omega arith)) ∙ pieces_back (table_of f h) (upto m) c (length_upto m) is.3;
+      spelled = λ b. chain_on f a c ws on is.1 ∙ ap pieces_of (long (omega arith)) ∙ table_spells f h c is.3;
     }
 
 -- the first k words of a chain at its places, in the order of a take

@@ -23,7 +23,7 @@ use Rattle.vd_ring.specs.Places.{Places}
 use Rattle.vd_ring.specs.Lists.{Lists, Rested, entry_at}
 use Rattle.vd_ring.specs.Signals.{Publisher, Listener, Signals}
 use Rattle.vd_ring.specs.Sleep.{driver_owed, device_owed, driver_idle, device_idle, gives_made}
-use Rattle.vd_split_ring.specs.SplitWords.{IsLawful, IsBuilt, IsDrivers, IsDevices, width, command_word, ack_word, kick_at, call_at, used_from, lane_at, entry_lane, event_lane, used_index, used_id, used_len, words_of, Stand, spelling, reading}
+use Rattle.vd_split_ring.specs.SplitWords.{IsLawful, IsDrivers, IsDevices, width, command_word, ack_word, kick_at, call_at, used_from, lane_at, entry_lane, event_lane, used_index, used_id, used_len, words_of, Stand, spelling, reading}
 use Rattle.vd_split_ring.specs.SplitDriver.{CanOffer, Begins, plan}
 use Rattle.vd_split_ring.specs.SplitDevice.{loaded_head}
 
@@ -181,13 +181,15 @@ DeviceArmed _ f armed at heard = armed ≡ None
 
 -- ---- the invariant
 
+-- so many chains given end where a give ends: of any that follow them, a used entry begins there
+abbrev pub EndsGive : List DeviceDone → ℕ → Type 0
+EndsGive s n = n < length (gives s) → (u : Used) × (entry_at s n ≡ Some u)
+
 pub record Ring (ws : List ℕ) (d : DriverView) (e : DeviceView) : Type 0 where
   -- both sides name the same ring, size, features and bounds
   pub same : e.frame ≡ d.frame
   -- it is a split ring of 1 to 32,768 places
   pub lawful : IsLawful d.frame
-  -- without tables
-  pub built : IsBuilt d.frame
   -- each word is what its one writer last stored in it
   pub words : Words d.frame ws d.stored e.stored
   -- each place is free or held by one open chain; no chain was offered past the limit, the size or the bounds
@@ -216,6 +218,8 @@ pub record Ring (ws : List ℕ) (d : DriverView) (e : DeviceView) : Type 0 where
   -- an index that a side has seen was published
   pub driver_seen : d.seen ≤ length (gives e.done)
   pub device_seen : e.seen ≤ length (offers d.done)
+  -- and a used index ends where a give ends, so that no part of an entry's chains is seen
+  pub driver_cut : EndsGive e.done d.seen
   -- where its last look showed more than it has collected or taken since, that look's index is past it
   pub driver_shown : d.shown ≡ true → length (collects d.done) < d.seen
   pub device_shown : e.shown ≡ true → length (takes e.done) < e.seen
