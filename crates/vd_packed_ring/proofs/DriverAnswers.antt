@@ -33,7 +33,6 @@ use Rattle.vd_packed_ring.specs.PackedPositions.{opos, cpos, later}
 use Rattle.vd_packed_ring.specs.PackedDriver.{Publishes, DriverNextAt, DriverNext, driver_after_at, driver_act_at, driver_act, driver_offers, driver_collects, driver_wakes, stores, collect_act, woken_act}
 use Rattle.vd_packed_ring.specs.PackedDriverLaws.{DriverBags, IsOffered, IsCollected, CollectsNothing}
 use Rattle.vd_packed_ring.specs.PackedRing.{Ring, Stages}
-use Rattle.vd_packed_ring.proofs.Spelled.{descriptors_is, table_stands}
 use Rattle.vd_packed_ring.proofs.Offers.{describes, publishes}
 use Rattle.vd_packed_ring.proofs.Collects.{Found, found, shows_none}
 
@@ -131,10 +130,7 @@ offers_chain ws d e puts p x r h =
       can = h.can;
       offered = ap offers after ∙ ap (λ (cs : List Piece). offers o ++ cs ∷ []) did.2;
       is_head = ap (λ (t : List DriverDone). head f t (length (offers o))) after ∙ (ap (λ (cs : List Piece). head f (Offer cs ∷ o) (length (offers o))) did.2 ∙ head_new f o c r.places h.can.fits);
-      spelled = record {
-        ring = subst (λ (l : List Descriptor). Stand (slice_set ws p x) (described f.size (opos f o) l)) (sym (descriptors_is f (next_head f o) c r.built)) did.3;
-        table = table_stands f (slice_set ws p x) (next_head f o) c r.built;
-      };
+      spelled = did.3;
     }
 
 offered_at : (ws : List ℕ) (d : DriverView) (e : DeviceView) (now : DriverNow) (op : Op) (a : Access) (k : ℕ) → Ring ws (record d { doing = now }) e → DriverNextAt now (record d { doing = now }) op a
