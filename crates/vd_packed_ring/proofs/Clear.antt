@@ -36,14 +36,17 @@ pub record IsInTable (f : Frame) (h p : ℕ) : Type 0 where
   pub low : table_of f h ≤ p
   pub high : p < table_of f h + 32
 
+tabled_within : (f : Frame) (id : ℕ) (c : List Piece) → f.features.indirect ≡ true → length c ≤ 16 → All (λ s. IsInTable f id s.place) (standing (table_of f id) (table_words Packed c))
+tabled_within f id c on few = λ k d inside.
+    let long = length_tabled (table_of f id) c in
+    let is = standing_place (table_of f id) (table_words Packed c) k d (omega (arith, length_standing (table_of f id) (table_words Packed c))) in
+    record { on = on; low = omega arith; high = omega arith }
+
 pub table_within : (f : Frame) (id : ℕ) (c : List Piece) → length c ≤ 16 → All (λ s. IsInTable f id s.place) (table f id c)
 table_within f id c few = at (kind f c)
   where
     at : Kind f c → All (λ s. IsInTable f id s.place) (table f id c)
-    at (by_table t on h) = subst (λ (l : List Put). All (λ s. IsInTable f id s.place) l) (sym (tabled_is f id c t).1) (λ k d inside.
-    let long = length_tabled (table_of f id) c in
-    let is = standing_place (table_of f id) (table_words Packed c) k d (omega (arith, length_standing (table_of f id) (table_words Packed c))) in
-    record { on = on; low = omega arith; high = omega arith })
+    at (by_table t on h) = subst (λ (l : List Put). All (λ s. IsInTable f id s.place) l) (sym (tabled_is f id c t).1) (λ k d inside. tabled_within f id c on few k d inside)
     at (in_ring t h) = subst (λ (l : List Put). All (λ s. IsInTable f id s.place) l) (sym (direct_is f id c t).1) (All-nil (λ s. IsInTable f id s.place))
 
 -- the table of a head below the size lies past the event words and before the commands

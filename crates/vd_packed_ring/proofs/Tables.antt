@@ -229,7 +229,7 @@ partial_at f q id c (suc (suc j)) says n h =
     let ws : List ℕ = words_of (take (suc (suc j)) (all_of f q id c)) in
     let T : List Put = standing (table_of f id) (table_words Packed c) in
     let count : length (words_of (take j T)) ≡ j = length-map (take j T) (λ (p : Put). p.word) ∙ length-take-le j T (omega arith) in
-    ap (has f ws) says ∙ ne_eqb _ _ (λ e. omega (arith, count, n, length_standing (table_of f id) (table_words Packed c)))
+    ap (has f ws) says ∙ ne_eqb _ _ (λ e. omega (arith, count, n, length_tabled (table_of f id) c))
 
 reads_tabled : (f : Frame) (q id : ℕ) (c : List Piece) (k : ℕ) → is_tabled f c ≡ true → f.features.indirect ≡ true → length c ≤ 16 → id < 65536 → All IsPiece c → Reads f q id c k
 reads_tabled f q id c k t on few low ok =
@@ -241,7 +241,7 @@ reads_tabled f q id c k t on few low ok =
     let names = pointer_names f.size q f id c low few in
     let fits = pointer_fits f id c low few in
     let says : (f.features.indirect && names_table w) ≡ true = ap₂ (λ (x y : Bool). x && y) on names.0 in
-    let long : length T ≡ 2 * length c = length_standing (table_of f id) (table_words Packed c) in
+    let long : length T ≡ 2 * length c = length_tabled (table_of f id) c in
     let words : length (words_of T) ≡ length T = length-map T (λ (p : Put). p.word) in
     record {
       place = λ left. ap (λ (l : List Put). cursor f q (words_of (take k l))) is ∙ (place_at f q id c k says (omega (arith, ap (λ (l : List Put). length l) is)) (avail_id f.size q (pointer f id c) fits) ∙ ap (λ (l : List Put). (slice_index_or l k (put 0 0)).place) (sym is));
