@@ -1,5 +1,5 @@
--- Event words and bells of a packed ring: what either side stores and loads to sleep, and to wake the other (VIRTIO 1.2, 2.8.10). `event_at`
--- and `bell_at` are the places of an event word and of a bell.
+-- Event words and bells of a packed ring: what either side stores and loads to sleep, and to wake the other (VIRTIO 1.2, 2.8.10).
+-- `event_at` and `bell_at` are the places of an event word and of a bell.
 use Rattle.std.specs.Prelude.{◌≡◌, ℕ, ◌+◌, ◌%◌, ◌<◌, ◌≤◌, Bool, true, false, Option, Some, if◌then◌else◌}
 use Rattle.vd_bits.specs.Lanes.{lane32}
 use Rattle.vd_event.specs.Rings.{wants}
