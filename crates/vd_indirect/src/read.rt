@@ -6,20 +6,26 @@ ghost use Rattle.vd_model.specs.Chains.{ends_writable};
 ghost use Rattle.vd_indirect.specs.declared.read.TableFault.TheVariants.{Nested};
 
 use crate::descriptor::{TableKind, has_next, is_indirect, next_in, piece_in};
+use thiserror::Error;
 use vd_model::{Chain, Piece};
 
 /// Why the words of a table spell no chain. A place is counted from 0.
-#[derive(Copy, Clone, Debug, PartialEq, Eq)]
+#[derive(Copy, Clone, Debug, PartialEq, Eq, Error)]
 pub enum TableFault {
     /// The length in bytes is 0 or no multiple of 16.
+    #[error("{0} bytes, no table of 16 bytes a descriptor")]
     Length(u32),
     /// The length in bytes is above 256: more than 16 descriptors.
+    #[error("{0} bytes, more than 16 descriptors")]
     TooMany(u32),
     /// The place names a next one that the table hasn't, or as many places were visited as the table has.
+    #[error("place {0} goes on where the table ends")]
     Link(u32),
     /// The place points to another table (VIRTIO 1.2, 2.7.5.3.1 and 2.8.7).
+    #[error("place {0} points to another table")]
     Nested(u32),
     /// The place is readable and follows a writable one (VIRTIO 1.2, 2.7.4.2).
+    #[error("place {0} is readable and follows a writable one")]
     Order(u32),
 }
 

@@ -1,6 +1,7 @@
 -- Both ends of a ring, and its plain words.
-use Rattle.std.proofs.Common.{◌≡◌, ℕ, Bool, List, None, replicate, refl, sym, ◌∙◌, subst}
+use Rattle.std.proofs.Common.{◌≡◌, ◌≢◌, ℕ, Bool, List, Option, None, replicate, refl, sym, ◌∙◌, subst}
 use Rattle.vd_model.specs.declared.features.Features.{Features}
+use Rattle.vd_model.specs.declared.map.Mapping.{Mapping}
 use Rattle.vd_words.specs.Model.{PortModel, IsLawfulPort}
 use Rattle.vd_words.specs.Own.{IsOwn}
 use Rattle.vd_ring.specs.declared.act.DriverAct.{DriverAct}
@@ -16,7 +17,7 @@ use Rattle.vd_layout.specs.DriverFinish.{IsDriverFinish}
 use Rattle.vd_layout.specs.DeviceFinish.{IsDeviceFinish}
 use Rattle.vd_layout.specs.Layout.{LayoutModel, IsMadeWith, CanMake, IsFresh, IsLawfulLayout}
 use Rattle.vd_layout.specs.Plain.{own_plain_driver, own_plain_device}
-use Rattle.vd_layout.specs.Run.{written_by, plain_run}
+use Rattle.vd_layout.specs.Run.{Made, IsRun, IsToldAt, written_by, plain_run}
 
 -- the ends stand for views of a ring made so, which meet the ring invariant with the words
 pub record AreOn {D E : Type 0} (d : DriverModel D) (e : DeviceModel E) (l : LayoutModel) (f : Frame) (x : D) (y : E) (ws : List ℕ) : Type 0 where
@@ -27,16 +28,16 @@ pub record AreOn {D E : Type 0} (d : DriverModel D) (e : DeviceModel E) (l : Lay
   pub serves : e.stands y device_view
   pub framed : view.frame ≡ f
 
--- a ring with this number and without bounds
-abbrev pub plain_frame : LayoutModel → ℕ → ℕ → Features → Bool → Frame
-plain_frame l ring size f control = record { ring = ring; packed = l.packed; size = size; features = f; control = control; bounds = None }
+-- a ring with this number, in whose bounds each piece of its chains lies, where it has bounds
+abbrev pub plain_frame : LayoutModel → ℕ → ℕ → Features → Bool → Option (List Mapping) → Frame
+plain_frame l ring size f control bounds = record { ring = ring; packed = l.packed; size = size; features = f; control = control; bounds = bounds }
 
 -- ---- lemmas
 
-pub fresh_on : {D E : Type 0} (d : DriverModel D) (e : DeviceModel E) (l : LayoutModel) (law : IsLawfulLayout d e l) (ring size : ℕ) (f : Features) (control : Bool) (x : D) (y : E) (ws : List ℕ) → CanMake l size f → IsFresh d e l size f control x y
-    → ws ≡ replicate (l.width (plain_frame l ring size f control)) 0 → AreOn d e l (plain_frame l ring size f control) x y ws
-fresh_on d e l law ring size f control x y ws can fresh words =
-    let g : Frame = plain_frame l ring size f control in
+pub fresh_on : {D E : Type 0} (d : DriverModel D) (e : DeviceModel E) (l : LayoutModel) (law : IsLawfulLayout d e l) (ring size : ℕ) (f : Features) (control : Bool) (bounds : Option (List Mapping)) (x : D) (y : E) (ws : List ℕ) → CanMake l size f → IsFresh d e l size f control x y
+    → ws ≡ replicate (l.width (plain_frame l ring size f control bounds)) 0 → AreOn d e l (plain_frame l ring size f control bounds) x y ws
+fresh_on d e l law ring size f control bounds x y ws can fresh words =
+    let g : Frame = plain_frame l ring size f control bounds in
     let with : IsMadeWith l size f control g = record { packed = refl; size = refl; features = refl; control = refl } in record {
       view = fresh_driver g (l.width g);
       device_view = fresh_device g (l.width g);
@@ -52,6 +53,28 @@ pub record Finished {P D E : Type 0} (port : PortModel P) (d : DriverModel D) (e
   pub plain : port.plain q words
   pub same : port.same p q
   pub on : AreOn d e l f x y words
+
+-- what the device's side knows is what it knew, and by these accesses, the newest first, the driver's side came to its view
+pub record DriverBeside {P D E : Type 0} (port : PortModel P) (d : DriverModel D) (e : DeviceModel E) (l : LayoutModel) (f : Frame) (p q : P) (ws : List ℕ) (x x' : D) (y : E) (answer : DriverAct) (a : AreOn d e l f x y ws) (z : Finished port d e l f p q x' y) : Type 0 where
+  pub same_device : z.on.device_view ≡ a.device_view
+  pub made : List Made
+  pub run : IsRun port d.side made p a.view q z.on.view
+  pub words : z.words ≡ written_by made ws
+  -- only an arming arms
+  pub unarmed : d.begun x ≢ DriverOp.arm → a.view.armed ≡ None → z.on.view.armed ≡ None
+  -- the access by which the answer was told
+  pub at : IsToldAt port d.side d.act (λ u. u.done ≡ a.view.done) p a.view answer
+
+-- what the driver's side knows is what it knew, and by these accesses, the newest first, the device's side came to its view
+pub record DeviceBeside {P D E : Type 0} (port : PortModel P) (d : DriverModel D) (e : DeviceModel E) (l : LayoutModel) (f : Frame) (p q : P) (ws : List ℕ) (x : D) (y y' : E) (answer : DeviceAct) (a : AreOn d e l f x y ws) (z : Finished port d e l f p q x y') : Type 0 where
+  pub same_driver : z.on.view ≡ a.view
+  pub made : List Made
+  pub run : IsRun port e.side made p a.device_view q z.on.device_view
+  pub words : z.words ≡ written_by made ws
+  -- only an arming arms
+  pub unarmed : e.begun y ≢ DeviceOp.arm → a.device_view.armed ≡ None → z.on.device_view.armed ≡ None
+  -- the access by which the answer was told
+  pub at : IsToldAt port e.side e.act (λ u. u.done ≡ a.device_view.done) p a.device_view answer
 
 pub driver_finished : {P D E : Type 0} (port : PortModel P) (law : IsLawfulPort port) (d : DriverModel D) (e : DeviceModel E) (l : LayoutModel) (lawful : IsLawfulLayout d e l) (f : Frame) (p q : P) (ws : List ℕ) (x x' : D) (y : E) (answer : DriverAct) → port.plain p ws → (on : AreOn d e l f x y ws)
     → IsDriverFinish port d p q on.view x x' answer → Finished port d e l f p q x' y
@@ -72,9 +95,9 @@ driver_finished port law d e l lawful fr p q ws x x' y answer plain on f =
 
 -- and the answer is about the views of before and after
 pub driver_did : {P D E : Type 0} (port : PortModel P) (law : IsLawfulPort port) (d : DriverModel D) (e : DeviceModel E) (l : LayoutModel) (lawful : IsLawfulLayout d e l) (f : Frame) (p q : P) (ws : List ℕ) (x x' : D) (y : E) (answer : DriverAct) → port.plain p ws → (on : AreOn d e l f x y ws)
-    → IsDriverFinish port d p q on.view x x' answer → (z : Finished port d e l f p q x' y) × DriverSays answer (d.begun x) DriverOp.idle on.view.frame on.view.done z.on.view.done
+    → IsDriverFinish port d p q on.view x x' answer → (z : Finished port d e l f p q x' y) × DriverSays answer (d.begun x) DriverOp.idle on.view.frame on.view.done z.on.view.done × DriverBeside port d e l f p q ws x x' y answer on z
 unfolding driver_finished
-driver_did port law d e l lawful fr p q ws x x' y answer plain on f = (driver_finished port law d e l lawful fr p q ws x x' y answer plain on f, f.says)
+driver_did port law d e l lawful fr p q ws x x' y answer plain on f = (driver_finished port law d e l lawful fr p q ws x x' y answer plain on f, f.says, record { same_device = refl; made = f.made; run = f.run; words = refl; unarmed = f.unarmed; at = f.at })
 
 pub device_finished : {P D E : Type 0} (port : PortModel P) (law : IsLawfulPort port) (d : DriverModel D) (e : DeviceModel E) (l : LayoutModel) (lawful : IsLawfulLayout d e l) (f : Frame) (p q : P) (ws : List ℕ) (x : D) (y y' : E) (answer : DeviceAct) → port.plain p ws → (on : AreOn d e l f x y ws)
     → IsDeviceFinish port e p q on.device_view y y' answer → Finished port d e l f p q x y'
@@ -94,9 +117,9 @@ device_finished port law d e l lawful fr p q ws x y y' answer plain on f =
     }
 
 pub device_did : {P D E : Type 0} (port : PortModel P) (law : IsLawfulPort port) (d : DriverModel D) (e : DeviceModel E) (l : LayoutModel) (lawful : IsLawfulLayout d e l) (f : Frame) (p q : P) (ws : List ℕ) (x : D) (y y' : E) (answer : DeviceAct) → port.plain p ws → (on : AreOn d e l f x y ws)
-    → IsDeviceFinish port e p q on.device_view y y' answer → (z : Finished port d e l f p q x y') × DeviceSays e.words answer (e.begun y) DeviceOp.idle on.device_view.frame on.device_view.done z.on.device_view.done
+    → IsDeviceFinish port e p q on.device_view y y' answer → (z : Finished port d e l f p q x y') × DeviceSays e.words answer (e.begun y) DeviceOp.idle on.device_view.frame on.device_view.done z.on.device_view.done × DeviceBeside port d e l f p q ws x y y' answer on z
 unfolding device_finished
-device_did port law d e l lawful fr p q ws x y y' answer plain on f = (device_finished port law d e l lawful fr p q ws x y y' answer plain on f, f.says)
+device_did port law d e l lawful fr p q ws x y y' answer plain on f = (device_finished port law d e l lawful fr p q ws x y y' answer plain on f, f.says, record { same_driver = refl; made = f.made; run = f.run; words = refl; unarmed = f.unarmed; at = f.at })
 
 pub driver_owns : {P D E : Type 0} (port : PortModel P) (law : IsLawfulPort port) (d : DriverModel D) (e : DeviceModel E) (l : LayoutModel) (lawful : IsLawfulLayout d e l) (f : Frame) (p : P) (ws : List ℕ) (x : D) (y : E) → port.plain p ws → (on : AreOn d e l f x y ws) → IsOwn port d.side p on.view
 driver_owns port law d e l lawful f p ws x y plain on = own_plain_driver port law d e l lawful p ws on.view on.device_view plain on.ring

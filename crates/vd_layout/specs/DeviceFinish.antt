@@ -103,7 +103,7 @@ told_first x act.Armed is ne = refl
 told_first x act.Awake is ne = refl
 told_first x act.Asleep is ne = refl
 
-not_arm : (x : DeviceOp) (o : Op) → IsDeviceOp x o → x ≢ DeviceOp.arm → o ≢ Arm
+pub not_arm : (x : DeviceOp) (o : Op) → IsDeviceOp x o → x ≢ DeviceOp.arm → o ≢ Arm
 not_arm DeviceOp.idle o is other = absurd is
 not_arm DeviceOp.take o is other = λ e. cc (is, e)
 not_arm (DeviceOp.give k n) o is other = λ e. cc (is, e)

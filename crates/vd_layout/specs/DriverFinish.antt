@@ -92,7 +92,7 @@ told_first x driver_act.Armed is ne = refl
 told_first x driver_act.Awake is ne = refl
 told_first x driver_act.Asleep is ne = refl
 
-not_arm : (x : DriverOp) (o : Op) → IsDriverOp x o → x ≢ DriverOp.arm → o ≢ Arm
+pub not_arm : (x : DriverOp) (o : Op) → IsDriverOp x o → x ≢ DriverOp.arm → o ≢ Arm
 not_arm DriverOp.idle o is other = absurd is
 not_arm (DriverOp.offer c) o is other = λ e. cc (is, e)
 not_arm DriverOp.collect o is other = λ e. cc (is, e)

@@ -6,7 +6,9 @@ pub mod Device
 pub mod Layout
 pub mod Plain
 pub mod Run
+pub mod Stepped
 pub mod DriverFinish
 pub mod DeviceFinish
+pub mod Unarmed
 pub mod Whole
 pub mod Both

@@ -7,12 +7,14 @@ ghost use Rattle.vd_words.specs.Own.{IsOwn};
 ghost use Rattle.vd_layout.specs.Begun.{DeviceOp};
 ghost use Rattle.vd_layout.specs.Device.{DeviceModel, MayGive, IsStill, IsDeviceStep, IsLawfulDevice};
 
+use thiserror::Error;
 use vd_model::{Base, Features};
 use vd_ring::DeviceAct;
 use vd_words::Port;
 
 /// A base was given that isn't the end's own.
-#[derive(Copy, Clone, Debug, PartialEq, Eq, Drop)]
+#[derive(Copy, Clone, Debug, PartialEq, Eq, Drop, Error)]
+#[error("the base is {}, and {} was given", .kept.0, .given.0)]
 pub struct BadBase {
     /// The base that the end keeps.
     pub kept: Base,

@@ -7,6 +7,7 @@ mod finish;
 mod layout;
 mod moves;
 mod plain;
+mod steps;
 
 pub use device::{BadBase, DeviceEnd};
 pub use driver::DriverEnd;
@@ -14,4 +15,5 @@ pub use finish::{finish_device, finish_driver};
 pub use layout::Layout;
 pub use moves::Move;
 pub use plain::{finish_device_beside, finish_driver_beside};
+pub use steps::{step_device_beside, step_driver_beside};
 pub use vd_ring::{DeviceAct, DriverAct};

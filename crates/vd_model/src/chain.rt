@@ -1,11 +1,13 @@
 //! A buffer chain: 1 to 16 pieces, the readable ones first.
-ghost use Rattle.std.specs.Prelude.{◌≡◌, ◌<◌, List, [], ◌∷◌, ◌++◌, length, IsOk, OnOk, IfErr, OnErr, ◌↔◌, false, true};
+ghost use Rattle.std.specs.Prelude.{◌≡◌, ◌<◌, List, [], ◌∷◌, ◌++◌, length, slice_set, IsOk, OnOk, IfErr, OnErr, ◌↔◌, false, true};
 ghost use Rattle.vd_model.specs.declared.chain.Piece.{Piece};
 ghost use Rattle.vd_model.specs.declared.chain.ChainFault.TheVariants.{Full, Order};
 ghost use Rattle.vd_model.specs.Chains.{IsChain, readable, writable, ends_writable};
+ghost use Rattle.vd_model.specs.Moved.{at_address};
 
 use arrayvec::ArrayVec;
 use std::marker::Model;
+use thiserror::Error;
 
 /// One buffer of a chain: `len` bytes from `addr`, which the device writes or reads (VIRTIO 1.2, 2.7.5).
 #[derive(Copy, Clone, Debug, Default, PartialEq, Eq)]
@@ -16,11 +18,13 @@ pub struct Piece {
 }
 
 /// Why a piece can't be appended.
-#[derive(Copy, Clone, Debug, PartialEq, Eq, Drop)]
+#[derive(Copy, Clone, Debug, PartialEq, Eq, Drop, Error)]
 pub enum ChainFault {
     /// The chain has 16 pieces.
+    #[error("the chain has 16 pieces")]
     Full,
     /// A readable piece would follow a writable one.
+    #[error("a readable piece would follow a writable one")]
     Order,
 }
 
@@ -83,6 +87,14 @@ impl Chain {
         }
         self.pieces.push(p);
         Ok(())
+    }
+
+    /// Sets the address of piece `i`, and nothing else.
+    pub fn set_addr(&mut self, i: usize, addr: u64)
+        requires { i < length self.old }
+        ensures { self.new ≡ slice_set self.old i (at_address self.old i addr) }
+    {
+        self.pieces[i].addr = addr;
     }
 
     /// Whether the last piece is writable.

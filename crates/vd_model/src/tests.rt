@@ -19,6 +19,9 @@ fn appends_until_a_chain_is_full_or_out_of_order(rt: HostRuntime) -> Result<(), 
     assert!(rt; short.push(piece(4096, 1, false)) == Err(ChainFault::Order));
     assert!(rt; short.pieces() == [piece(8192, 64, true)].as_slice());
     assert!(rt; short.copy().pieces() == short.pieces());
+    chain.set_addr(15, 12288);
+    assert!(rt; chain.pieces()[15] == piece(12288, 64, true));
+    assert!(rt; chain.pieces()[0] == piece(4096, 10, false));
     Ok(())
 }
 

@@ -6,6 +6,7 @@ use Rattle.vd_model.specs.declared.record.Script.{Script}
 use Rattle.vd_bus.specs.Scripts.{run_count, run_chains}
 use Rattle.vd_machine.specs.Queues.{script}
 use Rattle.vd_model.specs.declared.base.Mode.TheVariants.{Pass}
+use Rattle.vd_words.specs.Plain.{RingWords}
 use Rattle.vd_control.specs.Settings.{default}
 use Rattle.vd_layout.specs.Driver.{DriverModel}
 use Rattle.vd_layout.specs.Device.{DeviceModel}
@@ -30,7 +31,7 @@ fits : (plan : Plan) (t : Terms) (f g : Frame) → f ≡ g → g.control ≡ Rat
 fits plan t f g is plain other = (λ h. absurd (cc (h, ap (λ (z : Frame). z.control) is, plain)), λ h. absurd (other h))
 
 module _ {D E G X C : Type 0} (d : DriverModel D) (e : DeviceModel E) (l : LayoutModel) (g : GuestParty G) (m : DeviceParty X C) (lay : IsLawfulLayout d e l) (gue : IsLawfulGuestParty d g) (dev : IsLawfulDeviceParty e m) (plan : Plan) (q k : ℕ) where
-  pub asks : (to : ℕ) (words : List ℕ) (still : Option E) (guest : G) (device : X) → to ≡ begun_at plan q (k + 1) → k < length (queue_epochs plan q) → StoppedWith e l g m plan q k words still guest device
+  pub asks : (to : ℕ) (words : RingWords) (still : Option E) (guest : G) (device : X) → to ≡ begun_at plan q (k + 1) → k < length (queue_epochs plan q) → StoppedWith e l g m plan q k words still guest device
       → (length (m.begun device) ≤ to) × CanAttach e m q (to - length (m.begun device)) still device
   asks to words None guest device is more p = absurd p
   asks to words (Some end) guest device is more p =
@@ -47,13 +48,13 @@ module _ {D E G X C : Type 0} (d : DriverModel D) (e : DeviceModel E) (l : Layou
         },
       )
 
-  starts : (to : ℕ) (words : List ℕ) (end : E) (guest : G) (device device' : X) → to ≡ begun_at plan q (k + 1) → k < length (queue_epochs plan q) → IsStopped e l g m plan q k words end guest device
+  starts : (to : ℕ) (words : RingWords) (end : E) (guest : G) (device device' : X) → to ≡ begun_at plan q (k + 1) → k < length (queue_epochs plan q) → IsStopped e l g m plan q k words end guest device
       → IsAttach e m (pass_order e plan q (to - length (m.begun device)) end) None end device device' → IsPassing e l g m plan q k 0 words guest device'
   starts to words end guest device device' is more p a =
       let order : Terms = pass_order e plan q (to - length (m.begun device)) end in
       let b = bounded (length (queue_chains plan q)) (queue_epochs plan q) k p.kept.queue.chained more in
       let many : length (m.begun device) ≡ begun_at plan q k = begun_of d e l g m lay gue dev plan q words guest device p.view p.device_view p.kept ∙ p.taken in
-      let framed : p.device_view.frame ≡ guest_frame l plan q = (lay.wide words p.view p.device_view p.kept.ring).1 ∙ p.kept.framed in
+      let framed : p.device_view.frame ≡ guest_frame l plan q = (lay.wide words.words p.view p.device_view p.kept.ring).1 ∙ p.kept.framed in
       let other : q ≡ 15 → ⊥ = λ h. omega (arith, h, p.kept.queue.low) in
       let base = base_of d e l g m lay gue dev plan q words end guest device p.view p.device_view (begun_at plan q k) p.kept p.stands p.still p.taken in
       let last : Attach (length (m.begun device)) q (record { 0 = e.base end }) (mode_of q) default (pass_map plan) ≡ attach_event e l plan q (begun_at plan q k) =
@@ -76,7 +77,7 @@ module _ {D E G X C : Type 0} (d : DriverModel D) (e : DeviceModel E) (l : Layou
         pace = omega (arith, many, ap length a.noted.begun);
       }
 
-  pub begins : (to : ℕ) (words words' : List ℕ) (still still' : Option E) (guest : G) (device device' : X) → to ≡ begun_at plan q (k + 1) → k < length (queue_epochs plan q) → words' ≡ words → still' ≡ None
+  pub begins : (to : ℕ) (words words' : RingWords) (still still' : Option E) (guest : G) (device device' : X) → to ≡ begun_at plan q (k + 1) → k < length (queue_epochs plan q) → words' ≡ words → still' ≡ None
       → ((end : E) → still ≡ Some end → IsAttach e m (pass_order e plan q (to - length (m.begun device)) end) None end device device') → StoppedWith e l g m plan q k words still guest device → InEpochWith e l g m plan q k 0 words' still' guest device'
   begins to words words' None still' guest device device' is more same none a p = absurd p
   begins to words words' (Some end) still' guest device device' is more same none a p =

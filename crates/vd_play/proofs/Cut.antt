@@ -5,6 +5,7 @@ use Rattle.std.proofs.lemmas.Grind.{flat_map-append}
 use Rattle.std.proofs.lemmas.List.{append_assoc, take-append-drop}
 use mathlib.Core.List.{IsPrefix}
 use Rattle.vd_model.specs.declared.record.Begun.{Begun}
+use Rattle.vd_words.specs.Plain.{RingWords}
 use Rattle.vd_ring.specs.declared.driver.DriverView.{DriverView}
 use Rattle.vd_ring.specs.declared.device.DeviceView.{DeviceView}
 use Rattle.vd_layout.specs.Driver.{DriverModel}
@@ -25,9 +26,9 @@ front_of : {A B : Type 0} (f : A → List B) (xs : List A) (k : ℕ) → IsPrefi
 front_of f xs k = (flat_map f (drop k xs), sym (flat_map-append f (take k xs) (drop k xs)) ∙ ap (flat_map f) (take-append-drop k xs))
 
 module _ {D E G X C : Type 0} (d : DriverModel D) (e : DeviceModel E) (l : LayoutModel) (g : GuestParty G) (m : DeviceParty X C) (lay : IsLawfulLayout d e l) (gue : IsLawfulGuestParty d g) (dev : IsLawfulDeviceParty e m) (plan : Plan) (q k : ℕ) where
-  cut_kept : (words : List ℕ) (guest : G) (device : X) (v : DriverView) (w : DeviceView) → IsKept l g m plan q words guest device v w → IsPrefix (m.events device) (journal_events e l plan q) → IsCut e l g m plan q guest device
+  cut_kept : (words : RingWords) (guest : G) (device : X) (v : DriverView) (w : DeviceView) → IsKept l g m plan q words guest device v w → IsPrefix (m.events device) (journal_events e l plan q) → IsCut e l g m plan q guest device
   cut_kept words guest device v w p events =
-      let back = some_returned v.frame v.done w.done (lens_of (m.begun device)) (g.returned guest) (lay.lists words v w p.ring) p.given (gue.returned guest v (queue_script plan q) p.drives p.script p.queue.plain) in
+      let back = some_returned v.frame v.done w.done (lens_of (m.begun device)) (g.returned guest) (lay.lists words.words v w p.ring) p.given (gue.returned guest v (queue_script plan q) p.drives p.script p.queue.plain) in
       record {
         events = events;
         chains = subst (λ zs. IsPrefix zs (queue_chains plan q)) (sym p.chains) (prefix_of d e l g m lay gue dev plan q words guest device v w p);
@@ -36,12 +37,12 @@ module _ {D E G X C : Type 0} (d : DriverModel D) (e : DeviceModel E) (l : Layou
         returned = back.1;
       }
 
-  pub cut_stopped : (words : List ℕ) (still : Option E) (guest : G) (device : X) → StoppedWith e l g m plan q k words still guest device → IsCut e l g m plan q guest device
+  pub cut_stopped : (words : RingWords) (still : Option E) (guest : G) (device : X) → StoppedWith e l g m plan q k words still guest device → IsCut e l g m plan q guest device
   cut_stopped words None guest device p = absurd p
   cut_stopped words (Some end) guest device p = cut_kept words guest device p.view p.device_view p.kept (subst (λ zs. IsPrefix zs (journal_events e l plan q)) (sym p.events) (front_of (epoch_events e l plan q) (queue_epochs plan q) k))
 
   -- a refused attach has changed nothing of it
-  pub cut_refused : (words : List ℕ) (still : Option E) (guest : G) (device device' : X) → IsRefused m device device' → StoppedWith e l g m plan q k words still guest device → IsCut e l g m plan q guest device'
+  pub cut_refused : (words : RingWords) (still : Option E) (guest : G) (device device' : X) → IsRefused m device device' → StoppedWith e l g m plan q k words still guest device → IsCut e l g m plan q guest device'
   cut_refused words still guest device device' r p =
       let c : IsCut e l g m plan q guest device = cut_stopped words still guest device p in
       record {
@@ -55,7 +56,7 @@ module _ {D E G X C : Type 0} (d : DriverModel D) (e : DeviceModel E) (l : Layou
 attach_front : {A : Type 0} (xs : List A) (a b : A) → IsPrefix (xs ++ a ∷ []) (xs ++ a ∷ b ∷ [])
 attach_front xs a b = (b ∷ [], append_assoc xs (a ∷ []) (b ∷ []))
 
-pub cut_epoch : {D E G X C : Type 0} (d : DriverModel D) (e : DeviceModel E) (l : LayoutModel) (g : GuestParty G) (m : DeviceParty X C) (lay : IsLawfulLayout d e l) (gue : IsLawfulGuestParty d g) (dev : IsLawfulDeviceParty e m) (plan : Plan) (q k r : ℕ) (words : List ℕ) (still : Option E) (guest : G) (device : X)
+pub cut_epoch : {D E G X C : Type 0} (d : DriverModel D) (e : DeviceModel E) (l : LayoutModel) (g : GuestParty G) (m : DeviceParty X C) (lay : IsLawfulLayout d e l) (gue : IsLawfulGuestParty d g) (dev : IsLawfulDeviceParty e m) (plan : Plan) (q k r : ℕ) (words : RingWords) (still : Option E) (guest : G) (device : X)
     → InEpochWith e l g m plan q k r words still guest device → IsCut e l g m plan q guest device
 cut_epoch d e l g m lay gue dev plan q k r words (Some end) guest device p = cut_stopped d e l g m lay gue dev plan q (k + 1) words (Some end) guest device p
 cut_epoch d e l g m lay gue dev plan q k r words None guest device p =

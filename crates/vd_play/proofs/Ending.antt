@@ -2,6 +2,7 @@
 use Rattle.std.proofs.Common.{◌≡◌, ℕ, ◌+◌, inl, inr, Option, Some, None, List, length, map, flat_map, sym, ◌∙◌, ap, subst, arith}
 use Rattle.std.proofs.Math.Seq.{take-length}
 use Rattle.std.proofs.lemmas.List.{length-map}
+use Rattle.vd_words.specs.Plain.{RingWords}
 use Rattle.vd_ring.specs.declared.driver.DriverView.{DriverView}
 use Rattle.vd_ring.specs.declared.device.DeviceView.{DeviceView}
 use Rattle.vd_ring.specs.declared.frame.Frame.{Frame}
@@ -25,7 +26,7 @@ use Rattle.vd_play.proofs.Lists.{prefix_take, prefix_whole}
 use Rattle.vd_play.proofs.Returns.{all_returned}
 
 module _ {D E G X C : Type 0} (d : DriverModel D) (e : DeviceModel E) (l : LayoutModel) (g : GuestParty G) (m : DeviceParty X C) (lay : IsLawfulLayout d e l) (gue : IsLawfulGuestParty d g) (dev : IsLawfulDeviceParty e m) (plan : Plan) (q : ℕ) where
-  pub record Ended (words : List ℕ) (guest : G) (device : X) : Type 0 where
+  pub record Ended (words : RingWords) (guest : G) (device : X) : Type 0 where
     pub view : DriverView
     pub device_view : DeviceView
     pub kept : IsKept l g m plan q words guest device view device_view
@@ -35,7 +36,7 @@ module _ {D E G X C : Type 0} (d : DriverModel D) (e : DeviceModel E) (l : Layou
     pub events : m.events device ≡ flat_map (epoch_events e l plan q) (queue_epochs plan q)
 
   -- after its turn the guest is done
-  ends : (words words' : List ℕ) (end : E) (guest guest' : G) (device : X) (p : IsStopped e l g m plan q (length (queue_epochs plan q)) words end guest device) → IsGuestTurn l g words' p.view p.device_view guest guest' → Ended words' guest' device
+  ends : (words words' : RingWords) (end : E) (guest guest' : G) (device : X) (p : IsStopped e l g m plan q (length (queue_epochs plan q)) words end guest device) → IsGuestTurn l g words words' p.view p.device_view guest guest' → Ended words' guest' device
   ends words words' end guest guest' device p t =
       let k : IsKept l g m plan q words' guest' device t.view p.device_view = kept_guest d e l g m lay gue dev plan q words words' guest guest' device p.view p.device_view p.kept t in
       let taken : length (takes p.device_view.done) ≡ length (queue_chains plan q) = p.taken ∙ k.queue.chained.whole in
@@ -52,21 +53,21 @@ module _ {D E G X C : Type 0} (d : DriverModel D) (e : DeviceModel E) (l : Layou
         events = p.events ∙ ap (flat_map (epoch_events e l plan q)) (take-length (queue_epochs plan q));
       }
 
-  pub ended : (words words' : List ℕ) (still : Option E) (guest guest' : G) (device : X) → StoppedWith e l g m plan q (length (queue_epochs plan q)) words still guest device
-      → ((v : DriverView) (w : DeviceView) → l.ring words v w → g.holds guest v → IsGuestTurn l g words' v w guest guest') → Ended words' guest' device
+  pub ended : (words words' : RingWords) (still : Option E) (guest guest' : G) (device : X) → StoppedWith e l g m plan q (length (queue_epochs plan q)) words still guest device
+      → ((v : DriverView) (w : DeviceView) → l.ring words.words v w → g.holds guest v → IsGuestTurn l g words words' v w guest guest') → Ended words' guest' device
   ended words words' None guest guest' device p t = absurd p
   ended words words' (Some end) guest guest' device p t = ends words words' end guest guest' device p (t p.view p.device_view p.kept.ring p.kept.drives)
 
-  pub owes : (k : ℕ) (words : List ℕ) (still : Option E) (guest : G) (device : X) → StoppedWith e l g m plan q k words still guest device → (v : DriverView) × (w : DeviceView) × l.ring words v w × g.holds guest v
+  pub owes : (k : ℕ) (words : RingWords) (still : Option E) (guest : G) (device : X) → StoppedWith e l g m plan q k words still guest device → (v : DriverView) × (w : DeviceView) × l.ring words.words v w × g.holds guest v × (words.ring ≡ v.frame.ring)
   owes k words None guest device p = absurd p
-  owes k words (Some end) guest device p = (p.view, p.device_view, p.kept.ring, p.kept.drives)
+  owes k words (Some end) guest device p = (p.view, p.device_view, p.kept.ring, p.kept.drives, p.kept.numbered ∙ sym (ap (λ (f : Frame). f.ring) p.kept.framed))
 
   -- once it is halted, the queue is played
-  pub halts : (words : List ℕ) (guest guest' : G) (device : X) (end : D) → Ended words guest device → IsHalt d g guest guest' end → IsPlayed e l g m plan q guest' device
+  pub halts : (words : RingWords) (guest guest' : G) (device : X) (end : D) → Ended words guest device → IsHalt d g guest guest' end → IsPlayed e l g m plan q guest' device
   halts words guest guest' device end x h =
       let k = x.kept in
       let f : Frame = x.view.frame in
-      let lists : Lists f x.view.done x.device_view.done = lay.lists words x.view x.device_view k.ring in
+      let lists : Lists f x.view.done x.device_view.done = lay.lists words.words x.view x.device_view k.ring in
       let all = gue.done guest x.view (queue_script plan q) k.drives k.script k.queue.plain x.done in
       let whole : collects x.view.done ≡ gives x.device_view.done = prefix_whole (collects x.view.done) (gives x.device_view.done) (prefix_take (collects x.view.done) (gives x.device_view.done) (length (collects x.view.done)) lists.collected) (omega (arith, all.1, k.even, x.takes)) in
       let list : g.returned guest' ≡ map as_return (gives x.device_view.done) = h.returned ∙ gue.returned guest x.view (queue_script plan q) k.drives k.script k.queue.plain ∙ ap (map as_return) whole in

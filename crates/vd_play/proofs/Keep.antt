@@ -8,6 +8,7 @@ use Rattle.vd_model.specs.declared.chain.Piece.{Piece}
 use Rattle.vd_model.specs.declared.record.Script.{Script}
 use Rattle.vd_model.specs.declared.record.Begun.{Begun}
 use Rattle.vd_model.specs.Chains.{needs}
+use Rattle.vd_words.specs.Plain.{RingWords}
 use Rattle.vd_ring.specs.declared.driver.DriverView.{DriverView}
 use Rattle.vd_ring.specs.declared.driver.DriverDone.{DriverDone}
 use Rattle.vd_ring.specs.declared.device.DeviceView.{DeviceView}
@@ -39,11 +40,12 @@ some_open f o c [] is fits full = absurd (full (subst (λ (js : List ℕ). sum_b
 some_open f o c (k ∷ ks) is fits full = omega arith
 
 module _ {D E G X C : Type 0} (d : DriverModel D) (e : DeviceModel E) (l : LayoutModel) (g : GuestParty G) (m : DeviceParty X C) (lay : IsLawfulLayout d e l) (gue : IsLawfulGuestParty d g) (dev : IsLawfulDeviceParty e m) (plan : Plan) (q : ℕ) where
-  pub kept_guest : (words words' : List ℕ) (guest guest' : G) (device : X) (v : DriverView) (w : DeviceView) → IsKept l g m plan q words guest device v w → (t : IsGuestTurn l g words' v w guest guest') → IsKept l g m plan q words' guest' device t.view w
+  pub kept_guest : (words words' : RingWords) (guest guest' : G) (device : X) (v : DriverView) (w : DeviceView) → IsKept l g m plan q words guest device v w → (t : IsGuestTurn l g words words' v w guest guest') → IsKept l g m plan q words' guest' device t.view w
   kept_guest words words' guest guest' device v w k t = record {
     queue = k.queue;
+    numbered = t.number ∙ k.numbered;
     ring = t.ring;
-    framed = sym (lay.wide words' t.view w t.ring).1 ∙ (lay.wide words v w k.ring).1 ∙ k.framed;
+    framed = sym (lay.wide words'.words t.view w t.ring).1 ∙ (lay.wide words.words v w k.ring).1 ∙ k.framed;
     drives = t.holds;
     script = t.script ∙ k.script;
     chains = k.chains;
@@ -53,8 +55,8 @@ module _ {D E G X C : Type 0} (d : DriverModel D) (e : DeviceModel E) (l : Layou
     room = k.room;
   }
 
-  pub kept_device : (words words' : List ℕ) (guest : G) (device device' : X) (v : DriverView) (w : DeviceView) (by : Attached) → m.holds device w → m.attached device ≡ Some by → IsData by.order → by.from ≡ by.at
-      → IsKept l g m plan q words guest device v w → (t : IsDeviceTurn l m words' v w device device') → IsKept l g m plan q words' guest device' v t.view
+  pub kept_device : (words words' : RingWords) (guest : G) (device device' : X) (v : DriverView) (w : DeviceView) (by : Attached) → m.holds device w → m.attached device ≡ Some by → IsData by.order → by.from ≡ by.at
+      → IsKept l g m plan q words guest device v w → (t : IsDeviceTurn l m words words' v w device device') → IsKept l g m plan q words' guest device' v t.view
   kept_device words words' guest device device' v w by holds is for from k t =
       let old : IsServing (m.begun device) by w.done = dev.serves device w by holds is for in
       let is' : m.attached device' ≡ Some by = t.served.attached ∙ is in
@@ -64,6 +66,7 @@ module _ {D E G X C : Type 0} (d : DriverModel D) (e : DeviceModel E) (l : Layou
       let le : by.at ≤ length (gives w.done) = omega (arith, old.before, from) in
       record {
         queue = k.queue;
+        numbered = t.number ∙ k.numbered;
         ring = t.ring;
         framed = k.framed;
         drives = k.drives;
@@ -78,9 +81,10 @@ module _ {D E G X C : Type 0} (d : DriverModel D) (e : DeviceModel E) (l : Layou
         room = omega (arith, k.room, t.served.room.1);
       }
 
-  pub kept_still : (words : List ℕ) (guest : G) (device device' : X) (v : DriverView) (w : DeviceView) → m.begun device' ≡ m.begun device → m.chain_room device ≤ m.chain_room device' → IsKept l g m plan q words guest device v w → IsKept l g m plan q words guest device' v w
+  pub kept_still : (words : RingWords) (guest : G) (device device' : X) (v : DriverView) (w : DeviceView) → m.begun device' ≡ m.begun device → m.chain_room device ≤ m.chain_room device' → IsKept l g m plan q words guest device v w → IsKept l g m plan q words guest device' v w
   kept_still words guest device device' v w same room k = record {
     queue = k.queue;
+    numbered = k.numbered;
     ring = k.ring;
     framed = k.framed;
     drives = k.drives;
@@ -92,26 +96,26 @@ module _ {D E G X C : Type 0} (d : DriverModel D) (e : DeviceModel E) (l : Layou
     room = omega (arith, k.room, ap length same);
   }
 
-  pub prefix_of : (words : List ℕ) (guest : G) (device : X) (v : DriverView) (w : DeviceView) → IsKept l g m plan q words guest device v w → IsPrefix (takes w.done) (queue_chains plan q)
-  prefix_of words guest device v w k = prefix_through (takes w.done) (offers v.done) (queue_chains plan q) (prefix_take (takes w.done) (offers v.done) (length (takes w.done)) (lay.lists words v w k.ring).taken) (gue.offers guest v (queue_script plan q) k.drives k.script k.queue.plain)
+  pub prefix_of : (words : RingWords) (guest : G) (device : X) (v : DriverView) (w : DeviceView) → IsKept l g m plan q words guest device v w → IsPrefix (takes w.done) (queue_chains plan q)
+  prefix_of words guest device v w k = prefix_through (takes w.done) (offers v.done) (queue_chains plan q) (prefix_take (takes w.done) (offers v.done) (length (takes w.done)) (lay.lists words.words v w k.ring).taken) (gue.offers guest v (queue_script plan q) k.drives k.script k.queue.plain)
 
-  pub taken_of : (words : List ℕ) (guest : G) (device : X) (v : DriverView) (w : DeviceView) (n : ℕ) → IsKept l g m plan q words guest device v w → length (takes w.done) ≡ n → takes w.done ≡ take n (queue_chains plan q)
+  pub taken_of : (words : RingWords) (guest : G) (device : X) (v : DriverView) (w : DeviceView) (n : ℕ) → IsKept l g m plan q words guest device v w → length (takes w.done) ≡ n → takes w.done ≡ take n (queue_chains plan q)
   taken_of words guest device v w n k is = prefix_at (takes w.done) (queue_chains plan q) n (prefix_of words guest device v w k) is
 
-  pub begun_of : (words : List ℕ) (guest : G) (device : X) (v : DriverView) (w : DeviceView) → IsKept l g m plan q words guest device v w → length (m.begun device) ≡ length (takes w.done)
+  pub begun_of : (words : RingWords) (guest : G) (device : X) (v : DriverView) (w : DeviceView) → IsKept l g m plan q words guest device v w → length (m.begun device) ≡ length (takes w.done)
   begun_of words guest device v w k = sym (length-map (m.begun device) (λ b. b.chain)) ∙ ap length k.chains
 
   -- a still end's base is that of the chains taken
-  pub base_of : (words : List ℕ) (end : E) (guest : G) (device : X) (v : DriverView) (w : DeviceView) (n : ℕ) → IsKept l g m plan q words guest device v w → e.stands end w → Rattle.vd_layout.specs.Device.IsStill e end → length (takes w.done) ≡ n
+  pub base_of : (words : RingWords) (end : E) (guest : G) (device : X) (v : DriverView) (w : DeviceView) (n : ℕ) → IsKept l g m plan q words guest device v w → e.stands end w → Rattle.vd_layout.specs.Device.IsStill e end → length (takes w.done) ≡ n
       → record { 0 = e.base end } ≡ base_at e l plan q n
   base_of words end guest device v w n k stands still is =
-      let framed : w.frame ≡ guest_frame l plan q = (lay.wide words v w k.ring).1 ∙ k.framed in
+      let framed : w.frame ≡ guest_frame l plan q = (lay.wide words.words v w k.ring).1 ∙ k.framed in
       ap (λ b. record { 0 = b }) (lay.device_end.based end w stands still ∙ ap (λ f. e.base_of f (takes w.done)) framed ∙ ap (λ cs. e.base_of (guest_frame l plan q) cs) (taken_of words guest device v w n k is))
 
   module _ (k : ℕ) where
     -- the round in which the device is done
-    pub stops : (r : ℕ) (words words1 words2 : List ℕ) (guest guest1 : G) (device device2 device3 : X) (end : E) (p : IsPassing e l g m plan q k r words guest device)
-        → (t : IsGuestTurn l g words1 p.view p.device_view guest guest1) → IsDeviceTurn l m words2 t.view p.device_view device device2 → m.is_done device2 → IsSuspend e m device2 device3 end
+    pub stops : (r : ℕ) (words words1 words2 : RingWords) (guest guest1 : G) (device device2 device3 : X) (end : E) (p : IsPassing e l g m plan q k r words guest device)
+        → (t : IsGuestTurn l g words words1 p.view p.device_view guest guest1) → IsDeviceTurn l m words1 words2 t.view p.device_view device device2 → m.is_done device2 → IsSuspend e m device2 device3 end
         → IsStopped e l g m plan q (k + 1) words2 end guest1 device3
     stops r words words1 words2 guest guest1 device device2 device3 end p t u done s =
         let first : IsKept l g m plan q words1 guest1 device t.view p.device_view = kept_guest words words1 guest guest1 device p.view p.device_view p.kept t in
@@ -139,8 +143,8 @@ module _ {D E G X C : Type 0} (d : DriverModel D) (e : DeviceModel E) (l : Layou
         }
 
     -- the round in which it is not
-    pub goes_on : (r : ℕ) (words words1 words2 : List ℕ) (guest guest1 : G) (device device2 : X) (p : IsPassing e l g m plan q k r words guest device)
-        → (t : IsGuestTurn l g words1 p.view p.device_view guest guest1) → IsDeviceTurn l m words2 t.view p.device_view device device2 → (m.is_done device2 → ⊥)
+    pub goes_on : (r : ℕ) (words words1 words2 : RingWords) (guest guest1 : G) (device device2 : X) (p : IsPassing e l g m plan q k r words guest device)
+        → (t : IsGuestTurn l g words words1 p.view p.device_view guest guest1) → IsDeviceTurn l m words1 words2 t.view p.device_view device device2 → (m.is_done device2 → ⊥)
         → IsPassing e l g m plan q k (r + 1) words2 guest1 device2
     goes_on r words words1 words2 guest guest1 device device2 p t u more =
         let cs : List (List Piece) = queue_chains plan q in
@@ -151,7 +155,7 @@ module _ {D E G X C : Type 0} (d : DriverModel D) (e : DeviceModel E) (l : Layou
         let before : length (m.begun device) ≡ length (gives p.device_view.done) = begun_of words1 guest1 device t.view p.device_view first ∙ first.even in
         let after : length (m.begun device2) ≡ length (takes u.view.done) = begun_of words2 guest1 device2 t.view u.view second in
         let b = bounded (length cs) (queue_epochs plan q) k p.kept.queue.chained p.epoch in
-        let places : Places t.view.frame t.view.done = lay.places words2 t.view u.view u.ring in
+        let places : Places t.view.frame t.view.done = lay.places words2.words t.view u.view u.ring in
         let offered : length (offers t.view.done) ≤ length cs = length_le (offers t.view.done) cs (gue.offers guest1 t.view s t.holds first.script first.queue.plain) in
         let pace : length (m.begun device) + 1 ≤ length (m.begun device2) = elim u.so_far [
           | inl h ↦ absurd (more h)
@@ -189,7 +193,7 @@ module _ {D E G X C : Type 0} (d : DriverModel D) (e : DeviceModel E) (l : Layou
         }
 
     -- a guest's turn on a lane that is still
-    pub waits : (words words1 : List ℕ) (end : E) (guest guest1 : G) (device : X) (p : IsStopped e l g m plan q k words end guest device) → IsGuestTurn l g words1 p.view p.device_view guest guest1 → IsStopped e l g m plan q k words1 end guest1 device
+    pub waits : (words words1 : RingWords) (end : E) (guest guest1 : G) (device : X) (p : IsStopped e l g m plan q k words end guest device) → IsGuestTurn l g words words1 p.view p.device_view guest guest1 → IsStopped e l g m plan q k words1 end guest1 device
     waits words words1 end guest guest1 device p t = record {
       view = t.view;
       device_view = p.device_view;
@@ -204,23 +208,23 @@ module _ {D E G X C : Type 0} (d : DriverModel D) (e : DeviceModel E) (l : Layou
 
 -- ---- a lane by what it holds
 
-pub passing_of : {E G X C : Type 0} (e : DeviceModel E) (l : LayoutModel) (g : GuestParty G) (m : DeviceParty X C) (plan : Plan) (q k r : ℕ) (words : List ℕ) (still : Option E) (guest : G) (device : X)
+pub passing_of : {E G X C : Type 0} (e : DeviceModel E) (l : LayoutModel) (g : GuestParty G) (m : DeviceParty X C) (plan : Plan) (q k r : ℕ) (words : RingWords) (still : Option E) (guest : G) (device : X)
     → is_none still ≡ true → InEpochWith e l g m plan q k r words still guest device → IsPassing e l g m plan q k r words guest device
 passing_of e l g m plan q k r words None guest device is p = p
 passing_of e l g m plan q k r words (Some end) guest device is p = absurd (cc)
 
-pub in_epoch_none : {E G X C : Type 0} (e : DeviceModel E) (l : LayoutModel) (g : GuestParty G) (m : DeviceParty X C) (plan : Plan) (q k r : ℕ) (words : List ℕ) (still : Option E) (guest : G) (device : X)
+pub in_epoch_none : {E G X C : Type 0} (e : DeviceModel E) (l : LayoutModel) (g : GuestParty G) (m : DeviceParty X C) (plan : Plan) (q k r : ℕ) (words : RingWords) (still : Option E) (guest : G) (device : X)
     → is_none still ≡ true → IsPassing e l g m plan q k r words guest device → InEpochWith e l g m plan q k r words still guest device
 in_epoch_none e l g m plan q k r words None guest device is p = p
 in_epoch_none e l g m plan q k r words (Some end) guest device is p = absurd (cc)
 
 module _ {D E G X C : Type 0} (d : DriverModel D) (e : DeviceModel E) (l : LayoutModel) (g : GuestParty G) (m : DeviceParty X C) (lay : IsLawfulLayout d e l) (gue : IsLawfulGuestParty d g) (dev : IsLawfulDeviceParty e m) (plan : Plan) (q k r : ℕ) where
   -- the views at which a lane's guest holds its end
-  pub guest_owes : (words : List ℕ) (still : Option E) (guest : G) (device : X) → InEpochWith e l g m plan q k r words still guest device → (v : DriverView) × (w : DeviceView) × l.ring words v w × g.holds guest v
-  guest_owes words None guest device p = (p.view, p.device_view, p.kept.ring, p.kept.drives)
-  guest_owes words (Some end) guest device p = (p.view, p.device_view, p.kept.ring, p.kept.drives)
+  pub guest_owes : (words : RingWords) (still : Option E) (guest : G) (device : X) → InEpochWith e l g m plan q k r words still guest device → (v : DriverView) × (w : DeviceView) × l.ring words.words v w × g.holds guest v × (words.ring ≡ v.frame.ring)
+  guest_owes words None guest device p = (p.view, p.device_view, p.kept.ring, p.kept.drives, p.kept.numbered ∙ sym (ap (λ (f : Frame). f.ring) p.kept.framed))
+  guest_owes words (Some end) guest device p = (p.view, p.device_view, p.kept.ring, p.kept.drives, p.kept.numbered ∙ sym (ap (λ (f : Frame). f.ring) p.kept.framed))
 
-  pub waits_with : (words words1 : List ℕ) (still : Option E) (guest guest1 : G) (device : X) → is_none still ≡ false → InEpochWith e l g m plan q k r words still guest device
-      → ((v : DriverView) (w : DeviceView) → l.ring words v w → g.holds guest v → IsGuestTurn l g words1 v w guest guest1) → InEpochWith e l g m plan q k (r + 1) words1 still guest1 device
+  pub waits_with : (words words1 : RingWords) (still : Option E) (guest guest1 : G) (device : X) → is_none still ≡ false → InEpochWith e l g m plan q k r words still guest device
+      → ((v : DriverView) (w : DeviceView) → l.ring words.words v w → g.holds guest v → IsGuestTurn l g words words1 v w guest guest1) → InEpochWith e l g m plan q k (r + 1) words1 still guest1 device
   waits_with words words1 None guest guest1 device is p t = absurd (cc)
   waits_with words words1 (Some end) guest guest1 device is p t = waits d e l g m lay gue dev plan q (k + 1) words words1 end guest guest1 device p (t p.view p.device_view p.kept.ring p.kept.drives)

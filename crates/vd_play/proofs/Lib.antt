@@ -8,5 +8,6 @@ pub mod Returns
 pub mod Ending
 pub mod Begin
 pub mod Cut
+pub mod InMap
 pub mod Making
 pub mod Untouched

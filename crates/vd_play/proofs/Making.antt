@@ -6,6 +6,7 @@ use Rattle.vd_model.specs.Chains.{IsChain}
 use Rattle.vd_model.specs.declared.record.Begun.{Begun}
 use Rattle.vd_model.specs.declared.record.Run.{Run}
 use Rattle.vd_model.specs.declared.record.Script.{Script}
+use Rattle.vd_words.specs.Plain.{RingWords}
 use Rattle.vd_ring.specs.declared.frame.Frame.{Frame}
 use Rattle.vd_ring.specs.declared.driver.DriverView.{DriverView}
 use Rattle.vd_ring.specs.declared.device.DeviceView.{DeviceView}
@@ -20,6 +21,7 @@ use Rattle.vd_bus.specs.Scripts.{run_chains}
 use Rattle.vd_machine.specs.File.{Plan}
 use Rattle.vd_machine.specs.Queues.{script, most_pieces, are_scripts, all_lie, few}
 use Rattle.vd_machine.specs.Rings.{is_lawful_size}
+use Rattle.vd_play.proofs.InMap.{chain_in_map}
 use Rattle.vd_machine.proofs.Facts.{one_queue, queue_is_short, queue_has_no_commands, run_at, needs_within}
 use Rattle.vd_play.specs.Journal.{queue_script, queue_chains, guest_frame}
 use Rattle.vd_play.specs.Lane.{IsQueue, IsStopped, HasGiven}
@@ -55,15 +57,15 @@ queue_is l plan q k below are =
             chain = are j e within;
             size = needs_within plan.features plan.packed plan.size (slice_index_or (queue_script plan q).runs j e).chain k.sized r.within;
             length = r.bytes;
-            bounds = tt;
+            bounds = chain_in_map plan.regions (slice_index_or (queue_script plan q).runs j e).chain r.some r.inside;
           });
     }
 
 module _ {D E G X C : Type 0} (d : DriverModel D) (e : DeviceModel E) (l : LayoutModel) (g : GuestParty G) (m : DeviceParty X C) (lay : IsLawfulLayout d e l) (plan : Plan) (q : ℕ) where
-  pub made : (words : List ℕ) (driver : D) (end : E) (guest guest' : G) (device device' : X) → IsQueue l plan q → CanMake l plan.size plan.features → words ≡ replicate (l.width (guest_frame l plan q)) 0 → IsFresh d e l plan.size plan.features false driver end
+  pub made : (words : RingWords) (driver : D) (end : E) (guest guest' : G) (device device' : X) → IsQueue l plan q → CanMake l plan.size plan.features → words.ring ≡ q → words.words ≡ replicate (l.width (guest_frame l plan q)) 0 → IsFresh d e l plan.size plan.features false driver end
       → g.script guest ≡ Some (queue_script plan q) → IsBoot d g driver guest guest' → IsEmptyDevice m device → IsUnchanged m device device' → 2 * (length plan.switches + 2) ≤ m.event_room device' → length (queue_chains plan q) ≤ m.chain_room device'
       → IsStopped e l g m plan q 0 words end guest' device'
-  made words driver end guest guest' device device' queue can is fresh script boot empty same events room =
+  made words driver end guest guest' device device' queue can number is fresh script boot empty same events room =
       let f : Frame = guest_frame l plan q in
       let v : DriverView = fresh_driver f (l.width f) in
       let w : DeviceView = fresh_device f (l.width f) in
@@ -75,6 +77,7 @@ module _ {D E G X C : Type 0} (d : DriverModel D) (e : DeviceModel E) (l : Layou
         device_view = w;
         kept = record {
           queue = queue;
+          numbered = number;
           ring = subst (λ ws. l.ring ws v w) (sym is) (lay.opens plan.size plan.features false f can with);
           framed = refl;
           drives = boot.holds v (queue_script plan q) script (fresh.drives f with) boots;

@@ -1,6 +1,7 @@
 -- When the rounds of an epoch end.
 use Rattle.std.proofs.Common.{◌≡◌, ℕ, suc, zero, ◌+◌, ◌<◌, Bool, true, Option, Some, None, is_some, List, [], ◌∷◌, length, slice_get, arith}
 use Rattle.std.specs.List.{list_all}
+use Rattle.vd_words.specs.Plain.{RingWords}
 use Rattle.vd_layout.specs.Device.{DeviceModel}
 use Rattle.vd_layout.specs.Layout.{LayoutModel}
 use Rattle.vd_bus.specs.Device.{DeviceParty, IsLawfulDeviceParty}
@@ -15,7 +16,7 @@ all_at p [] q x h g = absurd (cc)
 all_at p (y ∷ xs) zero x h g = grind arith
 all_at p (y ∷ xs) (suc q) x h g = all_at p xs q x (grind arith) g
 
-module _ {E G X C : Type 0} (e : DeviceModel E) (l : LayoutModel) (g : GuestParty G) (m : DeviceParty X C) (dev : IsLawfulDeviceParty e m) (plan : Plan) (q k r : ℕ) (words : List ℕ) where
+module _ {E G X C : Type 0} (e : DeviceModel E) (l : LayoutModel) (g : GuestParty G) (m : DeviceParty X C) (dev : IsLawfulDeviceParty e m) (plan : Plan) (q k r : ℕ) (words : RingWords) where
   pub stopped_some : (still : Option E) (guest : G) (device : X) → is_some still ≡ true → InEpochWith e l g m plan q k r words still guest device → StoppedWith e l g m plan q (k + 1) words still guest device
   stopped_some None guest device is p = absurd (cc)
   stopped_some (Some end) guest device is p = p

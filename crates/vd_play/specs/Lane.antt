@@ -1,6 +1,7 @@
 -- What holds of one queue's lane while a machine is played.
 use Rattle.std.specs.Prelude.{◌≡◌, ℕ, ◌<◌, ◌≤◌, ◌+◌, Option, Some, None, List, [], ◌∷◌, ◌++◌, length, take, flat_map, slice_get}
 use Rattle.std.specs.List.{All}
+use Rattle.vd_words.specs.Plain.{RingWords}
 use Rattle.vd_ring.specs.declared.driver.DriverView.{DriverView}
 use Rattle.vd_ring.specs.declared.device.DeviceView.{DeviceView}
 use Rattle.vd_ring.specs.declared.frame.Used.{Used}
@@ -32,9 +33,11 @@ HasGiven lens u = slice_get lens u.number ≡ Some u.len
 
 -- between two turns: the chains begun are those taken from the guest's ring, each is given, and what was given has the length that
 -- the journal has for it
-pub record IsKept {G X C : Type 0} (l : LayoutModel) (g : GuestParty G) (m : DeviceParty X C) (plan : Plan) (q : ℕ) (words : List ℕ) (guest : G) (device : X) (v : DriverView) (w : DeviceView) : Type 0 where
+pub record IsKept {G X C : Type 0} (l : LayoutModel) (g : GuestParty G) (m : DeviceParty X C) (plan : Plan) (q : ℕ) (words : RingWords) (guest : G) (device : X) (v : DriverView) (w : DeviceView) : Type 0 where
   pub queue : IsQueue l plan q
-  pub ring : l.ring words v w
+  -- the words are those of the ring with the queue's number
+  pub numbered : words.ring ≡ q
+  pub ring : l.ring words.words v w
   pub framed : v.frame ≡ guest_frame l plan q
   pub drives : g.holds guest v
   pub script : g.script guest ≡ Some (queue_script plan q)
@@ -53,7 +56,7 @@ abbrev pub begun_at : Plan → ℕ → ℕ → ℕ
 begun_at plan q k = begun_before (queue_epochs plan q) k
 
 -- the device isn't attached before epoch k, and the lane keeps the ring's end
-pub record IsStopped {E G X C : Type 0} (e : DeviceModel E) (l : LayoutModel) (g : GuestParty G) (m : DeviceParty X C) (plan : Plan) (q k : ℕ) (words : List ℕ) (end : E) (guest : G) (device : X) : Type 0 where
+pub record IsStopped {E G X C : Type 0} (e : DeviceModel E) (l : LayoutModel) (g : GuestParty G) (m : DeviceParty X C) (plan : Plan) (q k : ℕ) (words : RingWords) (end : E) (guest : G) (device : X) : Type 0 where
   pub view : DriverView
   pub device_view : DeviceView
   pub kept : IsKept l g m plan q words guest device view device_view
@@ -65,7 +68,7 @@ pub record IsStopped {E G X C : Type 0} (e : DeviceModel E) (l : LayoutModel) (g
   pub room : length (queue_epochs plan q) + length (queue_epochs plan q) ≤ m.event_room device + k + k
 
 -- the device is attached to the guest's ring in epoch k, and r rounds were made
-pub record IsPassing {E G X C : Type 0} (e : DeviceModel E) (l : LayoutModel) (g : GuestParty G) (m : DeviceParty X C) (plan : Plan) (q k r : ℕ) (words : List ℕ) (guest : G) (device : X) : Type 0 where
+pub record IsPassing {E G X C : Type 0} (e : DeviceModel E) (l : LayoutModel) (g : GuestParty G) (m : DeviceParty X C) (plan : Plan) (q k r : ℕ) (words : RingWords) (guest : G) (device : X) : Type 0 where
   pub view : DriverView
   pub device_view : DeviceView
   pub kept : IsKept l g m plan q words guest device view device_view
@@ -82,19 +85,19 @@ pub record IsPassing {E G X C : Type 0} (e : DeviceModel E) (l : LayoutModel) (g
   pub pace : begun_at plan q k + r ≤ length (m.begun device)
 
 -- before epoch k, the lane holding this end or none
-abbrev pub StoppedWith : {E G X C : Type 0} → DeviceModel E → LayoutModel → GuestParty G → DeviceParty X C → Plan → ℕ → ℕ → List ℕ → Option E → G → X → Type 0
+abbrev pub StoppedWith : {E G X C : Type 0} → DeviceModel E → LayoutModel → GuestParty G → DeviceParty X C → Plan → ℕ → ℕ → RingWords → Option E → G → X → Type 0
 StoppedWith e l g m plan q k words None guest device = ⊥
 StoppedWith e l g m plan q k words (Some end) guest device = IsStopped e l g m plan q k words end guest device
 
 -- in epoch k after r rounds, the lane holding this end or none
-abbrev pub InEpochWith : {E G X C : Type 0} → DeviceModel E → LayoutModel → GuestParty G → DeviceParty X C → Plan → ℕ → ℕ → ℕ → List ℕ → Option E → G → X → Type 0
+abbrev pub InEpochWith : {E G X C : Type 0} → DeviceModel E → LayoutModel → GuestParty G → DeviceParty X C → Plan → ℕ → ℕ → ℕ → RingWords → Option E → G → X → Type 0
 InEpochWith e l g m plan q k r words None guest device = IsPassing e l g m plan q k r words guest device
 InEpochWith e l g m plan q k r words (Some end) guest device = IsStopped e l g m plan q (k + 1) words end guest device
 
 -- the lane is still before epoch k
 abbrev pub Stopped : {E G X C : Type 0} → DeviceModel E → LayoutModel → GuestParty G → DeviceParty X C → Plan → ℕ → ℕ → Lane E → G → X → Type 0
-Stopped e l g m plan q k lane guest device = StoppedWith e l g m plan q k lane.words.words lane.still guest device
+Stopped e l g m plan q k lane guest device = StoppedWith e l g m plan q k lane.words lane.still guest device
 
 -- the lane is passing in epoch k, or has come to its end
 abbrev pub InEpoch : {E G X C : Type 0} → DeviceModel E → LayoutModel → GuestParty G → DeviceParty X C → Plan → ℕ → ℕ → ℕ → Lane E → G → X → Type 0
-InEpoch e l g m plan q k r lane guest device = InEpochWith e l g m plan q k r lane.words.words lane.still guest device
+InEpoch e l g m plan q k r lane guest device = InEpochWith e l g m plan q k r lane.words lane.still guest device

@@ -13,8 +13,8 @@ use vd_words::PlainWords;
 
 /// A guest's turn: whole operations, unless it is done.
 pub(crate) fn guest_turn<L: Layout, G: Guest<L>>(words: &mut PlainWords, guest: &mut G)
-    requires { (v : DriverView) × (w : DeviceView) × L.layout.ring words.old.words v w × G.party.holds guest.old v }
-    ensures { (v : DriverView) (w : DeviceView) → L.layout.ring words.old.words v w → G.party.holds guest.old v → IsGuestTurn L.layout G.party words.new.words v w guest.old guest.new }
+    requires { (v : DriverView) × (w : DeviceView) × L.layout.ring words.old.words v w × G.party.holds guest.old v × (words.old.ring ≡ v.frame.ring) }
+    ensures { (v : DriverView) (w : DeviceView) → L.layout.ring words.old.words v w → G.party.holds guest.old v → IsGuestTurn L.layout G.party words.old words.new v w guest.old guest.new }
 {
     if !guest.done() {
         let mut port = words.port();
@@ -24,8 +24,8 @@ pub(crate) fn guest_turn<L: Layout, G: Guest<L>>(words: &mut PlainWords, guest: 
 
 /// A device's turn: whole operations, unless it is done.
 pub(crate) fn device_turn<L: Layout, V: Device<L>>(words: &mut PlainWords, device: &mut V)
-    requires { (v : DriverView) × (w : DeviceView) × L.layout.ring words.old.words v w × V.party.holds device.old w }
-    ensures { (v : DriverView) (w : DeviceView) → L.layout.ring words.old.words v w → V.party.holds device.old w → IsDeviceTurn L.layout V.party words.new.words v w device.old device.new }
+    requires { (v : DriverView) × (w : DeviceView) × L.layout.ring words.old.words v w × V.party.holds device.old w × (words.old.ring ≡ v.frame.ring) }
+    ensures { (v : DriverView) (w : DeviceView) → L.layout.ring words.old.words v w → V.party.holds device.old w → IsDeviceTurn L.layout V.party words.old words.new v w device.old device.new }
 {
     if !device.done() {
         let mut port = words.port();

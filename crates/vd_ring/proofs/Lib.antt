@@ -10,3 +10,5 @@ pub mod DeviceAcks
 pub mod DeviceBag
 pub mod ControlWordsStand
 pub mod Accounting
+pub mod Rooms
+pub mod OneEnd

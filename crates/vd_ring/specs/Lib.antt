@@ -4,6 +4,7 @@ pub mod Batches
 pub mod Control
 pub mod ControlLaws
 pub mod Bag
+pub mod OneEnd
 pub mod Account
 pub mod Places
 pub mod Lists

@@ -62,6 +62,7 @@ impl PlainWords {
         self.words.len() as u32
     }
 
+    #[inline(always)]
     fn access(&mut self, a: Access) -> u64
         requires { place_of a < length self.old.words }
         ensures words { self.new ≡ record { ring = self.old.ring; words = written self.old.words a } }
@@ -115,6 +116,7 @@ impl Port for PlainPort<'_> {
         self.at.count()
     }
 
+    #[inline(always)]
     fn access(&mut self, op: Op, a: Access) -> u64 {
         let _ = op;
         self.at.access(a)

@@ -6,8 +6,8 @@ use Rattle.vd_layout.specs.DeviceFinish.{DeviceGoing, device_goes, device_ends}
 use Rattle.vd_layout.proofs.finish.finish_device.Goals as goal
 
 -- the port is the end's own at the view to which it came
-pub step-requires-clause-own : goal.step-requires-clause-own
-step-requires-clause-own g c =
+pub step_device-requires-clause-own : goal.step_device-requires-clause-own
+step_device-requires-clause-own g c =
     let v : DeviceView = c.requires.own.0 in
     let at = c.loop-end.invariant v c.requires.own.1 c.requires.own.2 in
     (at.view, at.stands, own_run g.P.Port.port g.E.DeviceEnd.device.side at.made c.args.port.now c.loop-end.port v at.view c.requires.own.2 at.run)
@@ -16,15 +16,15 @@ pub loop-end-smaller : goal.loop-end-smaller
 loop-end-smaller g c =
     let v : DeviceView = c.requires.own.0 in
     let at = c.loop-end.invariant v c.requires.own.1 c.requires.own.2 in
-    (c.step.ensures at.view at.stands (own_run g.P.Port.port g.E.DeviceEnd.device.side at.made c.args.port.now c.loop-end.port v at.view c.requires.own.2 at.run)).left
+    (c.step_device.ensures at.view at.stands (own_run g.P.Port.port g.E.DeviceEnd.device.side at.made c.args.port.now c.loop-end.port v at.view c.requires.own.2 at.run)).1.left
 
 pub loop-end-preserved : goal.loop-end-preserved
 loop-end-preserved g c = λ v stands own.
     let at = c.loop-end.invariant v stands own in
     let busy : g.E.DeviceEnd.device.begun c.loop-end.end ≡ DeviceOp.idle → ⊥ = search rules in
-    let s = c.step.ensures at.view at.stands (own_run g.P.Port.port g.E.DeviceEnd.device.side at.made c.args.port.now c.loop-end.port v at.view own at.run) in
-    subst (λ x. DeviceGoing g.P.Port.port g.E.DeviceEnd.device (g.E.DeviceEnd.device.begun c.args.end.now) c.args.port.now v c.step.new.port c.step.new.self x) (sym c.later_device-answer.ensures)
-    (device_goes g.P.Port.port g.E.DeviceEnd.device g.met.E.DeviceEnd.device_lawful (g.E.DeviceEnd.device.begun c.args.end.now) c.args.port.now c.loop-end.port c.step.new.port v c.loop-end.end c.step.new.self c.loop-end.answer c.step.result c.requires.begun at busy s)
+    let s = c.step_device.ensures at.view at.stands (own_run g.P.Port.port g.E.DeviceEnd.device.side at.made c.args.port.now c.loop-end.port v at.view own at.run) in
+    subst (λ x. DeviceGoing g.P.Port.port g.E.DeviceEnd.device (g.E.DeviceEnd.device.begun c.args.end.now) c.args.port.now v c.step_device.new.port c.step_device.new.end x) (sym s.2)
+    (device_goes g.P.Port.port g.E.DeviceEnd.device g.met.E.DeviceEnd.device_lawful (g.E.DeviceEnd.device.begun c.args.end.now) c.args.port.now c.loop-end.port c.step_device.new.port v c.loop-end.end c.step_device.new.end c.loop-end.answer s.0 c.requires.begun at busy s.1)
 
 pub returns : goal.returns
 returns g c = λ v stands own.

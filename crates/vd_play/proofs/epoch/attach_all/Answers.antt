@@ -32,11 +32,11 @@ overflow_sub-count g c =
     let to = stop_is (view c.args.m.now) i c.args.epoch c.chain_count.result c.stop_of-stop.result c.as_slice.result.now c.index-as_slice-i.result c.as_slice.ensures hs chains (c.stop_of-stop.ensures ∙ ap (λ ss. stop_of ss c.args.epoch c.chain_count.result) c.as_slice-in-loop-i.ensures) c.requires.epoch in
     let begun : length (g.V.Device.party.begun c.index_mut-device.result.now) ≡ c.len.result = sym (c.len.ensures.value ∙ ap length c.journal.ensures.begun) in
     let hl = (at_index c.loop-i.floor.lanes.items i (omega arith)).1 in
-    let a = asks g.L.Driver.DriverEnd.driver g.L.Device.DeviceEnd.device g.L.Layout.layout g.G.Guest.party g.V.Device.party g.met.L.Layout.lawful (g.met.G.Guest g.world.𝓛 g.world.𝓜 g.world.𝓡 ((λ s x. x), (λ x. x), (λ x. x), λ x. x)).lawful (g.met.V.Device g.world.𝓛 g.world.𝓜 g.world.𝓡 ((λ s x. x), (λ x. x), (λ x. x), λ x. x)).lawful (view c.args.m.now) i c.args.epoch c.stop_of-stop.result _ _ hg.0 c.index_mut-device.result.now to.0 to.1 (stage_read _ _ i _ _ _ _ _ _ c.loop-i.invariant.each hl hg.1 hx) in
+    let a = asks g.L.Driver.DriverEnd.driver g.L.Device.DeviceEnd.device g.L.Layout.layout g.G.Guest.party g.V.Device.party g.met.L.Layout.lawful g.met.G.Guest.lawful g.met.V.Device.lawful (view c.args.m.now) i c.args.epoch c.stop_of-stop.result _ _ hg.0 c.index_mut-device.result.now to.0 to.1 (stage_read _ _ i _ _ _ _ _ _ c.loop-i.invariant.each hl hg.1 hx) in
     omega (arith, a.0, begun)
 
-pub attach-requires-clause-can : goal.attach-requires-clause-can
-attach-requires-clause-can g c κs within =
+pub attach-requires : goal.attach-requires
+attach-requires g c =
     let i = c.loop-i.i in
     let f = c.loop-i.invariant.parties in
     let below : i < length c.args.m.now.queues = omega (arith, c.loop-i.invariant.many, c.requires.many) in
@@ -47,8 +47,8 @@ attach-requires-clause-can g c κs within =
     let to = stop_is (view c.args.m.now) i c.args.epoch c.chain_count.result c.stop_of-stop.result c.as_slice.result.now c.index-as_slice-i.result c.as_slice.ensures hs chains (c.stop_of-stop.ensures ∙ ap (λ ss. stop_of ss c.args.epoch c.chain_count.result) c.as_slice-in-loop-i.ensures) c.requires.epoch in
     let begun : length (g.V.Device.party.begun c.index_mut-device.result.now) ≡ c.len.result = sym (c.len.ensures.value ∙ ap length c.journal.ensures.begun) in
     let hl = slice_get_read c.loop-i.floor.lanes.items _ i c.index_mut.result.now refl (omega arith) c.index_mut.ensures.value in
-    let a = asks g.L.Driver.DriverEnd.driver g.L.Device.DeviceEnd.device g.L.Layout.layout g.G.Guest.party g.V.Device.party g.met.L.Layout.lawful (g.met.G.Guest g.world.𝓛 g.world.𝓜 g.world.𝓡 ((λ s x. x), (λ x. x), (λ x. x), λ x. x)).lawful (g.met.V.Device g.world.𝓛 g.world.𝓜 g.world.𝓡 ((λ s x. x), (λ x. x), (λ x. x), λ x. x)).lawful (view c.args.m.now) i c.args.epoch c.stop_of-stop.result _ _ hg.0 c.index_mut-device.result.now to.0 to.1 (stage_read _ _ i _ _ _ _ _ _ c.loop-i.invariant.each hl hg.1 hx) in
-    subst (λ n. CanAttach g.L.Device.DeviceEnd.device g.V.Device.party i (c.stop_of-stop.result - n) c.index_mut.result.now.still c.index_mut-device.result.now) begun a.1
+    let a = asks g.L.Driver.DriverEnd.driver g.L.Device.DeviceEnd.device g.L.Layout.layout g.G.Guest.party g.V.Device.party g.met.L.Layout.lawful g.met.G.Guest.lawful g.met.V.Device.lawful (view c.args.m.now) i c.args.epoch c.stop_of-stop.result _ _ hg.0 c.index_mut-device.result.now to.0 to.1 (stage_read _ _ i _ _ _ _ _ _ c.loop-i.invariant.each hl hg.1 hx) in
+    record { can = subst (λ n. CanAttach g.L.Device.DeviceEnd.device g.V.Device.party i (c.stop_of-stop.result - n) c.index_mut.result.now.still c.index_mut-device.result.now) begun a.1 }
 
 pub returns-in_err-attach-clause-keeps : goal.returns-in_err-attach-clause-keeps
 returns-in_err-attach-clause-keeps g c =
@@ -69,9 +69,9 @@ returns-in_err-attach-clause-cut g c =
     let hg = at_index c.loop-i.bench.guests.items i (omega (arith, f.guests)) in
     let hl = slice_get_read c.loop-i.floor.lanes.items _ i c.index_mut.result.now refl (omega arith) c.index_mut.ensures.value in
     if_err_any _ _ (λ z. all_but_one _ _ _ i _ _ _ c.attach.new.lane hg.0 c.attach.new.device hg.1 c.loop-i.invariant.each
-    (λ q a b x p. cut_epoch g.L.Driver.DriverEnd.driver g.L.Device.DeviceEnd.device g.L.Layout.layout g.G.Guest.party g.V.Device.party g.met.L.Layout.lawful (g.met.G.Guest g.world.𝓛 g.world.𝓜 g.world.𝓡 ((λ s x. x), (λ x. x), (λ x. x), λ x. x)).lawful (g.met.V.Device g.world.𝓛 g.world.𝓜 g.world.𝓡 ((λ s x. x), (λ x. x), (λ x. x), λ x. x)).lawful (view c.args.m.now) q c.args.epoch 0 a.words.words a.still b x p)
-    (λ q a b x p. cut_stopped g.L.Driver.DriverEnd.driver g.L.Device.DeviceEnd.device g.L.Layout.layout g.G.Guest.party g.V.Device.party g.met.L.Layout.lawful (g.met.G.Guest g.world.𝓛 g.world.𝓜 g.world.𝓡 ((λ s x. x), (λ x. x), (λ x. x), λ x. x)).lawful (g.met.V.Device g.world.𝓛 g.world.𝓜 g.world.𝓡 ((λ s x. x), (λ x. x), (λ x. x), λ x. x)).lawful (view c.args.m.now) q c.args.epoch a.words.words a.still b x p)
-    (cut_refused g.L.Driver.DriverEnd.driver g.L.Device.DeviceEnd.device g.L.Layout.layout g.G.Guest.party g.V.Device.party g.met.L.Layout.lawful (g.met.G.Guest g.world.𝓛 g.world.𝓜 g.world.𝓡 ((λ s x. x), (λ x. x), (λ x. x), λ x. x)).lawful (g.met.V.Device g.world.𝓛 g.world.𝓜 g.world.𝓡 ((λ s x. x), (λ x. x), (λ x. x), λ x. x)).lawful (view c.args.m.now) i c.args.epoch _ _ hg.0 _ c.attach.new.device c.in_err-attach.ensures.err.2 (stage_read _ _ i _ _ _ _ _ _ c.loop-i.invariant.each hl hg.1 hx)))
+    (λ q a b x p. cut_epoch g.L.Driver.DriverEnd.driver g.L.Device.DeviceEnd.device g.L.Layout.layout g.G.Guest.party g.V.Device.party g.met.L.Layout.lawful g.met.G.Guest.lawful g.met.V.Device.lawful (view c.args.m.now) q c.args.epoch 0 a.words a.still b x p)
+    (λ q a b x p. cut_stopped g.L.Driver.DriverEnd.driver g.L.Device.DeviceEnd.device g.L.Layout.layout g.G.Guest.party g.V.Device.party g.met.L.Layout.lawful g.met.G.Guest.lawful g.met.V.Device.lawful (view c.args.m.now) q c.args.epoch a.words a.still b x p)
+    (cut_refused g.L.Driver.DriverEnd.driver g.L.Device.DeviceEnd.device g.L.Layout.layout g.G.Guest.party g.V.Device.party g.met.L.Layout.lawful g.met.G.Guest.lawful g.met.V.Device.lawful (view c.args.m.now) i c.args.epoch _ _ hg.0 _ c.attach.new.device c.in_err-attach.ensures.err.2 (stage_read _ _ i _ _ _ _ _ _ c.loop-i.invariant.each hl hg.1 hx)))
 
 pub returns-in_err-attach-clause-fault : goal.returns-in_err-attach-clause-fault
 returns-in_err-attach-clause-fault g c =
@@ -108,7 +108,7 @@ loop-i-preserved g c =
       keeps = keeps;
       faults = faults_set m c.args.bench.now c.loop-i.bench new i _ c.attach.new.device c.loop-i.invariant.faults refl hx c.in_ok-attach.ensures.faults;
       each = stage_device _ _ i _ _ _ c.attach.new.lane hg.0 c.attach.new.device hg.1 c.loop-i.invariant.each
-          (begins g.L.Driver.DriverEnd.driver g.L.Device.DeviceEnd.device g.L.Layout.layout g.G.Guest.party g.V.Device.party g.met.L.Layout.lawful (g.met.G.Guest g.world.𝓛 g.world.𝓜 g.world.𝓡 ((λ s x. x), (λ x. x), (λ x. x), λ x. x)).lawful (g.met.V.Device g.world.𝓛 g.world.𝓜 g.world.𝓡 ((λ s x. x), (λ x. x), (λ x. x), λ x. x)).lawful (view c.args.m.now) i c.args.epoch c.stop_of-stop.result _ _ _ _ hg.0 _ c.attach.new.device to.0 to.1 (ap (λ w. w.words) c.attach.ensures.words) ok.0
+          (begins g.L.Driver.DriverEnd.driver g.L.Device.DeviceEnd.device g.L.Layout.layout g.G.Guest.party g.V.Device.party g.met.L.Layout.lawful g.met.G.Guest.lawful g.met.V.Device.lawful (view c.args.m.now) i c.args.epoch c.stop_of-stop.result _ _ _ _ hg.0 _ c.attach.new.device to.0 to.1 c.attach.ensures.words ok.0
           (λ end at. subst (λ k. IsAttach g.L.Device.DeviceEnd.device m (pass_order g.L.Device.DeviceEnd.device (view c.args.m.now) i (c.stop_of-stop.result - k) end) None end c.index_mut-device.result.now c.attach.new.device) (sym begun) (ok.1 end at))
           (stage_read _ _ i _ _ _ _ _ _ c.loop-i.invariant.each hl hg.1 hx));
     }

@@ -18,7 +18,7 @@ returns-then-done-clause-rounds g c = λ plan q k r h.
     let t = c.guest_turn.ensures p.view p.device_view p.kept.ring p.kept.drives in
     let u = c.device_turn.ensures t.view p.device_view t.ring p.holds in
     let done : g.V.Device.party.is_done c.device_turn.new.device = search rules in
-    stops g.L.Driver.DriverEnd.driver g.L.Device.DeviceEnd.device g.L.Layout.layout g.G.Guest.party g.V.Device.party g.met.L.Layout.lawful (g.met.G.Guest g.world.𝓛 g.world.𝓜 g.world.𝓡 ((λ s x. x), (λ x. x), (λ x. x), λ x. x)).lawful (g.met.V.Device g.world.𝓛 g.world.𝓜 g.world.𝓡 ((λ s x. x), (λ x. x), (λ x. x), λ x. x)).lawful plan q k r _ _ _ _ _ _ _ _ _ p t u done c.suspend.ensures
+    stops g.L.Driver.DriverEnd.driver g.L.Device.DeviceEnd.device g.L.Layout.layout g.G.Guest.party g.V.Device.party g.met.L.Layout.lawful g.met.G.Guest.lawful g.met.V.Device.lawful plan q k r _ _ _ _ _ _ _ _ _ p t u done c.suspend.ensures
 
 pub returns-else-done-clause-rounds : goal.returns-else-done-clause-rounds
 returns-else-done-clause-rounds g c = λ plan q k r h.
@@ -27,9 +27,9 @@ returns-else-done-clause-rounds g c = λ plan q k r h.
     let t = c.guest_turn.ensures p.view p.device_view p.kept.ring p.kept.drives in
     let u = c.device_turn.ensures t.view p.device_view t.ring p.holds in
     let more : g.V.Device.party.is_done c.device_turn.new.device → ⊥ = λ x. cc (c.done.ensures.1 x, c.if-done.false) in
-    in_epoch_none g.L.Device.DeviceEnd.device g.L.Layout.layout g.G.Guest.party g.V.Device.party plan q k _ _ _ _ _ none (goes_on g.L.Driver.DriverEnd.driver g.L.Device.DeviceEnd.device g.L.Layout.layout g.G.Guest.party g.V.Device.party g.met.L.Layout.lawful (g.met.G.Guest g.world.𝓛 g.world.𝓜 g.world.𝓡 ((λ s x. x), (λ x. x), (λ x. x), λ x. x)).lawful (g.met.V.Device g.world.𝓛 g.world.𝓜 g.world.𝓡 ((λ s x. x), (λ x. x), (λ x. x), λ x. x)).lawful plan q k r _ _ _ _ _ _ _ p t u more)
+    in_epoch_none g.L.Device.DeviceEnd.device g.L.Layout.layout g.G.Guest.party g.V.Device.party plan q k _ _ _ _ _ none (goes_on g.L.Driver.DriverEnd.driver g.L.Device.DeviceEnd.device g.L.Layout.layout g.G.Guest.party g.V.Device.party g.met.L.Layout.lawful g.met.G.Guest.lawful g.met.V.Device.lawful plan q k r _ _ _ _ _ _ _ p t u more)
 
 pub returns-else-is_none-clause-rounds : goal.returns-else-is_none-clause-rounds
 returns-else-is_none-clause-rounds g c = λ plan q k r h.
     let some : is_none c.args.lane.now.still ≡ false = search rules in
-    waits_with g.L.Driver.DriverEnd.driver g.L.Device.DeviceEnd.device g.L.Layout.layout g.G.Guest.party g.V.Device.party g.met.L.Layout.lawful (g.met.G.Guest g.world.𝓛 g.world.𝓜 g.world.𝓡 ((λ s x. x), (λ x. x), (λ x. x), λ x. x)).lawful (g.met.V.Device g.world.𝓛 g.world.𝓜 g.world.𝓡 ((λ s x. x), (λ x. x), (λ x. x), λ x. x)).lawful plan q k r _ _ _ _ _ _ some h c.guest_turn.ensures
+    waits_with g.L.Driver.DriverEnd.driver g.L.Device.DeviceEnd.device g.L.Layout.layout g.G.Guest.party g.V.Device.party g.met.L.Layout.lawful g.met.G.Guest.lawful g.met.V.Device.lawful plan q k r _ _ _ _ _ _ some h c.guest_turn.ensures

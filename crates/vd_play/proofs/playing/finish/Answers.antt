@@ -12,8 +12,8 @@ pub returns-clause-lanes : goal.returns-clause-lanes
 returns-clause-lanes g c = λ plan start.
     stage_end _ _ c.loop-i.i _ _ _ (omega arith) (c.loop-i.invariant.each plan start)
 
-pub end_lane-requires-after_bounds : goal.end_lane-requires-after_bounds
-end_lane-requires-after_bounds g c κs within =
+pub end_lane-requires : goal.end_lane-requires
+end_lane-requires g c =
     let r = c.requires.lanes in
     let i = c.loop-i.i in
     let f = c.loop-i.invariant.parties in

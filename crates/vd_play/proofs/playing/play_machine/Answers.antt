@@ -24,13 +24,13 @@ returns-in_err-attach_all-clause-cut g c =
     (λ z. each_queue (IsCut g.L.Device.DeviceEnd.device g.L.Layout.layout g.G.Guest.party g.V.Device.party (view c.args.m.now)) (length c.args.m.now.queues) _ _ _ (c.attach_all.ensures.many ∙ c.loop-epoch.invariant.many) c.in_err-attach_all.ensures.cut)
 
 pub run_epoch-requires-clause-parties : goal.run_epoch-requires-clause-parties
-run_epoch-requires-clause-parties g c κs within =
+run_epoch-requires-clause-parties g c =
     let n : ℕ = length c.args.m.now.queues in
     let many : length c.attach_all.new.floor.lanes.items ≡ n = c.attach_all.ensures.many ∙ c.loop-epoch.invariant.many in
     subst (λ j. HasLanes j c.attach_all.new.bench) (sym many) (lanes_kept g.V.Device.party n c.loop-epoch.bench c.attach_all.new.bench n c.attach_all.ensures.keeps c.loop-epoch.invariant.parties)
 
 pub run_epoch-requires-clause-lanes : goal.run_epoch-requires-clause-lanes
-run_epoch-requires-clause-lanes g c κs within = (view c.args.m.now, c.loop-epoch.epoch, c.in_ok-attach_all.ensures.lanes)
+run_epoch-requires-clause-lanes g c = (view c.args.m.now, c.loop-epoch.epoch, c.in_ok-attach_all.ensures.lanes)
 
 pub loop-epoch-preserved : goal.loop-epoch-preserved
 loop-epoch-preserved g c =
@@ -48,7 +48,7 @@ loop-epoch-preserved g c =
     }
 
 pub finish-requires-clause-lanes : goal.finish-requires-clause-lanes
-finish-requires-clause-lanes g c κs within =
+finish-requires-clause-lanes g c =
     let end : c.loop-epoch.epoch ≡ length c.args.m.now.switches + 2 = omega arith in
     (view c.args.m.now, all_ended g.L.Device.DeviceEnd.device g.L.Layout.layout g.G.Guest.party g.V.Device.party (view c.args.m.now) c.loop-epoch.epoch _ _ _ end c.loop-epoch.invariant.each)
 

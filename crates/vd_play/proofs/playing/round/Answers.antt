@@ -8,8 +8,8 @@ use Rattle.vd_play.proofs.Benches.{keeps_set, faults_set, lanes_kept}
 use Rattle.vd_play.proofs.Each.{stage_end, stage_read, stage_write}
 use Rattle.vd_play.proofs.playing.round.Goals as goal
 
-pub lane_round-requires-after_bounds : goal.lane_round-requires-after_bounds
-lane_round-requires-after_bounds g c κs within =
+pub lane_round-requires : goal.lane_round-requires
+lane_round-requires g c =
     let r = c.requires.lanes in
     let i = c.loop-i.i in
     let f = c.loop-i.invariant.parties in

@@ -10,11 +10,11 @@ returns-then-is_still-clause-lanes g c = λ plan k start.
     record {
       at = λ q l b x hl hb hx.
           let still : is_some l.still ≡ true = all_at (λ (z : _). is_some z.still) c.loop-turn.floor.lanes.items q l all hl in
-          stopped_some _ _ _ _ (g.met.V.Device g.world.𝓛 g.world.𝓜 g.world.𝓡 ((λ s x. x), (λ x. x), (λ x. x), λ x. x)).lawful _ _ _ _ _ _ _ _ still ((c.loop-turn.invariant.each plan k start).at q l b x hl hb hx);
+          stopped_some _ _ _ _ g.met.V.Device.lawful _ _ _ _ _ _ _ _ still ((c.loop-turn.invariant.each plan k start).at q l b x hl hb hx);
     }
 
 pub round-requires-clause-lanes : goal.round-requires-clause-lanes
-round-requires-clause-lanes g c κs within = let r = c.requires.lanes in (r.0, r.1, c.loop-turn.turn, c.loop-turn.invariant.each r.0 r.1 r.2)
+round-requires-clause-lanes g c = let r = c.requires.lanes in (r.0, r.1, c.loop-turn.turn, c.loop-turn.invariant.each r.0 r.1 r.2)
 
 pub loop-turn-preserved : goal.loop-turn-preserved
 loop-turn-preserved g c =
@@ -32,5 +32,5 @@ loop-turn-preserved g c =
 
 pub returns-clause-lanes : goal.returns-clause-lanes
 returns-clause-lanes g c = λ plan k start. record {
-  at = λ q l b x hl hb hx. stopped_late _ _ _ _ (g.met.V.Device g.world.𝓛 g.world.𝓜 g.world.𝓡 ((λ s x. x), (λ x. x), (λ x. x), λ x. x)).lawful _ _ _ _ _ _ _ _ (omega arith) ((c.loop-turn.invariant.each plan k start).at q l b x hl hb hx);
+  at = λ q l b x hl hb hx. stopped_late _ _ _ _ g.met.V.Device.lawful _ _ _ _ _ _ _ _ (omega arith) ((c.loop-turn.invariant.each plan k start).at q l b x hl hb hx);
 }

@@ -11,7 +11,7 @@ use Rattle.vd_play.proofs.Untouched.{untouched_start, untouched_set, each_none, 
 use Rattle.vd_play.proofs.preparing.prepare.Goals as goal
 
 pub returns-in_err-lanes-clause-untouched : goal.returns-in_err-lanes-clause-untouched
-returns-in_err-lanes-clause-untouched g c = untouched_start g.L.Driver.DriverEnd.driver g.G.Guest.party g.V.Device.party (g.met.G.Guest g.world.𝓛 g.world.𝓜 g.world.𝓡 ((λ s x. x), (λ x. x), (λ x. x), λ x. x)).lawful c.args.bench.now c.requires.empty
+returns-in_err-lanes-clause-untouched g c = untouched_start g.L.Driver.DriverEnd.driver g.G.Guest.party g.V.Device.party g.met.G.Guest.lawful c.args.bench.now c.requires.empty
 
 pub loop-i-init : goal.loop-i-init
 loop-i-init g c = record {
@@ -19,12 +19,12 @@ loop-i-init g c = record {
   room = (c.in_ok-lanes.ensures.len, omega (arith, c.in_ok-lanes.ensures.capacity, c.len.ensures));
   parties = c.requires.parties;
   keeps = keeps_none g.V.Device.party 0 c.args.bench.now;
-  untouched = untouched_start g.L.Driver.DriverEnd.driver g.G.Guest.party g.V.Device.party (g.met.G.Guest g.world.𝓛 g.world.𝓜 g.world.𝓡 ((λ s x. x), (λ x. x), (λ x. x), λ x. x)).lawful c.args.bench.now c.requires.empty;
+  untouched = untouched_start g.L.Driver.DriverEnd.driver g.G.Guest.party g.V.Device.party g.met.G.Guest.lawful c.args.bench.now c.requires.empty;
   each = each_none _ c.in_ok-lanes.lanes.items _ _ c.in_ok-lanes.ensures.items;
 }
 
 pub make_lane-requires-clause-guest : goal.make_lane-requires-clause-guest
-make_lane-requires-clause-guest g c κs within =
+make_lane-requires-clause-guest g c =
     let i = c.loop-i.i in
     let n : ℕ = length c.args.m.now.queues in
     let f = c.loop-i.invariant.parties in
@@ -35,7 +35,7 @@ make_lane-requires-clause-guest g c κs within =
     All-at (λ x. g.G.Guest.party.script x ≡ None) c.args.bench.now.guests.items i c.index_mut.result.now (sym (c.loop-i.invariant.keeps.other_guests i (omega arith)) ∙ hg) c.requires.empty.guests
 
 pub make_lane-requires-clause-device : goal.make_lane-requires-clause-device
-make_lane-requires-clause-device g c κs within =
+make_lane-requires-clause-device g c =
     let i = c.loop-i.i in
     let n : ℕ = length c.args.m.now.queues in
     let f = c.loop-i.invariant.parties in

@@ -1,7 +1,7 @@
 use Rattle.std.proofs.Common.{rules, ◌≡◌, true, false}
 use Rattle.vd_models.specs.Serving.{is_done}
 use Rattle.vd_models.proofs.Phases.{begins, own_at, goes, waits, finishes, worked}
-use Rattle.vd_models.proofs.serving.PolicyServing.serve_all.Goals as goal
+use Rattle.vd_models.proofs.serving.serve_all.Goals as goal
 
 pub loop-end-init : goal.loop-end-init
 loop-end-init g c = λ ws v w plain ring opens. begins g.P.Port.port g.met.P.Port.lawful g.L.Driver.DriverEnd.driver g.L.Device.DeviceEnd.device g.L.Layout.layout g.met.L.Layout.lawful c.args.by.now c.args.port.now ws v w _ plain ring opens

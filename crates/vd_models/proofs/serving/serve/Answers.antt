@@ -1,7 +1,7 @@
 use Rattle.std.proofs.Common.{rules, ◌≡◌, length, ◌<◌, ◌+◌, ap}
 use Rattle.vd_layout.specs.Begun.{DeviceOp}
 use Rattle.vd_models.proofs.Turns.{taken_at, given_at, waited_at, turned_at, rested_at, other, more_is, full_is}
-use Rattle.vd_models.proofs.serving.PolicyServing.serve.Goals as goal
+use Rattle.vd_models.proofs.serving.serve.Goals as goal
 
 pub returns-in-Taken : goal.returns-in-Taken
 returns-in-Taken g c = λ w opens own.

@@ -3,7 +3,7 @@ use Rattle.vd_model.specs.declared.record.Run.{Run}
 use Rattle.vd_models.specs.Cursors.{next_at}
 use Rattle.vd_models.specs.Driving.{BegunIs}
 use Rattle.vd_models.proofs.Drives.{may_offer}
-use Rattle.vd_models.proofs.driving.PolicyDriving.begin_drive.Goals as goal
+use Rattle.vd_models.proofs.driving.begin_drive.Goals as goal
 
 pub returns-in-Some-clause-drives : goal.returns-in-Some-clause-drives
 returns-in-Some-clause-drives g c = λ offered returned capacity v h.
@@ -24,6 +24,7 @@ returns-in-Some-clause-drives g c = λ offered returned capacity v h.
         fits = h.drives.fits;
         control = h.drives.control;
         begun = subst (λ o. BegunIs c.args.turn o (next_at c.args.script.now.runs c.args.at) v.frame v.done) (sym c.begin_offer.ensures.begun) next;
+        unarmed = h.drives.unarmed;
         done = h.drives.done;
       };
       live = refl;

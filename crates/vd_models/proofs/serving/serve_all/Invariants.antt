@@ -2,7 +2,7 @@ use Rattle.std.proofs.Common.{ℕ, List}
 use Rattle.vd_ring.specs.declared.device.DeviceView.{DeviceView}
 use Rattle.vd_ring.specs.declared.driver.DriverView.{DriverView}
 use Rattle.vd_models.specs.Serving.{Opens, SoFar, state, work_left}
-use Rattle.vd_models.proofs.serving.PolicyServing.serve_all.Given as goal
+use Rattle.vd_models.proofs.serving.serve_all.Given as goal
 
 abbrev pub invariant-loop-end : goal.invariant-loop-end
 invariant-loop-end g l = (ws : List ℕ) (v : DriverView) (w : DeviceView) → g.P.Port.port.plain l.initial.port ws → g.L.Layout.layout.ring ws v w → Opens g.L.Device.DeviceEnd.device l.by (state l.initial.end l.initial.stage l.initial.held l.initial.begun) w

@@ -4,7 +4,7 @@ use Rattle.vd_model.specs.declared.record.Run.{Run}
 use Rattle.vd_models.specs.Cursors.{left_at, IsSettled}
 use Rattle.vd_models.specs.Driving.{DriveOpens, IsDriveTurn, drive}
 use Rattle.vd_models.proofs.Drives.{offered_at, collected_at, waited_at, turned_at, other, used_fits, test_is}
-use Rattle.vd_models.proofs.driving.PolicyDriving.drive.Goals as goal
+use Rattle.vd_models.proofs.driving.drive.Goals as goal
 
 pub step-requires-clause-own : goal.step-requires-clause-own
 step-requires-clause-own g c =

@@ -1,7 +1,7 @@
 use Rattle.std.proofs.Common.{ap, sym, ◌∙◌}
 use Rattle.vd_model.specs.declared.features.Features.{Features}
 use Rattle.vd_models.proofs.Holding.{may_give}
-use Rattle.vd_models.proofs.serving.PolicyServing.begin_next.Goals as goal
+use Rattle.vd_models.proofs.serving.begin_next.Goals as goal
 
 pub begin_give-requires-clause-may : goal.begin_give-requires-clause-may
 begin_give-requires-clause-may g c =

@@ -1,7 +1,7 @@
 use Rattle.std.proofs.Common.{rules, ◌≡◌, true, false}
 use Rattle.vd_models.proofs.Phases.{worked}
 use Rattle.vd_models.proofs.DrivePhases.{begins, own_at, goes, waits, finishes}
-use Rattle.vd_models.proofs.driving.PolicyDriving.drive_all.Goals as goal
+use Rattle.vd_models.proofs.driving.drive_all.Goals as goal
 
 pub loop-done-init : goal.loop-done-init
 loop-done-init g c = λ ws v w plain ring opens. begins g.P.Port.port g.met.P.Port.lawful g.L.Driver.DriverEnd.driver g.L.Device.DeviceEnd.device g.L.Layout.layout g.met.L.Layout.lawful c.args.script.now c.args.port.now ws v w _ plain ring opens
