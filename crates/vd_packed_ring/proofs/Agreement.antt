@@ -97,11 +97,11 @@ stored_last : (f : Frame) (o : List DriverDone) (puts : List Put) (p x : ℕ) �
 stored_last f o puts p x n low = elim (stored_at f o puts p x n) [
   | inl t ↦ absurd (omega (arith, t.low))
   | inr w ↦ record {
-      position = w.position;
-      place = elim w.place [ inl a ↦ inl a | inr a ↦ inr a.0 ];
-      least = w.least;
-      most = omega (arith, w.most, n.can.room);
-    }
+    position = w.position;
+    place = elim w.place [ inl a ↦ inl a | inr a ↦ inr a.0 ];
+    least = w.least;
+    most = omega (arith, w.most, n.can.room);
+  }
 ]
 
 pub last_ahead : (f : Frame) (o : List DriverDone) (puts : List Put) (p x : ℕ) → Publishes f o puts p x → StoresAhead f o p

@@ -1,5 +1,5 @@
 -- Where an offer in progress has stored nothing: the positions of the chains offered and not collected, and of what comes next.
-use Rattle.std.proofs.Common.{◌≡◌, ◌≢◌, ◌⊎◌, ℕ, ◌+◌, ◌*◌, ◌%◌, ◌<◌, ◌≤◌, Bool, true, false, List, [], ◌∷◌, ◌++◌, length, take, if◌then◌else◌, slice_index_or, slice_set, sym, ap, ◌∙◌, subst, arith, inl, inr}
+use Rattle.std.proofs.Common.{◌≡◌, ◌≢◌, ◌⊎◌, ℕ, ◌+◌, ◌*◌, ◌%◌, ◌<◌, ◌≤◌, Bool, true, List, [], ◌∷◌, ◌++◌, length, take, if◌then◌else◌, slice_index_or, slice_set, sym, ap, ◌∙◌, subst, arith, inl, inr}
 use Rattle.std.specs.List.{All}
 use Rattle.std.specs.Prelude.{Option}
 use Rattle.std.proofs.lemmas.Bool.{cases_lt}
@@ -20,7 +20,7 @@ use Rattle.vd_ring.proofs.HeldInside.{next_low}
 use Rattle.vd_packed_ring.specs.PackedWords.{IsLawful, IsDrivers, IsDevices, width, driver_event, tables_from, commands_from, table_of, addr_word, second_word, put}
 use Rattle.vd_packed_ring.specs.PackedChains.{Descriptor, descriptors, standing, table, staged, spelling}
 use Rattle.vd_packed_ring.specs.PackedPositions.{opos, cpos}
-use Rattle.vd_packed_ring.specs.PackedDriver.{CanOffer, Begins, plan}
+use Rattle.vd_packed_ring.specs.PackedDriver.{Begins, plan}
 use Rattle.vd_packed_ring.specs.PackedRing.{Words, IsClear, SideSignals, puts_of, Stages, DriverDoing}
 use Rattle.vd_packed_ring.proofs.Areas.{areas, drivers_inside, driver_stores, driver_second, second_inside, window_differ}
 use Rattle.vd_packed_ring.proofs.Plans.{stand_other, IsStored, all_take, all_are, staged_stored, staged_before, publishing_apart, within_from, within_apart}

@@ -1,5 +1,5 @@
 -- What the answers of the driver's steps say: of the chain offered, of the entry collected, when nothing is left, and of the bag.
-use Rattle.std.proofs.Common.{take, None, ◌==◌, ◌≡◌, ℕ, ◌+◌, ◌<◌, ◌≤◌, Bool, true, false, List, [], ◌∷◌, ◌++◌, length, if◌then◌else◌, slice_index, slice_set, refl, sym, ap, ◌∙◌, subst, inl, inr}
+use Rattle.std.proofs.Common.{take, None, ◌==◌, ◌≡◌, ℕ, ◌+◌, ◌<◌, ◌≤◌, Bool, true, false, List, [], ◌∷◌, ◌++◌, length, if◌then◌else◌, slice_index, refl, sym, ap, ◌∙◌, subst, inl, inr}
 use Rattle.std.proofs.lemmas.Bool.{cases_lt, eq-eqb, ne_eqb}
 use Rattle.std.proofs.lemmas.List.{take_all}
 use Rattle.vd_model.specs.declared.chain.Piece.{Piece}
@@ -22,13 +22,13 @@ use Rattle.vd_ring.specs.declared.device.DeviceDone.{DeviceDone}
 use Rattle.vd_ring.specs.declared.device.DeviceView.{DeviceView}
 use Rattle.vd_ring.specs.Lists.{Collects}
 use Rattle.vd_ring.proofs.ListSteps.{collects_next}
-use Rattle.vd_ring.specs.History.{offers, collects, gives, head, next_head, entry, used_at, last_used}
+use Rattle.vd_ring.specs.History.{offers, collects, gives, head, entry, used_at, last_used}
 use Rattle.vd_ring.specs.Bag.{State}
 use Rattle.vd_ring.specs.Steps.{StandsFor, DriverBagStep}
 use Rattle.vd_ring.proofs.ControlSteps.{head_new}
 use Rattle.vd_ring.proofs.DriverBag.{offer_step}
-use Rattle.vd_packed_ring.specs.PackedWords.{second_word, put, words_of, is_used, Stand}
-use Rattle.vd_packed_ring.specs.PackedChains.{Descriptor, described, staged_chain}
+use Rattle.vd_packed_ring.specs.PackedWords.{second_word, put, words_of, is_used}
+use Rattle.vd_packed_ring.specs.PackedChains.{staged_chain}
 use Rattle.vd_packed_ring.specs.PackedPositions.{opos, cpos, later}
 use Rattle.vd_packed_ring.specs.PackedDriver.{Publishes, DriverNextAt, DriverNext, driver_after_at, driver_act_at, driver_act, driver_offers, driver_collects, driver_wakes, stores, collect_act, woken_act}
 use Rattle.vd_packed_ring.specs.PackedDriverLaws.{DriverBags, IsOffered, IsCollected, CollectsNothing}

@@ -10,7 +10,7 @@ use Rattle.vd_ring.specs.declared.driver.DriverNow.TheVariants.{Idle, Checking, 
 use Rattle.vd_ring.specs.declared.driver.DriverView.{DriverView}
 use Rattle.vd_ring.specs.declared.device.DeviceDone.{DeviceDone}
 use Rattle.vd_ring.specs.declared.device.DeviceView.{DeviceView}
-use Rattle.vd_ring.specs.History.{collects, gives, head, chain}
+use Rattle.vd_ring.specs.History.{collects, gives}
 use Rattle.vd_ring.specs.Control.{Commands}
 use Rattle.vd_ring.specs.Places.{Places}
 use Rattle.vd_ring.specs.Signals.{Signals}

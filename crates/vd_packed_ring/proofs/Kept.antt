@@ -1,11 +1,10 @@
 -- The tables of the chains offered and not collected stand after each store of the driver.
-use Rattle.std.proofs.Common.{◌≡◌, ◌≢◌, ◌⊎◌, ℕ, ◌+◌, ◌*◌, ◌%◌, ◌<◌, ◌≤◌, List, [], ◌∷◌, length, slice_index_or, slice_set, sym, ap, ◌∙◌, subst, arith, inl, inr}
+use Rattle.std.proofs.Common.{◌≡◌, ◌≢◌, ◌⊎◌, ℕ, ◌+◌, ◌*◌, ◌%◌, ◌<◌, ◌≤◌, List, [], ◌∷◌, length, slice_index_or, slice_set, sym, ◌∙◌, subst, arith, inl, inr}
 use Rattle.std.specs.List.{All, Contains}
 use Rattle.std.proofs.lemmas.Bool.{cases_eq}
 use Rattle.std.proofs.lemmas.Nat.{mod_below}
 use Rattle.vd_model.specs.declared.chain.Piece.{Piece}
 use Rattle.vd_ring.specs.declared.frame.Frame.{Frame}
-use Rattle.vd_ring.specs.declared.frame.Put.{Put}
 use Rattle.vd_ring.specs.declared.frame.Used.{Used}
 use Rattle.vd_ring.specs.declared.driver.DriverDone.{DriverDone}
 use Rattle.vd_ring.specs.declared.driver.DriverDone.TheVariants.{Offer, Collect}
@@ -15,10 +14,10 @@ use Rattle.vd_ring.specs.Places.{Places}
 use Rattle.vd_ring.proofs.Counts.{one_other, occurs_from, Contains_from, occurs_push, occurs_without}
 use Rattle.vd_ring.proofs.HeldPlaces.{open_below, chain_fits, chain_before, chain_new, head_held, head_inside, free_apart}
 use Rattle.vd_ring.proofs.ControlSteps.{next_free, head_new, head_before}
-use Rattle.vd_packed_ring.specs.PackedWords.{tables_from, commands_from, table_of, Stand}
+use Rattle.vd_packed_ring.specs.PackedWords.{tables_from, commands_from, Stand}
 use Rattle.vd_packed_ring.specs.PackedChains.{table}
-use Rattle.vd_packed_ring.specs.PackedRing.{Words, IsClear}
-use Rattle.vd_packed_ring.proofs.Plans.{all_are, stand_other, Stands}
+use Rattle.vd_packed_ring.specs.PackedRing.{Words}
+use Rattle.vd_packed_ring.proofs.Plans.{all_are, stand_other}
 use Rattle.vd_packed_ring.proofs.Clear.{IsInTable, IsStaged, table_within, in_tables, table_drivers}
 
 abbrev pub AreKept : Frame → List DriverDone → List ℕ → Type 0

@@ -20,7 +20,7 @@ use Rattle.vd_ring.specs.Lists.{AreGives, entry_at}
 use Rattle.vd_ring.proofs.HeldInside.{next_low}
 use Rattle.vd_ring.proofs.ListSteps.{some_same, entry_is}
 use Rattle.vd_packed_ring.specs.PackedWords.{IsLawful}
-use Rattle.vd_packed_ring.specs.PackedChains.{Descriptor, blank, descriptors}
+use Rattle.vd_packed_ring.specs.PackedChains.{blank, descriptors}
 use Rattle.vd_packed_ring.specs.PackedPositions.{start, opos, made, made_at, block, marks}
 use Rattle.vd_packed_ring.proofs.WordFacts.{Fits}
 use Rattle.vd_packed_ring.proofs.Plans.{all_left, all_right}

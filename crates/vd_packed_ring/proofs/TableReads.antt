@@ -1,5 +1,5 @@
 -- A reader of tables finds the chains that stand in tables.
-use Rattle.std.proofs.Common.{◌≡◌, ℕ, ◌+◌, ◌*◌, ◌/◌, ◌<◌, ◌≤◌, Bool, true, false, if◌then◌else◌, List, [], ◌∷◌, ◌++◌, length, take, drop, slice_index, refl, sym, ap, ap₂, ◌∙◌, subst, arith, inl, inr}
+use Rattle.std.proofs.Common.{◌≡◌, ℕ, ◌+◌, ◌*◌, ◌/◌, ◌<◌, ◌≤◌, Bool, true, false, if◌then◌else◌, List, [], ◌∷◌, ◌++◌, length, take, drop, slice_index, sym, ap, ap₂, ◌∙◌, subst, arith}
 use Rattle.std.specs.List.{Contains}
 use Rattle.std.proofs.lemmas.List.{take_all}
 use Rattle.vd_model.specs.declared.chain.Piece.{Piece}
@@ -24,7 +24,7 @@ use Rattle.vd_ring.proofs.Counts.{occurs_from}
 use Rattle.vd_ring.proofs.HeldInside.{head_low}
 use Rattle.vd_ring.proofs.HeldPlaces.{open_below, chain_fits}
 use Rattle.vd_packed_ring.specs.PackedWords.{IsLawful, width, tables_from, commands_from, put, table_of, addr_word, second_word, len_of, names_table, words_of, Stand}
-use Rattle.vd_packed_ring.specs.PackedChains.{Descriptor, descriptors, described, standing, table, pointer, is_tabled, avail_word, reading, has_table, is_whole, chain_of, loaded}
+use Rattle.vd_packed_ring.specs.PackedChains.{Descriptor, described, standing, pointer, is_tabled, avail_word, reading, has_table, is_whole, chain_of, loaded}
 use Rattle.vd_packed_ring.specs.PackedDevice.{BeginsChain, DeviceNext, DeviceNextAt, device_act, device_act_at}
 use Rattle.vd_packed_ring.specs.PackedPositions.{upos, tpos, start}
 use Rattle.vd_packed_ring.specs.PackedRing.{Ring}

@@ -4,16 +4,16 @@ use Rattle.std.specs.List.{All}
 use Rattle.std.proofs.lemmas.Bool.{cases_lt, lt-ltb, le-ltb, eq-eqb, ne_eqb}
 use Rattle.std.proofs.lemmas.List.{length-append, length-map, length-take-le, map-append, append-nil, take_all}
 use Rattle.std.proofs.Math.Seq.{take-append_seam}
-use Rattle.std.proofs.lemmas.List.Elements.{All-nil, All-cons, All-head, All-tail}
+use Rattle.std.proofs.lemmas.List.Elements.{All-nil, All-cons}
 use Rattle.vd_model.specs.declared.chain.Piece.{Piece}
 use Rattle.vd_model.specs.Chains.{IsPiece, needs}
 use Rattle.vd_indirect.specs.declared.descriptor.TableKind.TheVariants.{Packed}
 use Rattle.vd_indirect.specs.Tables.{table_words}
 use Rattle.vd_ring.specs.declared.frame.Frame.{Frame}
 use Rattle.vd_ring.specs.declared.frame.Put.{Put}
-use Rattle.vd_packed_ring.specs.PackedWords.{wrap_bit, other_bit, table_of, addr_word, second_word, packed_word, put, words_of, len_of, id_of, flags_of, names_table, is_write}
-use Rattle.vd_packed_ring.specs.PackedChains.{Descriptor, blank, avail_word, more, flags, direct, is_tabled, pointer, descriptors, standing, table, staged, publishing, loaded, spelling, reading, piece_of, pieces_of, pieces_in, ends, following, has_table, named_words, first_id, last_id, loaded_head, is_whole, chain_of, cursor, staged_pieces, staged_chain}
-use Rattle.vd_packed_ring.proofs.WordFacts.{Fits, len_back, flags_back, avail_len, avail_id}
+use Rattle.vd_packed_ring.specs.PackedWords.{wrap_bit, other_bit, table_of, addr_word, second_word, put, words_of, len_of, id_of, flags_of, names_table}
+use Rattle.vd_packed_ring.specs.PackedChains.{Descriptor, blank, avail_word, more, flags, direct, is_tabled, pointer, descriptors, standing, table, staged, publishing, loaded, spelling, reading, pieces_of, pieces_in, ends, following, has_table, named_words, first_id, last_id, loaded_head, is_whole, chain_of, cursor, staged_pieces, staged_chain}
+use Rattle.vd_packed_ring.proofs.WordFacts.{Fits, flags_back, avail_len, avail_id}
 use Rattle.vd_packed_ring.proofs.Standing.{length_tabled, tabled_place, tabled_back}
 use Rattle.vd_packed_ring.proofs.Spelled.{direct_id, length_direct, direct_fits, staged_back, loaded_back, length_loaded, not_whole, whole, following_at, last_back}
 

@@ -1,5 +1,5 @@
 -- What a reader of tables finds on a packed ring. Each is the contract of a function in src/table_laws.rt.
-use Rattle.std.specs.Prelude.{◌≡◌, ℕ, ◌+◌, ◌*◌, ◌/◌, true, List, length, take, drop, slice_index, Ok}
+use Rattle.std.specs.Prelude.{◌≡◌, ℕ, ◌*◌, ◌/◌, true, List, length, take, drop, slice_index, Ok}
 use Rattle.vd_model.specs.declared.chain.Piece.{Piece}
 use Rattle.vd_indirect.specs.declared.descriptor.TableKind.TheVariants.{Packed}
 use Rattle.vd_indirect.specs.Tables.{read}
