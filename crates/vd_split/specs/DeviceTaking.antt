@@ -21,9 +21,9 @@ use Rattle.vd_ring.proofs.Counts.{one, one_same, one_other, one_more, one_above,
 use Rattle.vd_split_ring.specs.SplitWords.{lane_word, entry_lane, put, described, words_of, pieces_of, piece_of, goes_on, next_of, is_whole, chain_of, cursor, linked, reading, shows}
 use Rattle.vd_split_ring.specs.SplitDevice.{DeviceNextAt, DeviceNext, DeviceTells, DeviceTellsAt, device_after, device_after_at, device_takes, device_act_at, loaded_head, IsNewHead, BeginsChain}
 use Rattle.vd_split_ring.proofs.Descriptors.{IsAt, length-described, described_at, not_whole_odd, whole_last, pieces_last, linked_odd, linked_last, linked_at}
-use Rattle.vd_split_ring.proofs.Direct.{reading_is, whole_is, chain_is, cursor_is, lent_pieces}
 use Rattle.vd_layout.specs.Begun.{IsDeviceOp, DeviceOp}
 use Rattle.vd_layout.specs.Device.{DeviceSays, IsTaken}
+use Rattle.vd_split.specs.Direct.{reading_is, whole_is, chain_is, cursor_is, lent_pieces}
 use Rattle.vd_split.specs.declared.device.SplitDevice.{SplitDevice}
 use Rattle.vd_split.specs.declared.device.DeviceStep.TheVariants as step
 use Rattle.vd_split.specs.DriverEnd.{split_words}

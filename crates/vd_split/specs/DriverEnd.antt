@@ -14,11 +14,12 @@ use Rattle.vd_ring.specs.declared.driver.DriverNow.TheVariants as now
 use Rattle.vd_ring.specs.declared.driver.DriverView.{DriverView}
 use Rattle.vd_ring.specs.History.{offers, collects, open_at, free, places, head, occurs}
 use Rattle.vd_ring.specs.Places.{Places}
-use Rattle.vd_split_ring.specs.SplitWords.{IsLawful, IsBuilt, avail_from, kick_at, width, command_word, ack_word}
+use Rattle.vd_split_ring.specs.SplitWords.{IsLawful, avail_from, kick_at, width, command_word, ack_word}
 use Rattle.vd_split_ring.specs.SplitDriver.{CanOffer, NamesOpen, plan, driver_side, driver_act, driver_shows}
 use Rattle.vd_layout.specs.Begun.{DriverOp}
 use Rattle.vd_layout.specs.Control.{ControlWords}
 use Rattle.vd_layout.specs.Driver.{DriverModel}
+use Rattle.vd_split.specs.Direct.{IsBuilt}
 use Rattle.vd_split.specs.declared.driver.SplitDriver.{SplitDriver}
 use Rattle.vd_split.specs.declared.driver.Slot.{Slot}
 use Rattle.vd_split.specs.declared.driver.DriverStep.{DriverStep}

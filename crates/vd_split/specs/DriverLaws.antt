@@ -26,9 +26,10 @@ use Rattle.vd_split_ring.proofs.ControlFacts.{driver_controls}
 use Rattle.vd_split_ring.proofs.DriverViews.{driver_frame}
 use Rattle.vd_split_ring.proofs.Signalling.{driver_unarmed}
 use Rattle.vd_split_ring.proofs.DriverLooking.{driver_looks}
-use Rattle.vd_split_ring.proofs.Direct.{lent_needs, needs_pieces}
+use Rattle.vd_split_ring.proofs.Direct.{lent_needs}
 use Rattle.vd_layout.specs.Begun.{DriverOp}
 use Rattle.vd_layout.specs.Driver.{HasRoom, MayOffer, IsLawfulDriver}
+use Rattle.vd_split.specs.Direct.{needs_pieces}
 use Rattle.vd_split.specs.declared.driver.SplitDriver.{SplitDriver}
 use Rattle.vd_split.specs.declared.driver.DriverStep.{DriverStep}
 use Rattle.vd_split.specs.declared.driver.DriverStep.TheVariants as step

@@ -25,13 +25,13 @@ use Rattle.vd_ring.specs.History.{offers, open_at, free, next_head, places, head
 use Rattle.vd_ring.specs.Places.{Places}
 use Rattle.vd_ring.proofs.Counts.{one_same, one_other, occurs_parts, occurs_at, occurs_push}
 use Rattle.vd_ring.proofs.HeldPlaces.{free_inside, open_below, offer_places, places_before, places_new, head_inside, same_head}
-use Rattle.vd_split_ring.specs.SplitWords.{IsLawful, IsBuilt, avail_from, lane_word, with_lane, entry_lane, put, described, words_of, pieces_of, staged_chain}
+use Rattle.vd_split_ring.specs.SplitWords.{IsLawful, avail_from, lane_word, with_lane, entry_lane, put, described, words_of, pieces_of, staged_chain}
 use Rattle.vd_split_ring.specs.SplitDriver.{CanOffer, Begins, DriverNextAt, DriverNext, driver_after_at, driver_after, driver_act, driver_act_at, plan, stores, staged}
 use Rattle.vd_split_ring.proofs.Descriptors.{described_at, pieces_back}
-use Rattle.vd_split_ring.proofs.Direct.{lent_pieces, staged_is}
 use Rattle.vd_split_ring.proofs.Areas.{areas}
 use Rattle.vd_layout.specs.Begun.{IsDriverOp}
 use Rattle.vd_layout.specs.Driver.{DriverSays, IsDriverStep}
+use Rattle.vd_split.specs.Direct.{IsBuilt, lent_pieces, staged_is}
 use Rattle.vd_split.specs.declared.driver.SplitDriver.{SplitDriver}
 use Rattle.vd_split.specs.declared.driver.Slot.{Slot}
 use Rattle.vd_split.specs.declared.driver.DriverStep.TheVariants as step

@@ -1,3 +1,4 @@
+pub mod Direct
 pub mod Parts
 pub mod DriverEnd
 pub mod Plans

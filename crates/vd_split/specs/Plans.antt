@@ -10,10 +10,10 @@ use Rattle.vd_ring.specs.declared.frame.Put.{Put}
 use Rattle.vd_ring.specs.declared.driver.DriverDone.{DriverDone}
 use Rattle.vd_ring.specs.Frames.{lent}
 use Rattle.vd_ring.specs.History.{free}
-use Rattle.vd_split_ring.specs.SplitWords.{IsLawful, IsBuilt, put, described}
+use Rattle.vd_split_ring.specs.SplitWords.{IsLawful, put, described}
 use Rattle.vd_split_ring.specs.SplitDriver.{CanOffer, Begins, plan}
 use Rattle.vd_split_ring.proofs.Descriptors.{length-described}
-use Rattle.vd_split_ring.proofs.Direct.{lent_pieces, needs_pieces, spelling_is}
+use Rattle.vd_split.specs.Direct.{IsBuilt, lent_pieces, needs_pieces, spelling_is}
 use Rattle.vd_split.specs.Parts.{next_place, Copies}
 
 -- ---- the plan of an offer

@@ -12,7 +12,7 @@ use Rattle.vd_ring.specs.declared.driver.DriverDone.{DriverDone}
 use Rattle.vd_ring.specs.declared.driver.DriverView.{DriverView}
 use Rattle.vd_ring.specs.Fresh.{fresh_driver, fresh_device}
 use Rattle.vd_ring.specs.History.{offers, head, next_head, chain, chain_at}
-use Rattle.vd_split_ring.specs.SplitWords.{IsLawful, IsBuilt, Spells, width, commands_from, acks_from}
+use Rattle.vd_split_ring.specs.SplitWords.{IsLawful, Spells, width, commands_from, acks_from}
 use Rattle.vd_split_ring.specs.SplitDriver.{driver_after}
 use Rattle.vd_split_ring.specs.SplitDriverLaws.{IsOffered}
 use Rattle.vd_split_ring.specs.SplitDeviceLaws.{HasLastUsed}
@@ -28,6 +28,7 @@ use Rattle.vd_split_ring.proofs.DeviceBagSteps.{bags}
 use Rattle.vd_split_ring.proofs.Opens.{opens}
 use Rattle.vd_split_ring.proofs.Sleeping.{signals, driver_asleep, device_asleep, driver_hears, device_hears}
 use Rattle.vd_layout.specs.Layout.{LayoutModel, IsMadeWith, CanMake, IsFresh, IsLawfulLayout}
+use Rattle.vd_split.specs.Direct.{IsBuilt}
 use Rattle.vd_split.specs.declared.driver.SplitDriver.{SplitDriver}
 use Rattle.vd_split.specs.declared.driver.DriverStep.TheVariants as driver_step
 use Rattle.vd_split.specs.declared.device.SplitDevice.{SplitDevice}
