@@ -1,5 +1,6 @@
 pub mod Spots
 pub mod Seconds
+pub mod Tabled
 pub mod Bounds
 pub mod Events
 pub mod DriverEnd
@@ -7,7 +8,9 @@ pub mod DeviceEnd
 pub mod Telling
 pub mod Places
 pub mod Offers
+pub mod Tabling
 pub mod DriverSteps
+pub mod TabledSteps
 pub mod DriverCollecting
 pub mod DriverBells
 pub mod DriverLaws

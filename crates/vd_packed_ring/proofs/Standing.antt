@@ -24,6 +24,11 @@ standing_at at [] k h = absurd (omega arith)
 standing_at at (w ∷ ws) zero h = omega arith
 standing_at at (w ∷ ws) (suc k) h = standing_at (at + 1) ws k (omega arith) ∙ (let e : (at + 1) + k ≡ at + suc k = omega arith in e)
 
+pub standing_word : (at : ℕ) (ws : List ℕ) (k : ℕ) → k < length ws → (slice_index_or (standing at ws) k (put 0 0)).word ≡ slice_index ws k
+standing_word at [] k h = absurd (omega arith)
+standing_word at (w ∷ ws) zero h = refl
+standing_word at (w ∷ ws) (suc k) h = standing_word (at + 1) ws k (omega arith)
+
 -- the same where past the last word stands another
 pub standing_place : (at : ℕ) (ws : List ℕ) (k : ℕ) (d : Put) → k < length ws → (slice_index_or (standing at ws) k d).place ≡ at + k
 standing_place at ws k d h = ap (λ (s : Put). s.place) (sym (get_or_default (standing at ws) k (put 0 0) d (omega (arith, length_standing at ws)))) ∙ standing_at at ws k h

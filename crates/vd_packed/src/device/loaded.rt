@@ -1,14 +1,15 @@
 //! What a take does with a word that it has loaded.
-ghost use Rattle.std.specs.Prelude.{◌≡◌, ◌<◌, ◌≤◌, ◌+◌, ◌++◌, ◌∷◌, [], ℕ, true, false, length};
-ghost use Rattle.vd_packed_ring.specs.PackedWords.{goes_on, id_of};
+ghost use Rattle.std.specs.Prelude.{◌≡◌, ◌<◌, ◌≤◌, ◌+◌, ◌*◌, ◌/◌, ◌++◌, ◌∷◌, [], ℕ, true, false, length};
+ghost use Rattle.vd_packed_ring.specs.PackedWords.{goes_on, id_of, len_of};
 ghost use Rattle.vd_packed_ring.specs.PackedChains.{piece_of};
-ghost use Rattle.vd_packed.specs.Loaded.{HasSeen, HasMore, HasTaken, MayTake};
+ghost use Rattle.vd_packed.specs.Loaded.{HasSeen, HasMore, HasNamed, HasTaken, MayTake, names_its_table};
 ghost use Rattle.vd_packed.specs.Seconds.{shows_available};
 ghost use Rattle.vd_packed.specs.Telling.{TakesNone};
 
 use super::running::remember;
 use super::{DeviceStep, PackedDevice, Told};
 use crate::spot::forward;
+use crate::tables::{is_indirect, places_of};
 use crate::words::{has_next, piece_from, shows_available};
 use vd_bits::lane16;
 
@@ -43,34 +44,30 @@ impl PackedDevice {
         Told::Moved
     }
 
-    /// A descriptor's address was loaded. Where its second word doesn't go on the chain is whole, and this second word has its id: it
-    /// stands in the last descriptor, and a driver need not write it in the others (VIRTIO 1.2, 2.8).
+    /// A descriptor's address was loaded. Where its second word names a table, the table's words are next: it stands at its head's place.
+    /// Else, where that word doesn't go on, the chain is whole, and this second word has its id: it stands in the last descriptor, and a
+    /// driver need not write it in the others (VIRTIO 1.2, 2.8).
     #[inline(always)]
     pub(crate) fn loaded_address(&mut self, addr: u64) -> Told
         requires some { (length self.old.pieces.items < 16) × (self.old.at.place < self.old.size) × (self.old.size ≤ 32768) }
-        requires may { goes_on self.old.second ≡ false → MayTake self.old (id_of self.old.second) }
-        ensures more { goes_on self.old.second ≡ true → (result ≡ Told.Moved) × HasMore addr self.old self.new }
-        ensures whole { goes_on self.old.second ≡ false → (result ≡ Told.Taken self.old.taken) × HasTaken addr (id_of self.old.second) self.old self.new }
+        requires may { names_its_table self.old ≡ false → goes_on self.old.second ≡ false → MayTake self.old (id_of self.old.second) }
+        ensures named { names_its_table self.old ≡ true → (result ≡ Told.Moved) × (self.new ≡ HasNamed self.old) }
+        ensures more { names_its_table self.old ≡ false → goes_on self.old.second ≡ true → (result ≡ Told.Moved) × HasMore addr self.old self.new }
+        ensures whole { names_its_table self.old ≡ false → goes_on self.old.second ≡ false → (result ≡ Told.Taken self.old.taken) × HasTaken addr self.old.second (forward self.old.at 1 self.old.size) (length self.old.pieces.items + 1) (id_of self.old.second) self.old self.new }
     {
-        self.pieces.push(piece_from(addr, self.second));
         let spot = forward(self.at, 1, self.size);
         self.at.place = spot.place;
         self.at.wrap = spot.wrap;
+        if self.names_its_table() {
+            self.doing = DeviceStep::TableAddress;
+            return Told::Moved;
+        }
+        self.pieces.push(piece_from(addr, self.second));
         if has_next(self.second) {
             self.doing = DeviceStep::Second;
             return Told::Moved;
         }
-        let number = self.taken;
-        let head = lane16(self.second, 2);
         let count = self.pieces.len() as u32;
-        self.running[head as usize] = Some(number);
-        self.counts[head as usize] = count;
-        remember(&mut self.guesses, number, head as u32);
-        self.taken = number + 1;
-        self.next.place = self.at.place;
-        self.next.wrap = self.at.wrap;
-        self.next_position += count as u64;
-        self.doing = DeviceStep::Idle;
-        Told::Taken(number)
+        self.take_in(count)
     }
 }
