@@ -33,7 +33,7 @@ use Rattle.vd_packed_ring.proofs.Offers.{staged_is_chain}
 use Rattle.vd_packed_ring.proofs.Positions.{needs_some, driver_span, opos_offered, cpos_offered, free_some}
 use Rattle.vd_packed_ring.proofs.Spelled.{lent_one}
 use Rattle.vd_layout.specs.Begun.{DriverOp, IsDriverOp}
-use Rattle.vd_layout.specs.Driver.{DriverSays, WasOffered, IsDriverStep}
+use Rattle.vd_layout.specs.Driver.{DriverSays, IsDriverStep}
 use Rattle.vd_packed.specs.declared.driver.PackedDriver.{PackedDriver}
 use Rattle.vd_packed.specs.declared.driver.Slot.{Slot}
 use Rattle.vd_packed.specs.declared.driver.DriverStep.TheVariants as step

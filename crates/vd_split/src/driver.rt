@@ -1,7 +1,8 @@
 //! The driver's end.
-use arrayvec::ArrayVec;
+use crate::pieces::Pieces;
+use crate::places::Places;
 use circular_buffer::HeapCircularBuffer;
-use vd_model::{Features, Piece};
+use vd_model::Features;
 
 pub(crate) use make::kick_place;
 pub(crate) use signal::wanted;
@@ -40,7 +41,7 @@ pub enum DriverStep {
 #[derive(Drop)]
 pub struct Slot {
     pub number: u32,
-    pub places: ArrayVec<u32, 16>,
+    pub places: Places,
 }
 
 /// The driver's end of a split ring.
@@ -66,6 +67,6 @@ pub struct SplitDriver {
     pub(crate) heard: u64,
     pub(crate) bells: u64,
     // the chain of an offer in progress
-    pub(crate) pieces: ArrayVec<Piece, 16>,
+    pub(crate) pieces: Pieces,
     pub(crate) doing: DriverStep,
 }

@@ -11,7 +11,6 @@ ghost use Rattle.vd_split.specs.Telling.{act_of};
 
 use super::{DeviceStep, SplitDevice, Told};
 use crate::descriptors::{next_place, shows_count};
-use arrayvec::ArrayVec;
 use vd_bits::lane16;
 use vd_model::Piece;
 use vd_words::{Access, Op, Port};
