@@ -85,6 +85,7 @@ look_goes e e2 v w is st on empty told =
           whole = [];
           is = refl;
           parts = refl;
+          direct = refl;
           limited = tells.0;
           spelled = sym empty;
           even = ap (λ (l : List Piece). 2 * length l) (sym empty);
@@ -92,7 +93,7 @@ look_goes e e2 v w is st on empty told =
         };
       };
       is = sym (ap (λ t. device_act_at t v op.Take (Load p) w) n.0 ∙ ap (λ (b : Bool). if b then act.Moved else act.Nothing) shows);
-      left = subst (λ t. 2 * (16 - length e2.pieces.items) + 1 < device_left t (length e.pieces.items)) (sym is) (omega (arith, ap (λ (l : List Piece). length l) empty));
+      left = subst (λ t. 2 * (16 - length e2.pieces.items) + 3 < device_left t (length e.pieces.items)) (sym is) (omega (arith, ap (λ (l : List Piece). length l) empty));
       says = subst (λ t. DeviceSays packed_words act.Moved (device_begun t) DeviceOp.take f s (device_after v op.Take (Load p) w).done) (sym is) (refl, ap (λ (y : DeviceView). y.done) is_after);
       rests = refl;
     }

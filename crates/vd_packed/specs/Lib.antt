@@ -17,9 +17,11 @@ pub mod DriverLaws
 pub mod DeviceGiving
 pub mod Loaded
 pub mod Loads
+pub mod ToldTables
 pub mod DeviceLooking
 pub mod DeviceTaking
 pub mod DeviceTaken
+pub mod DeviceTabling
 pub mod DeviceBells
 pub mod DeviceRest
 pub mod DeviceLaws
