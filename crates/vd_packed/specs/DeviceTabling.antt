@@ -77,7 +77,7 @@ place_next f q s ps second size spot more d sized one t =
 
 -- ---- the load of an address of the table
 
-abbrev addr_place : PackedDevice → ℕ
+abbrev pub addr_place : PackedDevice → ℕ
 addr_place e = table_place e.size (id_of e.second) + 2 * length e.pieces.items
 
 pub address_at : (e : PackedDevice) (v : DeviceView) → e.doing ≡ step.TableAddress → DeviceStands e v → DeviceNext v op.Take (Load (addr_place e)) × (id_of e.second < e.size) × (e.size ≤ 32768) × (length e.pieces.items ≤ 16)

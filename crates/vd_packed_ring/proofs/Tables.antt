@@ -95,6 +95,9 @@ pointer_names n q f id c low few =
 pub pointer_len : (n q : ℕ) (f : Frame) (id : ℕ) (c : List Piece) → id < 65536 → length c ≤ 16 → len_of (avail_word n q (pointer f id c)) ≡ 16 * length c
 pointer_len n q f id c low few = avail_len n q (pointer f id c) (pointer_fits f id c low few)
 
+pub pointer_id : (n q : ℕ) (f : Frame) (id : ℕ) (c : List Piece) → id < 65536 → length c ≤ 16 → id_of (avail_word n q (pointer f id c)) ≡ id
+pointer_id n q f id c low few = avail_id n q (pointer f id c) (pointer_fits f id c low few)
+
 pub direct_names : (n q : ℕ) (d : Descriptor) → Fits d → d.flags < 4 → names_table (avail_word n q d) ≡ false
 direct_names n q d ok low =
     let fl = avail_flags_of n q d ok in
@@ -164,7 +167,7 @@ abbrev has : Frame → List ℕ → Bool → Bool
 has f ws b = if b then length ws == 2 + named_words (slice_index ws 0) else ends ws
 
 -- directly: no word names a table
-no_table_yet : (f : Frame) (q id : ℕ) (c : List Piece) (k : ℕ) → (f.features.indirect ≡ false) ⊎ (length c ≤ 1) → id < 65536 → All IsPiece c → has_table f (words_of (take k (loaded f.size q (direct id c)))) ≡ false
+pub no_table_yet : (f : Frame) (q id : ℕ) (c : List Piece) (k : ℕ) → (f.features.indirect ≡ false) ⊎ (length c ≤ 1) → id < 65536 → All IsPiece c → has_table f (words_of (take k (loaded f.size q (direct id c)))) ≡ false
 no_table_yet f q id [] zero h low ok = refl
 no_table_yet f q id [] (suc k) h low ok = refl
 no_table_yet f q id (x ∷ c) zero h low ok = refl

@@ -8,7 +8,7 @@ use Rattle.vd_packed.proofs.driver.end.PackedDriverDriverEnd.room.Goals as goal
 pub returns : goal.returns
 returns c = λ v st.
     let e = c.args.self.now in
-    let many = c.needed.ensures ∙ ap (needed e.features.indirect) (c.len.ensures.value ∙ ap (λ (ps : List Piece). length ps) c.pieces.ensures.value) in (
+    let many = c.needed.ensures ∙ ap (λ (ps : List Piece). needed e.features.indirect (length ps)) c.pieces.ensures.value in (
       λ t. room_from e v c.args.c.now st (omega (arith, leb-true c.needed.result e.space t, many)),
       λ h. le-leb c.needed.result e.space (omega (arith, room_to e v c.args.c.now st h, many)),
     )
