@@ -1,4 +1,3 @@
-pub mod Direct
 pub mod Parts
 pub mod DriverEnd
 pub mod Plans
@@ -9,6 +8,7 @@ pub mod Opening
 pub mod DeviceEnd
 pub mod DeviceGiving
 pub mod DeviceTaking
+pub mod DeviceTabling
 pub mod DeviceLaws
 pub mod SplitLayout
 pub mod Rig

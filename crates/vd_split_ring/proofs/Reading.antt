@@ -3,7 +3,7 @@
 use Rattle.std.proofs.Common.{◌≡◌, ◌≢◌, ℕ, zero, suc, ◌+◌, ◌-◌, ◌*◌, ◌/◌, ◌%◌, ◌^◌, ◌<◌, ◌≤◌, ◌==◌, ◌&&◌, Bool, true, false, List, [], ◌∷◌, ◌++◌, length, take, drop, if◌then◌else◌, slice_index, slice_index_or, refl, sym, ap, ◌∙◌, subst, arith, inl, inr}
 use Rattle.std.specs.List.{All}
 use Rattle.std.proofs.lemmas.Bool.{eq-eqb, ne_eqb}
-use Rattle.std.proofs.lemmas.List.{length-map, length-take-le, take_all}
+use Rattle.std.proofs.lemmas.List.{length_push, length-map, length-take-le, take_all}
 use Rattle.std.proofs.lemmas.List.Elements.{All-head}
 use Rattle.vd_model.specs.declared.chain.Piece.{Piece}
 use Rattle.vd_model.specs.Chains.{IsPiece, IsChain, needs}
@@ -17,13 +17,13 @@ use Rattle.vd_split_ring.proofs.Tables.{is_either, tabled_is, direct_is, direct_
 
 -- ---- the second word of a table's descriptor
 
-abbrev pointer_second : List Piece → ℕ
+abbrev pub pointer_second : List Piece → ℕ
 pointer_second c = 16 * length c + 17179869184
 
 pub names_it : (c : List Piece) → length c ≤ 16 → names_table (pointer_second c) ≡ true
 names_it c few = eq-eqb ((pointer_second c / 17179869184) % 2) 1 (omega arith)
 
-its_words : (c : List Piece) → length c ≤ 16 → named_words (pointer_second c) ≡ 2 * length c
+pub its_words : (c : List Piece) → length c ≤ 16 → named_words (pointer_second c) ≡ 2 * length c
 its_words c few = omega arith
 
 no_name : (x : Piece) → IsPiece x → names_table (second x [] 0) ≡ false
@@ -53,13 +53,13 @@ no_table f (p ∷ []) (x ∷ []) (suc (suc k)) len is off = last f.features.indi
     last false t h = refl
 no_table f (p ∷ q ∷ ps) (x ∷ []) (suc (suc k)) len is off = absurd (omega arith)
 
-cursor_off : (f : Frame) (h : ℕ) (ws : List ℕ) → has_table f ws ≡ false → cursor f h ws ≡ linked h ws
+pub cursor_off : (f : Frame) (h : ℕ) (ws : List ℕ) → has_table f ws ≡ false → cursor f h ws ≡ linked h ws
 cursor_off f h ws off = ap (λ (b : Bool). if b then table_of f h + (length ws - 2) else linked h ws) off
 
-whole_off : (f : Frame) (ws : List ℕ) → has_table f ws ≡ false → is_whole f ws ≡ ends ws
+pub whole_off : (f : Frame) (ws : List ℕ) → has_table f ws ≡ false → is_whole f ws ≡ ends ws
 whole_off f ws off = ap (λ (b : Bool). if b then length ws == 2 + named_words (slice_index ws 1) else ends ws) off
 
-chain_off : (f : Frame) (ws : List ℕ) → has_table f ws ≡ false → chain_of f ws ≡ pieces_of ws
+pub chain_off : (f : Frame) (ws : List ℕ) → has_table f ws ≡ false → chain_of f ws ≡ pieces_of ws
 chain_off f ws off = ap (λ (b : Bool). if b then pieces_of (drop 2 ws) else pieces_of ws) off
 
 -- ---- a table's chain, after its descriptor's two words
@@ -137,3 +137,63 @@ reads f ps c k len is = elim (is_either (is_tabled f c)) [
   | inl on ↦ subst (λ (l : List Put). Reads f (first ps) c l k) (sym (reading_tabled f ps c on)) (reads_tabled f (first ps) c k (tabled_is f c on).0 is)
   | inr off ↦ subst (λ (l : List Put). Reads f (first ps) c l k) (sym (reading_direct f ps c off)) (reads_direct f ps c k (len ∙ direct_needs f c is.0 off) is off)
 ]
+
+-- ---- what the first words tell of a chain
+
+-- a direct chain's have no table
+pub none_read : (f : Frame) (ws ps : List ℕ) (c : List Piece) → is_tabled f c ≡ false → length ps ≡ needs f.features c → IsChain c → ws ≡ words_of (take (length ws) (reading f ps c)) → has_table f ws ≡ false
+none_read f ws ps c off many is e =
+    ap (has_table f) (e ∙ ap (λ (pl : List Put). words_of (take (length ws) pl)) (reading_direct f ps c off)) ∙ no_table f ps c (length ws) (many ∙ direct_needs f c is.0 off) is.3 off
+
+pub told_tabled : (f : Frame) (ws ps : List ℕ) (c : List Piece) → length ps ≡ needs f.features c → IsChain c → has_table f ws ≡ true → ws ≡ words_of (take (length ws) (reading f ps c)) → is_tabled f c ≡ true
+told_tabled f ws ps c many is has e = elim (is_either (is_tabled f c)) [
+  | inl on ↦ on
+  | inr off ↦ absurd (let both : true ≡ false = sym has ∙ none_read f ws ps c off many is e in cc)
+]
+
+-- two words and more that have none are a direct chain's
+pub told_direct : (f : Frame) (ws ps : List ℕ) (c : List Piece) → IsChain c → 2 ≤ length ws → has_table f ws ≡ false → ws ≡ words_of (take (length ws) (reading f ps c)) → is_tabled f c ≡ false
+told_direct f ws ps c is some none e = elim (is_either (is_tabled f c)) [
+  | inl on ↦ (
+      let k : ℕ = length ws - 2 in
+      let h : ℕ = first ps in
+      let two : length ws ≡ suc (suc k) = omega arith in
+      let begin : ws ≡ words_of (take (suc (suc k)) (pointer f h c ++ table f h c)) =
+      e ∙ ap (λ (n : ℕ). words_of (take n (reading f ps c))) two ∙ ap (λ (pl : List Put). words_of (take (suc (suc k)) pl)) (reading_tabled f ps c on) in
+      let has : has_table f ws ≡ true = ap (has_table f) begin ∙ has_on f (8 * table_of f h) c (words_of (take k (table f h c))) (tabled_is f c on).0 is.1 in
+      absurd (let both : true ≡ false = sym has ∙ none in cc)
+      )
+  | inr off ↦ off
+]
+
+-- the second word of a chain that stands in a table
+pub told_second : (f : Frame) (ps : List ℕ) (c : List Piece) (a x : ℕ) → is_tabled f c ≡ true → a ∷ x ∷ [] ≡ words_of (take 2 (reading f ps c)) → x ≡ pointer_second c
+told_second f ps c a x on e =
+    let both : a ∷ x ∷ [] ≡ 8 * table_of f (first ps) ∷ pointer_second c ∷ [] = e ∙ ap (λ (pl : List Put). words_of (take 2 pl)) (reading_tabled f ps c on) in
+    ap (λ (l : List ℕ). slice_index l 1) both
+
+-- where the words before name no table, neither do those with one more, and with two, whose second names none
+pub plain_odd : (f : Frame) (ws : List ℕ) (a m : ℕ) → length ws ≡ 2 * m → has_table f ws ≡ false → has_table f (ws ++ a ∷ []) ≡ false
+plain_odd f [] a m even plain = refl
+plain_odd f (b ∷ []) a m even plain = absurd (omega arith)
+plain_odd f (b ∷ s ∷ ws) a m even plain = plain
+
+pub plain_more : (f : Frame) (ws : List ℕ) (a x m : ℕ) → length ws ≡ 2 * m → has_table f ws ≡ false → f.features.indirect && names_table x ≡ false → has_table f ((ws ++ a ∷ []) ++ x ∷ []) ≡ false
+plain_more f [] a x m even plain bare = bare
+plain_more f (b ∷ []) a x m even plain bare = absurd (omega arith)
+plain_more f (b ∷ s ∷ ws) a x m even plain bare = plain
+
+-- only the first descriptor of a chain may name one
+pub names_first : (f : Frame) (ws ps : List ℕ) (c : List Piece) (a x m : ℕ) → length ws ≡ 2 * m → has_table f ws ≡ false → length ps ≡ needs f.features c → IsChain c → f.features.indirect ≡ true
+    → (ws ++ a ∷ []) ++ x ∷ [] ≡ words_of (take (length ((ws ++ a ∷ []) ++ x ∷ [])) (reading f ps c)) → length ((ws ++ a ∷ []) ++ x ∷ []) ≤ length (reading f ps c) → ws ≡ []
+names_first f [] ps c a x m even plain many is on e low = refl
+names_first f (b ∷ []) ps c a x m even plain many is on e low = absurd (omega arith)
+names_first f (b ∷ s ∷ ws) ps c a x m even plain many is on e low =
+    let all : List ℕ = (b ∷ s ∷ ws ++ a ∷ []) ++ x ∷ [] in
+    let long : length all ≡ length ws + 4 = omega (arith, length_push (ws ++ a ∷ []) x, length_push ws a) in
+    let off : is_tabled f c ≡ false = told_direct f all ps c is (omega arith) plain e in
+    let short : length (reading f ps c) ≡ 2 * length c = length_reading f ps c many is.0 ∙ ap (λ (t : Bool). if t then 2 + 2 * length c else 2 * length c) off in
+    elim (direct_is f c off) [
+      | inl lacks ↦ absurd (let both : true ≡ false = sym on ∙ lacks in cc)
+      | inr one ↦ absurd (omega arith)
+    ]

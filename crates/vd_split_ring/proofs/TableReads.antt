@@ -29,7 +29,7 @@ use Rattle.vd_split_ring.proofs.Areas.{areas, tables_follow}
 use Rattle.vd_split_ring.proofs.DeviceAnswers.{is_taken}
 use Rattle.vd_split_ring.proofs.DriverParts.{open_chain}
 use Rattle.vd_split_ring.proofs.Direct.{lent_needs}
-use Rattle.vd_split_ring.proofs.Reading.{names_it, no_table}
+use Rattle.vd_split_ring.proofs.Reading.{names_it, none_read}
 use Rattle.vd_split_ring.proofs.Rows.{row_stands, words_row}
 use Rattle.vd_split_ring.proofs.Spelling.{spells}
 use Rattle.vd_split_ring.proofs.Tables.{is_either, tabled_is, direct_needs, reading_tabled, reading_direct}
@@ -68,11 +68,6 @@ loaded_tabled f h c ws is e =
     ap (λ us. read Split (drop 2 us) (lane32 (slice_index us 1) 0)) e
     ∙ ap (λ us. read Split us (lane32 (16 * m + 17179869184) 0)) (words_row (table_of f h) (table_words Split c))
     ∙ ap (read Split (table_words Split c)) (len_named m (16 * m + 17179869184) is.1 refl) ∙ reads_back Split c is
-
--- a direct chain's words have none
-none_read : (f : Frame) (ws ps : List ℕ) (c : List Piece) → is_tabled f c ≡ false → length ps ≡ needs f.features c → IsChain c → ws ≡ words_of (take (length ws) (reading f ps c)) → has_table f ws ≡ false
-none_read f ws ps c off many is e =
-    ap (has_table f) (e ∙ ap (λ (pl : List Put). words_of (take (length ws) pl)) (reading_direct f ps c off)) ∙ no_table f ps c (length ws) (many ∙ direct_needs f c is.0 off) is.3 off
 
 pub loaded_read : (f : Frame) (s : List DeviceDone) (h : ℕ) (ws : List ℕ) → IsLawful f → BeginsChain f s h ws → is_whole f ws ≡ true → has_table f ws ≡ true → ReadsLoaded ws (chain_of f ws)
 loaded_read f s h ws l b whole has =

@@ -20,7 +20,7 @@ use Rattle.vd_split_ring.proofs.Rows.{row_place, row_differs, length_table, tabl
 
 -- ---- which chains stand in a table
 
-both_true : (b t : Bool) → b && t ≡ true → (b ≡ true) × (t ≡ true)
+pub both_true : (b t : Bool) → b && t ≡ true → (b ≡ true) × (t ≡ true)
 both_true true true h = (refl, refl)
 both_true true false h = absurd (let e : false ≡ true = h in cc)
 both_true false t h = absurd (let e : false ≡ true = h in cc)

@@ -91,7 +91,7 @@ impl SplitDriver {
             return DriverAct::Asleep;
         }
         self.heard = word;
-        self.armed = false;
+        self.armed = false; // it was rung
         if self.features.event_idx {
             self.doing = DriverStep::Idle;
             return DriverAct::Awake;
