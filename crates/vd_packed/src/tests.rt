@@ -1,4 +1,5 @@
 //! Both ends over plain words, against worked rows and an independent model of the format.
+mod bells;
 mod chains;
 mod events;
 mod format;
