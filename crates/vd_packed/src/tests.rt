@@ -8,3 +8,4 @@ mod rig;
 mod rows;
 mod sleepers;
 mod table;
+mod tabled;
