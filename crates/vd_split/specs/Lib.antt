@@ -8,6 +8,7 @@ pub mod Opening
 pub mod DeviceEnd
 pub mod DeviceGiving
 pub mod DeviceTaking
+pub mod DeviceTabling
 pub mod DeviceLaws
 pub mod SplitLayout
 pub mod Rig
@@ -15,3 +16,4 @@ pub mod Tracked
 pub mod DriverBells
 pub mod DeviceBells
 pub mod Telling
+pub mod Kept

@@ -5,6 +5,9 @@ mod descriptors;
 mod device;
 mod driver;
 mod layout;
+mod pieces;
+mod places;
+mod tables;
 
 pub use device::SplitDevice;
 pub use driver::SplitDriver;

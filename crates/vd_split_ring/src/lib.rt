@@ -6,6 +6,7 @@ mod device_laws;
 mod driver_laws;
 mod laws;
 mod signal_laws;
+mod table_laws;
 
 pub use control_laws::{control_law, control_words_law};
 pub use device_laws::{
@@ -17,4 +18,7 @@ pub use driver_laws::{
     driver_offered_law,
 };
 pub use laws::{account_law, agreement_law, fresh_law, looks_law, seen_law, spelling_law};
-pub use signal_laws::{answers_law, asleep_law, bells_law, hears_law, signals_law, sleep_law, unarmed_law};
+pub use signal_laws::{
+    answers_law, asleep_law, bells_law, hears_law, signals_law, sleep_law, unarmed_law,
+};
+pub use table_laws::{loaded_law, table_law};

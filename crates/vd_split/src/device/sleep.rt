@@ -10,8 +10,8 @@ ghost use Rattle.vd_split.specs.Telling.{act_of};
 ghost use Rattle.vd_split.specs.Parts.{event_offset, event_lane};
 
 use super::{DeviceStep, SplitDevice, Told};
-use crate::driver::own_value;
 use crate::descriptors::{shows_count, used_area};
+use crate::driver::own_value;
 use vd_bits::set_lane16;
 use vd_words::{Access, Op, Port};
 
@@ -123,8 +123,8 @@ impl SplitDevice {
     {
         let word = set_lane16(self.area[0], 0, 1);
         port.access(op, Access::Store(used_area(self.size), word));
-        self.area[0] = word;
         self.armed = false;
+        self.area[0] = word;
         self.doing = DeviceStep::Idle;
         Told::Awake
     }
@@ -154,8 +154,8 @@ impl SplitDevice {
     {
         let word = set_lane16(self.area[0], 0, 1);
         port.access(Op::Rest, Access::Store(used_area(self.size), word));
-        self.area[0] = word;
         self.armed = false;
+        self.area[0] = word;
         self.doing = DeviceStep::RestLook;
         Told::Moved
     }

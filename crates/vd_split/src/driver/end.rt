@@ -1,13 +1,14 @@
 //! What the driver's end offers its holder.
-ghost use Rattle.std.specs.Prelude.{◌≡◌, ◌≤◌, length};
+ghost use Rattle.std.specs.Prelude.{◌≡◌};
 ghost use Rattle.vd_split.specs.DriverEnd.{split_driver};
 ghost use Rattle.vd_split.specs.DriverLaws.{driver_laws};
+ghost use Rattle.vd_split.specs.Parts.{first_store};
 
 use super::{DriverStep, SplitDriver};
 use crate::descriptors::place_at;
-use arrayvec::ArrayVec;
+use crate::tables::needed;
 use vd_layout::DriverEnd;
-use vd_model::{Chain, Features, Piece};
+use vd_model::{Chain, Features};
 use vd_ring::DriverAct;
 use vd_words::Port;
 
@@ -41,7 +42,7 @@ impl DriverEnd for SplitDriver {
     }
 
     fn room(&self, c: &Chain) -> bool {
-        c.pieces().len() <= self.free.len()
+        needed(self.features.indirect, c.pieces().len()) <= self.free.len()
     }
 
     fn next_head(&self) -> u32 {
@@ -49,8 +50,8 @@ impl DriverEnd for SplitDriver {
     }
 
     fn begin_offer(&mut self, c: &Chain) {
-        copy_pieces(&mut self.pieces, c.pieces());
-        self.doing = DriverStep::Describe(0);
+        self.pieces.fill(c.pieces());
+        self.doing = first_store(self.features.indirect, c.pieces().len());
     }
 
     fn begin_collect(&mut self) {
@@ -75,14 +76,14 @@ impl DriverEnd for SplitDriver {
     }
 }
 
-/// Puts these pieces in place of those that are there.
-fn copy_pieces(to: &mut ArrayVec<Piece, 16>, from: &[Piece])
-    requires { length from.now ≤ 16 }
-    ensures { to.new.items ≡ from.now }
+/// The first step of the offer of a chain of so many pieces: two and more stand in a table where the ring has them.
+#[inline]
+fn first_store(indirect: bool, pieces: usize) -> DriverStep
+    ensures { result ≡ first_store indirect pieces }
 {
-    to.clear();
-    match to.try_extend_from_slice(from) {
-        Ok(()) => {}
-        Err(_) => unreachable!(),
+    if indirect && pieces > 1 {
+        DriverStep::Table(0)
+    } else {
+        DriverStep::Describe(0)
     }
 }

@@ -17,15 +17,20 @@ use vd_ring::DriverAct;
 use vd_words::{Access, Op, Port};
 
 /// Whether an event word by this rule asks for a signal for the range `old` to `new - 1`.
+#[inline]
 fn rings(rule: EventRule, old: u64, new: u64, event: u16) -> bool
     requires some { old < new }
     requires near { new - old ≤ reach rule }
     ensures { IsTrue result ↔ Rings rule old new event }
 {
-    matches!(Due::new(rule, old, new).check(u32::from(event)), Answer::Ring)
+    matches!(
+        Due::new(rule, old, new).check(u32::from(event)),
+        Answer::Ring
+    )
 }
 
 /// Whether this event word asks for one.
+#[inline]
 pub(crate) fn wanted(event_idx: bool, old: u64, new: u64, event: u16) -> bool
     requires some { old < new }
     requires near { new - old ≤ 32768 }
@@ -39,6 +44,7 @@ pub(crate) fn wanted(event_idx: bool, old: u64, new: u64, event: u16) -> bool
 }
 
 /// Whether the loaded word with the device's event word asks for one.
+#[inline]
 fn asks(event_idx: bool, old: u64, new: u64, word: u64) -> bool
     requires some { old < new }
     requires near { new - old ≤ 32768 }
