@@ -24,7 +24,7 @@ use Rattle.vd_bus.specs.Acts.{IsOneActMore}
 use Rattle.vd_bus.specs.Pace.{KeepsPace, raised, worked}
 use Rattle.vd_bus.specs.Scripts.{chains}
 
--- the script; whether it was loaded, with room for all that will come back; how many chains were offered; what came back, in order;
+-- the script; whether it was loaded, with room for all that will come back, and may be booted; how many chains were offered; what came back, in order;
 -- for which views of a ring the end stands that it holds; whether all chains of the script were offered and returned, and the end is
 -- idle; how many of its steps did not answer Looked, and how many of its hearings ended with Awake
 pub record GuestParty (X : Type 0) : Type 1 where

@@ -58,7 +58,8 @@ pub record DriverStays (side : SideModel DriverView) (act : DriverView → Op �
     : Type 0 where
   pub arms : (v : DriverView) (o : Op) (a : Access) (r : ℕ) → side.next v o a → o ≡ op.Arm → v.doing ≡ driver.Idle
       → ((side.after v o a r).doing ≡ driver.Arming) × (t : ℕ) × ((side.after v o a r).armed ≡ Some t)
-  pub armed : (v : DriverView) (o : Op) (a : Access) (r : ℕ) → side.next v o a → act v o a r ≡ driver_act.Armed → (side.after v o a r).armed ≡ v.armed
+  pub armed : (v : DriverView) (o : Op) (a : Access) (r : ℕ) → side.next v o a → act v o a r ≡ driver_act.Armed
+      → (side.after v o a r).armed ≡ v.armed
   pub asleep : (v : DriverView) (o : Op) (a : Access) (r : ℕ) → side.next v o a → act v o a r ≡ driver_act.Asleep → side.after v o a r ≡ v
   pub shown : (v : DriverView) (o : Op) (a : Access) (r : ℕ) → side.next v o a → DriverGoes (act v o a r)
       → (v.shown ≡ true) ⊎ DriverLooksNow v o → (side.after v o a r).shown ≡ true
@@ -79,7 +80,8 @@ pub record DeviceStays (side : SideModel DeviceView) (act : DeviceView → Op �
     : Type 0 where
   pub arms : (w : DeviceView) (o : Op) (a : Access) (r : ℕ) → side.next w o a → o ≡ op.Arm → w.doing ≡ device.Idle
       → ((side.after w o a r).doing ≡ device.Arming) × (t : ℕ) × ((side.after w o a r).armed ≡ Some t)
-  pub armed : (w : DeviceView) (o : Op) (a : Access) (r : ℕ) → side.next w o a → act w o a r ≡ device_act.Armed → (side.after w o a r).armed ≡ w.armed
+  pub armed : (w : DeviceView) (o : Op) (a : Access) (r : ℕ) → side.next w o a → act w o a r ≡ device_act.Armed
+      → (side.after w o a r).armed ≡ w.armed
   pub asleep : (w : DeviceView) (o : Op) (a : Access) (r : ℕ) → side.next w o a → act w o a r ≡ device_act.Asleep → side.after w o a r ≡ w
   pub shown : (w : DeviceView) (o : Op) (a : Access) (r : ℕ) → side.next w o a → DeviceGoes (act w o a r)
       → (w.shown ≡ true) ⊎ DeviceLooksNow w o → (side.after w o a r).shown ≡ true
