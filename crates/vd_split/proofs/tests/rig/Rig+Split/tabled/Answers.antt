@@ -8,7 +8,7 @@ use Rattle.vd_split_ring.proofs.Opens.{opens}
 use Rattle.vd_split.specs.DeviceEnd.{device_begun, is_resting}
 use Rattle.vd_split.specs.DriverEnd.{IsMadeFor, driver_begun}
 use Rattle.vd_split.specs.SplitLayout.{split_layout}
-use Rattle.vd_split.proofs.tests.rig.Rig.tabled.Goals as goal
+use Rattle.vd_split.proofs.tests.rig.Rig+Split.tabled.Goals as goal
 
 pub invariant_of-result : goal.invariant_of-result
 invariant_of-result c =
