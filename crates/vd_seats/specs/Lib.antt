@@ -1,0 +1,4 @@
+pub mod Rule
+pub mod Seat
+pub mod Closing
+pub mod Fresh
