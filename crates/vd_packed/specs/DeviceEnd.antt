@@ -151,7 +151,6 @@ not_armed e v st off = st.signals.is_armed ∙ ap (λ (b : Bool). if b then Some
 pub is_armed : (e : PackedDevice) (v : DeviceView) → DeviceStands e v → e.armed ≡ true → v.armed ≡ Some (tpos v.frame v.done)
 is_armed e v st on = st.signals.is_armed ∙ ap (λ (b : Bool). if b then Some (tpos v.frame v.done) else None) on
 
-
 -- ---- the operation that is begun, and the accesses that it still takes at most
 
 abbrev pub device_begun : DeviceStep → DeviceOp

@@ -2,11 +2,10 @@
 use crate::pieces::Pieces;
 use crate::places::Places;
 use circular_buffer::HeapCircularBuffer;
-use vd_model::Features;
-
 pub(crate) use make::kick_place;
 pub(crate) use signal::wanted;
 pub(crate) use sleep::{own_lane, own_value};
+use vd_model::Features;
 
 mod advance;
 mod collect;

@@ -38,7 +38,8 @@ impl PackedDevice {
         ensures moved { result ≡ Told.Moved }
         ensures second { self.new ≡ record self.old { second = word; doing = DeviceStep.Address } }
     {
-        self.second = word;
+        let second = word;
+        self.second = second;
         self.doing = DeviceStep::Address;
         Told::Moved
     }

@@ -1,4 +1,4 @@
-use Rattle.std.proofs.Common.{◌≡◌, ℕ, ◌+◌, ◌*◌, true, false, sym, ◌∙◌}
+use Rattle.std.proofs.Common.{◌*◌, true, false, sym, ◌∙◌}
 use Rattle.vd_words.specs.declared.access.Access.TheVariants.{Load}
 use Rattle.vd_words.specs.declared.access.Op.TheVariants as op
 use Rattle.vd_ring.specs.declared.act.DeviceAct.TheVariants as act

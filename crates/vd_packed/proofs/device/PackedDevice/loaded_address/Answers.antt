@@ -19,9 +19,11 @@ returns-clause-whole c = λ off.
     let e : PackedDevice = c.args.self.now in let e2 : PackedDevice = record e { guesses = c.remember.new.guesses; pieces = c.push.new.self } in
     let spot : Spot = c.forward-spot.result in let id : ℕ = c.lane16-head.result in let n : ℕ = c.len-count.result in
     let pushed = c.push.ensures.items ∙ ap (λ (q : Piece). e.pieces.items ++ q ∷ []) c.piece_from.ensures in
-    let many : n ≡ length e.pieces.items + 1 = c.len-count.ensures.value ∙ (ap (λ (ps : List Piece). length ps) pushed ∙ length_push e.pieces.items (piece_of c.args.addr e.second)) in
-    (refl, record {
-      pushed = pushed;
-      guesses = c.remember.ensures;
-      kept = ap (λ s. taken e e2 s id n) c.forward-spot.ensures ∙ (ap (λ k. taken e e2 (forward e.at 1 e.size) k n) c.lane16-head.ensures ∙ ap (λ k. taken e e2 (forward e.at 1 e.size) (id_of e.second) k) many);
-    })
+    let many : n ≡ length e.pieces.items + 1 = c.len-count.ensures.value ∙ (ap (λ (ps : List Piece). length ps) pushed ∙ length_push e.pieces.items (piece_of c.args.addr e.second)) in (
+      refl,
+      record {
+        pushed = pushed;
+        guesses = c.remember.ensures;
+        kept = ap (λ s. taken e e2 s id n) c.forward-spot.ensures ∙ (ap (λ k. taken e e2 (forward e.at 1 e.size) k n) c.lane16-head.ensures ∙ ap (λ k. taken e e2 (forward e.at 1 e.size) (id_of e.second) k) many);
+      },
+    )
