@@ -2,3 +2,4 @@ pub mod Rule
 pub mod Seat
 pub mod Closing
 pub mod Fresh
+pub mod Asleep

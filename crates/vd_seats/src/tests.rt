@@ -1,0 +1,3 @@
+mod asleep;
+mod told_packed;
+mod told_split;
