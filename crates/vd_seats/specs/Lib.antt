@@ -3,3 +3,4 @@ pub mod Seat
 pub mod Closing
 pub mod Fresh
 pub mod Asleep
+pub mod Open
