@@ -1,9 +1,8 @@
 -- What the holder of one seat knows by an answer of its end: how the other side stood at the load that told it. No view of the
 -- other side is handed out; there was one.
-use Rattle.std.proofs.Common.{◌≡◌, ℕ, List, sym, ap, ◌∙◌, subst}
+use Rattle.std.proofs.Common.{◌≡◌, ℕ, List, sym, ◌∙◌, subst}
 use Rattle.vd_words.specs.declared.access.Access.{Access}
 use Rattle.vd_words.specs.declared.access.Op.{Op}
-use Rattle.vd_words.specs.Step.{answered}
 use Rattle.vd_ring.specs.declared.act.DriverAct.{DriverAct}
 use Rattle.vd_ring.specs.declared.act.DriverAct.TheVariants as driver_act
 use Rattle.vd_ring.specs.declared.act.DeviceAct.{DeviceAct}
@@ -17,7 +16,6 @@ use Rattle.vd_layout.specs.Device.{DeviceModel}
 use Rattle.vd_layout.specs.DriverFinish.{IsDriverFinish}
 use Rattle.vd_layout.specs.DeviceFinish.{IsDeviceFinish}
 use Rattle.vd_layout.specs.Layout.{LayoutModel, IsLawfulLayout}
-use Rattle.vd_seats.specs.declared.view.View.{View}
 use Rattle.vd_seats.specs.Closing.{DriverMaySleep, DeviceMaySleep, driver_may_sleep, device_may_sleep}
 use Rattle.vd_seats.specs.Rule.{DriverHeld, DeviceHeld, Held}
 use Rattle.vd_seats.specs.Seat.{SeatState, DrivesAt, ServesAt, port_of, drives_run, serves_run}

@@ -11,12 +11,7 @@ use vd_model::{Chain, Piece};
 use vd_words::Port;
 
 /// Offers a chain of one piece where fewer were offered, there is room for it and the end isn't armed.
-pub fn offer_one<E: DriverEnd, P: Port>(
-    end: &mut E,
-    port: &mut P,
-    count: u32,
-    piece: Piece,
-) -> bool
+pub fn offer_one<E: DriverEnd, P: Port>(end: &mut E, port: &mut P, count: u32, piece: Piece) -> bool
     requires { (v : DriverView) × DriverOn P.port E.driver port.old v end.old × IsOpen v.frame }
     ensures { (v : DriverView) → DriverOn P.port E.driver port.old v end.old → IsOpen v.frame → DriverRan P.port E.driver port.old v port.new end.new }
 {

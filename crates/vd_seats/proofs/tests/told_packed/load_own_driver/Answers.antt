@@ -1,5 +1,4 @@
 use Rattle.vd_words.specs.declared.access.Access.TheVariants.{Load}
-use Rattle.vd_words.specs.declared.access.Op.TheVariants as op
 use Rattle.vd_packed.specs.PackedLayout.{packed_layout, packed_laws}
 use Rattle.vd_packed.specs.DriverEnd.{packed_driver}
 use Rattle.vd_packed.specs.DeviceEnd.{packed_device}

@@ -1,5 +1,4 @@
 use Rattle.vd_words.specs.declared.access.Access.TheVariants.{Load}
-use Rattle.vd_words.specs.declared.access.Op.TheVariants as op
 use Rattle.vd_split.specs.SplitLayout.{split_layout, split_laws}
 use Rattle.vd_split.specs.DriverEnd.{split_driver}
 use Rattle.vd_split.specs.DeviceEnd.{split_device}

@@ -1,5 +1,3 @@
-use Rattle.std.proofs.Common.{sym, subst}
-use Rattle.vd_ring.specs.declared.frame.Frame.{Frame}
 use Rattle.vd_layout.specs.Runs.{driver_on}
 use Rattle.vd_seats.proofs.tests.turns.work_driver.Goals as goal
 
