@@ -1,5 +1,5 @@
 -- What a device is, as one record, and what each of its calls does.
-use Rattle.std.specs.Prelude.{◌≡◌, ◌⊎◌, ◌↔◌, ℕ, ◌+◌, ◌-◌, ◌^◌, ◌<◌, ◌≤◌, min, true, Option, Some, None, IsSome, List, [], ◌∷◌, ◌++◌, length, map, drop, slice_get}
+use Rattle.std.specs.Prelude.{◌≡◌, ◌↔◌, ℕ, ◌+◌, ◌*◌, ◌-◌, ◌^◌, ◌<◌, ◌≤◌, min, true, Option, Some, None, IsSome, List, [], ◌∷◌, ◌++◌, length, map, drop, slice_get}
 use Rattle.std.specs.List.{All}
 use mathlib.Core.List.{IsPrefix}
 use Rattle.vd_model.specs.declared.chain.Piece.{Piece}
@@ -10,25 +10,25 @@ use Rattle.vd_words.specs.declared.access.Op.{Op}
 use Rattle.vd_words.specs.Model.{PortModel}
 use Rattle.vd_ring.specs.declared.act.DeviceAct.TheVariants as act
 use Rattle.vd_ring.specs.declared.device.DeviceDone.{DeviceDone}
-use Rattle.vd_ring.specs.declared.device.DeviceNow.TheVariants as now
 use Rattle.vd_ring.specs.declared.device.DeviceView.{DeviceView}
-use Rattle.vd_ring.specs.declared.driver.DriverView.{DriverView}
 use Rattle.vd_ring.specs.declared.frame.Used.{Used}
 use Rattle.vd_ring.specs.History.{offers, takes, gives, running, IsWhole}
 use Rattle.vd_layout.specs.declared.moves.Move.{Move}
 use Rattle.vd_layout.specs.declared.moves.Move.TheVariants as move
 use Rattle.vd_layout.specs.Device.{DeviceModel}
-use Rattle.vd_layout.specs.Layout.{LayoutModel}
 use Rattle.vd_control.specs.declared.settings.Settings.{Settings}
 use Rattle.vd_control.specs.Settings.{default}
 use Rattle.vd_bus.specs.declared.event.Event.{Event}
 use Rattle.vd_bus.specs.declared.event.Event.TheVariants.{Attach, Suspend, Reset}
 use Rattle.vd_bus.specs.declared.device.Attached.{Attached}
+use Rattle.vd_ring.specs.Sleep.{device_woken}
+use Rattle.vd_bus.specs.Pace.{last_count, raised, worked, attaches}
 use Rattle.vd_bus.specs.Orders.{Terms, mode_of, IsData, FitsQueue}
 
 -- the journal, and for how many events and chains more it has room; the settings; the count of faults; the plain data that it
 -- carries; by what it is attached; for which views of a ring the end stands that it holds; and whether it has begun all chains of
--- its order and given them, and its end rests
+-- its order and given them, and its end rests; how many of its steps did not answer Looked, and how many of its hearings ended with
+-- Awake
 pub record DeviceParty (X C : Type 0) : Type 1 where
   pub events : X → List Event
   pub begun : X → List Begun
@@ -40,6 +40,8 @@ pub record DeviceParty (X C : Type 0) : Type 1 where
   pub attached : X → Option Attached
   pub holds : X → DeviceView → Type 0
   pub is_done : X → Type 0
+  pub accesses : X → ℕ
+  pub heard : X → ℕ
 
 -- ---- the journal against the ring
 
@@ -79,6 +81,11 @@ pub record IsLawfulDeviceParty {E X C : Type 0} (e : DeviceModel E) (m : DeviceP
   pub serves : (x : X) (w : DeviceView) (by : Attached) → m.holds x w → m.attached x ≡ Some by → IsData by.order → IsServing (m.begun x) by w.done
   -- where it is done, as many chains as its order says were begun, and all of them are given
   pub done : (x : X) (w : DeviceView) (by : Attached) → m.holds x w → m.attached x ≡ Some by → m.is_done x → (length (m.begun x) ≡ by.at + by.order.count) × (running w.done ≡ []) × (length (takes w.done) ≡ length (gives w.done)) × IsWhole w.done
+  -- it is armed only where it holds no chain, and has begun fewer than its order says
+  pub armed : (x : X) (w : DeviceView) (by : Attached) (at : ℕ) → m.holds x w → m.attached x ≡ Some by → w.armed ≡ Some at → (running w.done ≡ []) × (length (m.begun x) < by.at + by.order.count)
+  -- its pace, for counts below the last u64: all chains begun before the attach were given
+  pub pace : (x : X) (w : DeviceView) (by : Attached) → m.holds x w → m.attached x ≡ Some by → m.accesses x < last_count → m.heard x < last_count
+      → m.accesses x ≤ 64 * (length (m.begun x) + (by.at + (length (gives w.done) - by.from)) + m.heard x + attaches (m.events x))
 
 -- ---- the calls
 
@@ -95,6 +102,7 @@ pub record IsUnchanged {X C : Type 0} (m : DeviceParty X C) (x y : X) : Type 0 w
   pub carried : m.carried y ≡ m.carried x
   pub attached : m.attached y ≡ m.attached x
   pub room : (m.event_room x ≤ m.event_room y) × (m.chain_room x ≤ m.chain_room y)
+  pub counts : (m.accesses y ≡ m.accesses x) × (m.heard y ≡ m.heard x)
 
 -- one event was appended, into the room that was there; chains, faults and what it carries have not changed
 pub record IsNoted {X C : Type 0} (m : DeviceParty X C) (event : Event) (x y : X) : Type 0 where
@@ -103,6 +111,7 @@ pub record IsNoted {X C : Type 0} (m : DeviceParty X C) (event : Event) (x y : X
   pub faults : m.faults y ≡ m.faults x
   pub carried : m.carried y ≡ m.carried x
   pub room : (m.event_room x ≤ m.event_room y + 1) × (m.chain_room x ≤ m.chain_room y)
+  pub counts : (m.accesses y ≡ m.accesses x) × (m.heard y ≡ m.heard x)
 
 -- the settings of the control queue's device, and the default where there is none
 abbrev pub control_settings : {X : Type 0} → (X → Settings) → Option X → Settings
@@ -129,6 +138,7 @@ pub record IsRefused {X C : Type 0} (m : DeviceParty X C) (x y : X) : Type 0 whe
   pub carried : m.carried y ≡ m.carried x
   pub attached : m.attached y ≡ m.attached x
   pub room : (m.event_room x ≤ m.event_room y) × (m.chain_room x ≤ m.chain_room y)
+  pub counts : (m.accesses y ≡ m.accesses x) × (m.heard y ≡ m.heard x)
 
 -- chains were begun into the room that was there, and nothing else has changed; on a data queue the settings neither
 pub record IsServed {X C : Type 0} (m : DeviceParty X C) (x y : X) : Type 0 where
@@ -160,25 +170,8 @@ pub record IsDeviceAccess {P E X C : Type 0} (port : PortModel P) (e : DeviceMod
   pub finished : (answer ≡ move.Finished) ↔ m.is_done y
   pub looked : (answer ≡ move.Looked) ↔ (e.act w op access got ≡ act.Asleep)
   pub rested : e.act w op access got ≡ act.Rested → m.is_done y
-
--- whole operations were made over plain words, with the same view of the driver: then no operation is in progress, all that was
--- taken is given, and the device is done, or has taken all that was offered and has begun fewer chains than its order says
-pub record IsDevicePhase {P E X C : Type 0} (port : PortModel P) (e : DeviceModel E) (l : LayoutModel) (m : DeviceParty X C) (p q : P) (v : DriverView) (w : DeviceView) (x y : X) : Type 0 where
-  pub words : List ℕ
-  pub view : DeviceView
-  pub same : port.same p q
-  pub plain : port.plain q words
-  pub ring : l.ring words v view
-  pub holds : m.holds y view
-  pub served : IsServed m x y
-  pub grows : HasServed w view
-  pub idle : view.doing ≡ now.Idle
-  pub given : (running view.done ≡ []) × (length (takes view.done) ≡ length (gives view.done))
-  pub so_far : m.is_done y ⊎ ((takes view.done ≡ offers v.done) × ((by : Attached) → m.attached y ≡ Some by → length (m.begun y) < by.at + by.order.count))
-
--- for all words and views that meet the ring invariant, at which the device holds its end
-abbrev pub IsDevicePhaseFrom : {P E X C : Type 0} → PortModel P → DeviceModel E → LayoutModel → DeviceParty X C → P → P → X → X → Type 0
-IsDevicePhaseFrom port e l m p q x y = (ws : List ℕ) (v : DriverView) (w : DeviceView) → port.plain p ws → l.ring ws v w → m.holds x w → IsDevicePhase port e l m p q v w x y
+  pub accesses : m.accesses y ≡ raised (worked answer) (m.accesses x)
+  pub heard : m.heard y ≡ raised (device_woken op (e.act w op access got)) (m.heard x)
 
 -- the device has handed out the end that it held, which rests
 pub record IsSuspend {E X C : Type 0} (e : DeviceModel E) (m : DeviceParty X C) (x y : X) (end : E) : Type 0 where

@@ -1,5 +1,5 @@
 -- What a guest is, as one record, and what each of its calls does.
-use Rattle.std.specs.Prelude.{◌≡◌, ◌⊎◌, ◌↔◌, ℕ, ◌<◌, true, false, Option, Some, None, IsSome, List, [], length, map, slice_get}
+use Rattle.std.specs.Prelude.{◌≡◌, ◌↔◌, ℕ, ◌+◌, ◌*◌, ◌<◌, ◌≤◌, true, false, Option, Some, None, IsSome, List, [], length, map, slice_get}
 use Rattle.std.specs.List.{All}
 use mathlib.Core.List.{IsPrefix}
 use Rattle.vd_model.specs.declared.chain.Piece.{Piece}
@@ -11,7 +11,6 @@ use Rattle.vd_words.specs.Model.{PortModel}
 use Rattle.vd_ring.specs.declared.act.DriverAct.TheVariants as act
 use Rattle.vd_ring.specs.declared.driver.DriverNow.TheVariants as now
 use Rattle.vd_ring.specs.declared.driver.DriverView.{DriverView}
-use Rattle.vd_ring.specs.declared.device.DeviceView.{DeviceView}
 use Rattle.vd_ring.specs.declared.frame.Used.{Used}
 use Rattle.vd_ring.specs.Frames.{Fits}
 use Rattle.vd_ring.specs.History.{offers, collects, gives}
@@ -19,11 +18,13 @@ use Rattle.vd_layout.specs.Begun.{DriverOp}
 use Rattle.vd_layout.specs.declared.moves.Move.{Move}
 use Rattle.vd_layout.specs.declared.moves.Move.TheVariants as move
 use Rattle.vd_layout.specs.Driver.{DriverModel, HasRoom}
-use Rattle.vd_layout.specs.Layout.{LayoutModel}
+use Rattle.vd_ring.specs.Sleep.{driver_woken}
+use Rattle.vd_bus.specs.Pace.{last_count, raised, worked}
 use Rattle.vd_bus.specs.Scripts.{chains}
 
 -- the script; whether it was loaded, with room for all that will come back; how many chains were offered; what came back, in order; for which views of a ring the end stands
--- that it holds; and whether all chains of the script were offered and returned, and the end is idle
+-- that it holds; whether all chains of the script were offered and returned, and the end is idle; how many of its steps did not answer
+-- Looked, and how many of its hearings ended with Awake
 pub record GuestParty (X : Type 0) : Type 1 where
   pub script : X → Option Script
   pub is_loaded : X → Type 0
@@ -31,6 +32,8 @@ pub record GuestParty (X : Type 0) : Type 1 where
   pub returned : X → List Return
   pub holds : X → DriverView → Type 0
   pub is_done : X → Type 0
+  pub accesses : X → ℕ
+  pub heard : X → ℕ
 
 -- a chain as it comes back on a data queue
 abbrev pub as_return : Used → Return
@@ -44,7 +47,13 @@ pub record IsLawfulGuestParty {D X : Type 0} (d : DriverModel D) (m : GuestParty
   -- the chains of a script without commands are offered in order, each once, and what was collected is in the list
   pub offers : (x : X) (v : DriverView) (s : Script) → m.holds x v → m.script x ≡ Some s → s.commands ≡ [] → IsPrefix (Rattle.vd_ring.specs.History.offers v.done) (chains s)
   pub returned : (x : X) (v : DriverView) (s : Script) → m.holds x v → m.script x ≡ Some s → s.commands ≡ [] → m.returned x ≡ map as_return (collects v.done)
-  pub done : (x : X) (v : DriverView) (s : Script) → m.holds x v → m.script x ≡ Some s → s.commands ≡ [] → m.is_done x → (Rattle.vd_ring.specs.History.offers v.done ≡ chains s) × (length (collects v.done) ≡ length (chains s))
+  pub done : (x : X) (v : DriverView) (s : Script) → m.holds x v → m.script x ≡ Some s → s.commands ≡ [] → m.is_done x → (Rattle.vd_ring.specs.History.offers v.done ≡ chains s) × (length (collects v.done) ≡ length (chains s)) × (v.doing ≡ now.Idle)
+  -- it is done as soon as all came back and its end is idle
+  pub finishes : (x : X) (v : DriverView) (s : Script) → m.holds x v → m.script x ≡ Some s → s.commands ≡ [] → v.doing ≡ now.Idle → length (collects v.done) ≡ length (chains s) → m.is_done x
+  -- it is armed only where no chain is left or the next has no room
+  pub armed : (x : X) (v : DriverView) (s : Script) (at : ℕ) (c : List Piece) → m.holds x v → v.armed ≡ Some at → m.script x ≡ Some s → s.commands ≡ [] → slice_get (chains s) (length (Rattle.vd_ring.specs.History.offers v.done)) ≡ Some c → HasRoom v.frame v.done c → ⊥
+  -- its pace, for counts below the last u64
+  pub pace : (x : X) → m.accesses x < last_count → m.heard x < last_count → m.accesses x ≤ 64 * (m.offered x + length (m.returned x) + m.heard x + 1)
 
 -- a fresh end's view with which a guest of this script can be booted
 pub record CanBoot (s : Script) (v : DriverView) : Type 0 where
@@ -61,6 +70,7 @@ pub record IsBoot {D X : Type 0} (d : DriverModel D) (m : GuestParty X) (end : D
   pub script : m.script y ≡ m.script x
   pub offered : m.offered y ≡ m.offered x
   pub returned : m.returned y ≡ m.returned x
+  pub counts : (m.accesses y ≡ m.accesses x) × (m.heard y ≡ m.heard x)
 
 -- what was offered and collected on the ring is there still
 pub record HasDriven (v v' : DriverView) : Type 0 where
@@ -80,26 +90,8 @@ pub record IsGuestAccess {P D X : Type 0} (port : PortModel P) (d : DriverModel 
   pub grows : HasDriven v (d.side.after v op access got)
   pub finished : (answer ≡ move.Finished) ↔ m.is_done y
   pub looked : (answer ≡ move.Looked) ↔ (d.act v op access got ≡ act.Asleep)
-
--- whole operations were made over plain words, with the same view of the device: then no operation is in progress, and the guest
--- is done, or has collected all that was given, but not yet all of its chains, and its next chain, if one is left, has no room
-pub record IsGuestPhase {P D X : Type 0} (port : PortModel P) (d : DriverModel D) (l : LayoutModel) (m : GuestParty X) (p q : P) (v : DriverView) (w : DeviceView) (x y : X) : Type 0 where
-  pub words : List ℕ
-  pub view : DriverView
-  pub same : port.same p q
-  pub plain : port.plain q words
-  pub ring : l.ring words view w
-  pub holds : m.holds y view
-  pub script : m.script y ≡ m.script x
-  pub grows : HasDriven v view
-  pub idle : view.doing ≡ now.Idle
-  pub so_far : m.is_done y ⊎ ((collects view.done ≡ gives w.done)
-      × ((s : Script) → m.script y ≡ Some s → s.commands ≡ [] → length (collects view.done) < length (chains s))
-      × ((s : Script) (c : List Piece) → m.script y ≡ Some s → s.commands ≡ [] → slice_get (chains s) (length (offers view.done)) ≡ Some c → HasRoom view.frame view.done c → ⊥))
-
--- for all words and views that meet the ring invariant, at which the guest holds its end
-abbrev pub IsGuestPhaseFrom : {P D X : Type 0} → PortModel P → DriverModel D → LayoutModel → GuestParty X → P → P → X → X → Type 0
-IsGuestPhaseFrom port d l m p q x y = (ws : List ℕ) (v : DriverView) (w : DeviceView) → port.plain p ws → l.ring ws v w → m.holds x v → IsGuestPhase port d l m p q v w x y
+  pub accesses : m.accesses y ≡ raised (worked answer) (m.accesses x)
+  pub heard : m.heard y ≡ raised (driver_woken op (d.act v op access got)) (m.heard x)
 
 -- the guest has handed out the end that it held, which is idle
 pub record IsHalt {D X : Type 0} (d : DriverModel D) (m : GuestParty X) (x y : X) (end : D) : Type 0 where
@@ -109,3 +101,4 @@ pub record IsHalt {D X : Type 0} (d : DriverModel D) (m : GuestParty X) (x y : X
   pub script : m.script y ≡ m.script x
   pub offered : m.offered y ≡ m.offered x
   pub returned : m.returned y ≡ m.returned x
+  pub counts : (m.accesses y ≡ m.accesses x) × (m.heard y ≡ m.heard x)

@@ -3,3 +3,4 @@ pub mod Entries
 pub mod Device
 pub mod Scripts
 pub mod Guest
+pub mod Pace

@@ -2,11 +2,10 @@
 ghost use Rattle.std.specs.Prelude.{◌≡◌, ◌≢◌, ℕ, ◌<◌, ◌≤◌, ◌+◌, ◌^◌, ◌↔◌, None, IsTrue, length, List, MatchResult, OnOk};
 ghost use Rattle.std.specs.Option.{option_copied};
 ghost use Rattle.vd_ring.specs.declared.device.DeviceView.{DeviceView};
-ghost use Rattle.vd_ring.specs.declared.driver.DriverView.{DriverView};
 ghost use Rattle.vd_words.specs.Own.{IsOwn};
 ghost use Rattle.vd_layout.specs.Device.{IsStill};
 ghost use Rattle.vd_bus.specs.Orders.{IsData};
-ghost use Rattle.vd_bus.specs.Device.{DeviceParty, IsLawfulDeviceParty, IsUnchanged, IsAttach, IsRefused, IsDeviceAccess, IsDevicePhaseFrom, IsSuspend, IsReset};
+ghost use Rattle.vd_bus.specs.Device.{DeviceParty, IsLawfulDeviceParty, IsUnchanged, IsAttach, IsRefused, IsDeviceAccess, IsSuspend, IsReset};
 
 use crate::journal::Journal;
 use crate::order::Order;
@@ -75,12 +74,6 @@ pub trait Device<L: Layout>: Drop {
         requires own { (w : DeviceView) × party.holds self.old w × IsOwn P.port L.Device.device.side port.old w }
         ensures { (w : DeviceView) → party.holds self.old w → IsOwn P.port L.Device.device.side port.old w → IsDeviceAccess P.port L.Device.device party port.old port.new w self.old self.new result };
 
-    /// Makes whole operations over the plain words of its ring, until it is done or finds no further chain.
-    fn phase<P: Port>(&mut self, port: &mut P)
-        requires live { ¬ (party.is_done self.old) }
-        requires own { (ws : List ℕ) × (v : DriverView) × (w : DeviceView) × P.port.plain port.old ws × L.layout.ring ws v w × party.holds self.old w × (P.port.ring port.old ≡ v.frame.ring) }
-        ensures { IsDevicePhaseFrom P.port L.Device.device L.layout party port.old port.new self.old self.new };
-
     /// Whether all chains of its order were begun and given, and its end rests.
     fn done(&self) -> bool
         ensures { IsTrue result ↔ party.is_done self.now };
@@ -90,6 +83,14 @@ pub trait Device<L: Layout>: Drop {
         requires done { party.is_done self.old }
         requires held { (w : DeviceView) × party.holds self.old w }
         ensures { IsSuspend L.Device.device party self.old self.new result };
+
+    /// How many of its steps did not answer Looked. It stays at the last u64.
+    fn accesses(&self) -> u64
+        ensures { result ≡ party.accesses self.now };
+
+    /// How many of its hearings ended with Awake. It stays at the last u64.
+    fn heard(&self) -> u64
+        ensures { result ≡ party.heard self.now };
 
     /// Sets the settings to the default.
     fn reset(&mut self)
