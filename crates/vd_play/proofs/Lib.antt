@@ -1,12 +1,4 @@
 pub mod Lists
 pub mod Bounds
-pub mod Keep
 pub mod Each
-pub mod Benches
-pub mod Rounds
-pub mod Returns
-pub mod Ending
-pub mod Begin
-pub mod Cut
-pub mod Making
-pub mod Untouched
+pub mod Turning
