@@ -4,3 +4,4 @@ pub mod Device
 pub mod Scripts
 pub mod Guest
 pub mod Pace
+pub mod Acts

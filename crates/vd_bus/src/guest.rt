@@ -1,10 +1,9 @@
 //! What a guest of a queue is.
 ghost use Rattle.std.specs.Prelude.{◌≡◌, ℕ, ◌↔◌, None, Some, [], IsTrue, List, OnOk, OnErr};
 ghost use Rattle.vd_ring.specs.declared.driver.DriverView.{DriverView};
-ghost use Rattle.vd_words.specs.Own.{IsOwn};
 ghost use Rattle.vd_layout.specs.Begun.{DriverOp};
 ghost use Rattle.vd_bus.specs.Scripts.{IsScript};
-ghost use Rattle.vd_bus.specs.Guest.{GuestParty, IsLawfulGuestParty, IsBoot, IsGuestAccess, IsHalt};
+ghost use Rattle.vd_bus.specs.Guest.{GuestParty, IsLawfulGuestParty, IsBoot, IsHalt, HoldsNone, OwnsAsGuest, MakesGuestAccess};
 
 use std::alloc::{AllocError, Global};
 use vd_layout::{Layout, Move};
@@ -25,7 +24,7 @@ pub trait Guest<L: Layout>: Drop {
         ensures offered { party.offered self.new ≡ party.offered self.old }
         ensures returned { party.returned self.new ≡ party.returned self.old }
         ensures counts { (party.accesses self.new ≡ party.accesses self.old) × (party.heard self.new ≡ party.heard self.old) }
-        ensures free { (v : DriverView) → ¬ (party.holds self.new v) };
+        ensures free { HoldsNone party self.new };
 
     /// Takes over the driver's end of a fresh ring.
     fn boot(&mut self, end: L::Driver)
@@ -37,8 +36,8 @@ pub trait Guest<L: Layout>: Drop {
     /// Makes one access of the ring's words.
     fn step<P: Port>(&mut self, port: &mut P) -> Move
         requires live { ¬ (party.is_done self.old) }
-        requires own { (v : DriverView) × party.holds self.old v × IsOwn P.port L.Driver.driver.side port.old v }
-        ensures { (v : DriverView) → party.holds self.old v → IsOwn P.port L.Driver.driver.side port.old v → IsGuestAccess P.port L.Driver.driver party port.old port.new v self.old self.new result };
+        requires own { OwnsAsGuest P.port L.Driver.driver party port.old self.old }
+        ensures { MakesGuestAccess P.port L.Driver.driver party port.old port.new self.old self.new result };
 
     /// Whether all chains of the script were offered and returned, and the end is idle.
     fn done(&self) -> bool

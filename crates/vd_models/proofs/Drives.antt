@@ -19,8 +19,9 @@ use Rattle.vd_ring.specs.Frames.{Fits, limit}
 use Rattle.vd_ring.specs.History.{entry, offers, collects, open_at}
 use Rattle.vd_ring.proofs.Counts.{occurs_from, length_without}
 use Rattle.vd_layout.proofs.OnePair.{says_collected}
-use Rattle.vd_layout.specs.Begun.{DriverOp, DriverPublished, DriverGoesOn}
+use Rattle.vd_layout.specs.Begun.{DriverOp, DriverPublished, DriverGoesOn, MayWake}
 use Rattle.vd_layout.specs.Driver.{DriverModel, IsDriverStep, IsLawfulDriver, HasRoom, MayOffer}
+use Rattle.vd_layout.specs.Unarmed.{driver_stays, driver_unarmed}
 use Rattle.vd_bus.specs.Guest.{as_return}
 use Rattle.vd_bus.specs.Scripts.{chains, run_chains, run_count}
 use Rattle.vd_models.specs.declared.cursor.Cursor.{Cursor}
@@ -91,6 +92,16 @@ module _ {D : Type 0} (d : DriverModel D) where
 
 -- ---- the operation that was begun
 
+-- no operation that it begins may wake it
+never_wakes : (u : Bool) (op : DriverOp) (next : Option (List Piece)) (f : Frame) (o : List DriverDone) → BegunIs u op next f o → MayWake op → ⊥
+never_wakes u DriverOp.arm next f o h m = h
+never_wakes u DriverOp.hear next f o h m = h
+never_wakes u DriverOp.disarm next f o h m = h
+never_wakes u DriverOp.idle next f o h m = m
+never_wakes u DriverOp.signal next f o h m = m
+never_wakes u (DriverOp.offer c) next f o h m = m
+never_wakes u DriverOp.collect next f o h m = m
+
 published_is : (u : Bool) (op : DriverOp) (next : Option (List Piece)) (f : Frame) (o : List DriverDone) → DriverPublished op → BegunIs u op next f o
 published_is u op next f o (inl e) = subst (λ z. BegunIs u z next f o) (sym e) tt
 published_is u op next f o (inr e) = subst (λ z. BegunIs u z next f o) (sym e) tt
@@ -100,6 +111,9 @@ goes_on u DriverOp.signal op' next f o g h = published_is u op' next f o g
 goes_on u DriverOp.idle op' next f o g h = subst (λ z. BegunIs u z next f o) (sym g) h
 goes_on u (DriverOp.offer c) op' next f o g h = subst (λ z. BegunIs u z next f o) (sym g) h
 goes_on u DriverOp.collect op' next f o g h = subst (λ z. BegunIs u z next f o) (sym g) h
+goes_on u DriverOp.arm op' next f o g h = absurd h
+goes_on u DriverOp.hear op' next f o g h = absurd h
+goes_on u DriverOp.disarm op' next f o g h = absurd h
 
 weight_goes : (op op' : DriverOp) (n m : ℕ) → op ≢ DriverOp.idle → DriverGoesOn op op' → m < n → drive_weight op' m < drive_weight op n
 weight_goes DriverOp.idle op' n m busy g less = absurd (busy refl)
@@ -107,6 +121,9 @@ weight_goes DriverOp.signal op' n m busy (inl e) less = subst (λ z. drive_weigh
 weight_goes DriverOp.signal op' n m busy (inr e) less = subst (λ z. drive_weight z m < 46 + n) (sym e) (omega arith)
 weight_goes (DriverOp.offer c) op' n m busy g less = subst (λ z. drive_weight z m < n) (sym g) less
 weight_goes DriverOp.collect op' n m busy g less = subst (λ z. drive_weight z m < n) (sym g) less
+weight_goes DriverOp.arm op' n m busy g less = subst (λ z. drive_weight z m < n) (sym g) less
+weight_goes DriverOp.hear op' n m busy g less = subst (λ z. drive_weight z m < n) (sym g) less
+weight_goes DriverOp.disarm op' n m busy g less = subst (λ z. drive_weight z m < n) (sym g) less
 
 weight_published : (op : DriverOp) (n : ℕ) → DriverPublished op → drive_weight op n ≤ 46 + n
 weight_published op n (inl e) = subst (λ z. drive_weight z n ≤ 46 + n) (sym e) (omega arith)
@@ -121,6 +138,10 @@ turn_small true = omega arith
 turn_small false = omega arith
 
 module _ {P D : Type 0} (port : PortModel P) (d : DriverModel D) (law : IsLawfulDriver d) (p q : P) (s : Script) (v : DriverView) (a b y : D) (at : Cursor) (o : ℕ) (r : List Return) (n : ℕ) (u : Bool) where
+  -- it is not armed still
+  still_unarmed : (answer : DriverAct) → DriveOpens d s (drive b at o r n false u) v → (st : IsDriverStep port d p q v b y answer) → (d.side.after v st.op st.access st.got).armed ≡ None
+  still_unarmed answer opens st = driver_stays d law port p q v b y answer (λ is. never_wakes u (d.begun b) (next_at s.runs at) v.frame v.done opens.drives.begun (subst (λ z. MayWake z) (sym is) tt)) opens.drives.unarmed st
+
   pub offered_at : (at' : Cursor) (k : ℕ) (u' : Bool) → DriveOpens d s (drive b at o r n false u) v → drive_weight (d.begun b) (d.left b) ≤ drive_weight (d.begun a) (d.left a) → IsDriverStep port d p q v b y (act.Offered k)
       → left_at s.runs at' ≡ left_at s.runs (record { run = at.run; used = at.used + 1 }) → IsSettled s.runs at'
       → IsDriveTurn port d s p q v (drive a at o r n false u) (drive y at' (o + 1) r n false u') Worked
@@ -153,6 +174,7 @@ module _ {P D : Type 0} (port : PortModel P) (d : DriverModel D) (law : IsLawful
           returned = h.returned ∙ ap (map as_return) (sym (ap collects done));
           count = omega (arith, h.count, ap length offs, ap length opn, length_push (offers v.done) c, length_push (open_at v.done) (length (offers v.done)), ap (λ (z : List DriverDone). length (collects z)) done);
           begun = published_is u' (d.begun y) (next_at s.runs at') v'.frame v'.done st.says.2;
+          unarmed = still_unarmed (act.Offered k) opens st;
           done = h.done;
           room = h.room;
           few = h.few;
@@ -194,6 +216,7 @@ module _ {P D : Type 0} (port : PortModel P) (d : DriverModel D) (law : IsLawful
           returned = is_back ∙ ap (λ z. z ++ record { number = k; len = len; ack = 0 } ∷ []) h.returned ∙ sym (map_push as_return (collects v.done) (entry k len)) ∙ ap (map as_return) (sym cols);
           count = omega (arith, h.count, shorter, ap length cols, length_push (collects v.done) (entry k len), ap (λ (z : List DriverDone). length (offers z)) done, ap (λ (z : List DriverDone). length (open_at z)) done);
           begun = subst (λ z. BegunIs u z (next_at s.runs at) v'.frame v'.done) (sym said.idle) tt;
+          unarmed = still_unarmed (act.Collected k len hd) opens st;
           done = done_is t (d.begun y) (length r') (length (chains s)) is_done said.idle (omega (arith, h.count, shorter, h.some));
           room = omega (arith, h.room);
           few = h.few;
@@ -230,6 +253,7 @@ module _ {P D : Type 0} (port : PortModel P) (d : DriverModel D) (law : IsLawful
         returned = h.returned ∙ ap (map as_return) (sym (ap collects done));
         count = omega (arith, h.count, ap (λ (z : List DriverDone). length (offers z)) done, ap (λ (z : List DriverDone). length (open_at z)) done, ap (λ (z : List DriverDone). length (collects z)) done);
         begun = begun;
+        unarmed = still_unarmed answer opens st;
         done = h.done;
         room = h.room;
         few = h.few;
@@ -297,9 +321,9 @@ module _ {P D : Type 0} (port : PortModel P) (d : DriverModel D) (law : IsLawful
   other (act.Offered k) opens lighter busy f g w st = absurd (f k refl)
   other (act.Collected k len hd) opens lighter busy f g w st = absurd (g k len hd refl)
   other act.Nothing opens lighter busy f g w st = absurd (w refl)
-  other act.Armed opens lighter busy f g w st = absurd st.says
-  other act.Awake opens lighter busy f g w st = absurd st.says
-  other act.Asleep opens lighter busy f g w st = absurd st.says
+  other act.Armed opens lighter busy f g w st = absurd (never_wakes u (d.begun b) (next_at s.runs at) v.frame v.done opens.drives.begun (subst (λ z. MayWake z) (sym st.says.0) tt))
+  other act.Awake opens lighter busy f g w st = absurd (never_wakes u (d.begun b) (next_at s.runs at) v.frame v.done opens.drives.begun st.says.0)
+  other act.Asleep opens lighter busy f g w st = absurd (never_wakes u (d.begun b) (next_at s.runs at) v.frame v.done opens.drives.begun (subst (λ z. MayWake z) (sym st.says.0) tt))
 
   -- the place in a run fits
   pub used_fits : (k : ℕ) → DriveOpens d s (drive b at o r n false u) v → IsDriverStep port d p q v b y (act.Offered k) → at.used + 1 < 4294967296

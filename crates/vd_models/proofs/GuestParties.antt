@@ -65,6 +65,7 @@ booted d end y at t v idle plan none empty left settled is stands can =
       returned = empty ∙ ap (map as_return) (sym (ap collects can.fresh));
       count = omega (arith, ap (λ (o : List DriverDone). length (offers o)) can.fresh, ap (λ (o : List DriverDone). length (collects o)) can.fresh, ap (λ (o : List DriverDone). length (open_at o)) can.fresh);
       begun = subst (λ z. BegunIs y.turn z (next_at y.script.runs at) v.frame v.done) (sym idle) tt;
+      unarmed = can.unarmed;
       done = done_zero t (d.begun end) (length y.returned.items) (length (chains y.script)) (is ∙ ap (λ n. n == 0) total) idle (ap length empty);
       room = omega (arith, plan.room, total);
       few = omega (arith, plan.few, total);

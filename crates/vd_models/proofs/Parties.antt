@@ -83,6 +83,7 @@ starts e law end end' by held begun w stands still stands' idle awake is_at is_f
       };
       stage = subst (λ o. Rattle.vd_models.specs.Serving.StageIs stage.Taking o w.frame.features.in_order held.items (length begun.items) (by.at + by.order.count)) (sym idle) (inl none);
       rests = awake;
+      unarmed = law.unarmed end w stands still;
       window = omega (arith, ap length none);
       room = omega arith;
       small = small;

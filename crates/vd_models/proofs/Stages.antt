@@ -1,7 +1,7 @@
 -- The stage of a model device over an operation of its end, and what is left to do.
 use Rattle.std.proofs.Common.{◌≡◌, ◌≢◌, ℕ, zero, suc, ◌+◌, ◌*◌, ◌<◌, ◌≤◌, ◌==◌, ◌||◌, Bool, true, false, Some, List, [], refl, sym, ◌∙◌, ap, subst, arith, inl, inr}
 use Rattle.std.proofs.lemmas.Bool.{cases_eq, eq-eqb, ne_eqb}
-use Rattle.vd_layout.specs.Begun.{DeviceOp, DevicePublished, DeviceGoesOn}
+use Rattle.vd_layout.specs.Begun.{DeviceOp, DevicePublished, DeviceGoesOn, DeviceMayWake}
 use Rattle.vd_models.specs.declared.serving.Held.{Held}
 use Rattle.vd_models.specs.declared.serving.Stage.{Stage}
 use Rattle.vd_models.specs.declared.serving.Stage.TheVariants as stage
@@ -20,6 +20,12 @@ at_take stage.Giving DeviceOp.idle io hs n all is live h = absurd (cc)
 at_take stage.Giving DeviceOp.signal io hs n all is live h = absurd (cc)
 at_take stage.Giving DeviceOp.rest io hs n all is live h = absurd h
 at_take stage.Giving (DeviceOp.give k m) io hs n all is live h = absurd (cc)
+at_take stage.Taking DeviceOp.arm io hs n all is live h = absurd h
+at_take stage.Taking DeviceOp.hear io hs n all is live h = absurd h
+at_take stage.Taking DeviceOp.disarm io hs n all is live h = absurd h
+at_take stage.Giving DeviceOp.arm io hs n all is live h = absurd h
+at_take stage.Giving DeviceOp.hear io hs n all is live h = absurd h
+at_take stage.Giving DeviceOp.disarm io hs n all is live h = absurd h
 at_take stage.Done op io hs n all is live h = absurd (cc)
 
 pub at_give : (st : Stage) (op : DeviceOp) (io : Bool) (hs : List Held) (n all k len : ℕ) → op ≡ DeviceOp.give k len → is_done st ≡ false → StageIs st op io hs n all → (st ≡ stage.Giving) × (next_held io hs ≡ Some (record { number = k; len = len }))
@@ -36,6 +42,12 @@ at_give stage.Taking DeviceOp.idle io hs n all k len is live h = absurd (cc)
 at_give stage.Taking DeviceOp.signal io hs n all k len is live h = absurd (cc)
 at_give stage.Taking DeviceOp.rest io hs n all k len is live h = absurd (cc)
 at_give stage.Taking (DeviceOp.give j m) io hs n all k len is live h = absurd h
+at_give stage.Taking DeviceOp.arm io hs n all k len is live h = absurd h
+at_give stage.Taking DeviceOp.hear io hs n all k len is live h = absurd h
+at_give stage.Taking DeviceOp.disarm io hs n all k len is live h = absurd h
+at_give stage.Giving DeviceOp.arm io hs n all k len is live h = absurd h
+at_give stage.Giving DeviceOp.hear io hs n all k len is live h = absurd h
+at_give stage.Giving DeviceOp.disarm io hs n all k len is live h = absurd h
 at_give stage.Done op io hs n all k len is live h = absurd (cc)
 
 pub at_rest : (st : Stage) (op : DeviceOp) (io : Bool) (hs : List Held) (n all : ℕ) → op ≡ DeviceOp.rest → is_done st ≡ false → StageIs st op io hs n all → (st ≡ stage.Taking) × (hs ≡ []) × (n ≡ all)
@@ -49,6 +61,12 @@ at_rest stage.Giving DeviceOp.idle io hs n all is live h = absurd (cc)
 at_rest stage.Giving DeviceOp.signal io hs n all is live h = absurd (cc)
 at_rest stage.Giving DeviceOp.take io hs n all is live h = absurd h
 at_rest stage.Giving (DeviceOp.give k m) io hs n all is live h = absurd (cc)
+at_rest stage.Taking DeviceOp.arm io hs n all is live h = absurd h
+at_rest stage.Taking DeviceOp.hear io hs n all is live h = absurd h
+at_rest stage.Taking DeviceOp.disarm io hs n all is live h = absurd h
+at_rest stage.Giving DeviceOp.arm io hs n all is live h = absurd h
+at_rest stage.Giving DeviceOp.hear io hs n all is live h = absurd h
+at_rest stage.Giving DeviceOp.disarm io hs n all is live h = absurd h
 at_rest stage.Done op io hs n all is live h = absurd (cc)
 
 -- what stays at the stage over an access that ends no operation but a signal
@@ -66,6 +84,27 @@ goes_on stage.Giving DeviceOp.idle op' io hs n all live g h = subst (λ o. Stage
 goes_on stage.Giving DeviceOp.take op' io hs n all live g h = absurd h
 goes_on stage.Giving DeviceOp.rest op' io hs n all live g h = absurd h
 goes_on stage.Giving (DeviceOp.give k m) op' io hs n all live g h = subst (λ o. StageIs stage.Giving o io hs n all) (sym g) h
+goes_on stage.Taking DeviceOp.arm op' io hs n all live g h = absurd h
+goes_on stage.Taking DeviceOp.hear op' io hs n all live g h = absurd h
+goes_on stage.Taking DeviceOp.disarm op' io hs n all live g h = absurd h
+goes_on stage.Giving DeviceOp.arm op' io hs n all live g h = absurd h
+goes_on stage.Giving DeviceOp.hear op' io hs n all live g h = absurd h
+goes_on stage.Giving DeviceOp.disarm op' io hs n all live g h = absurd h
+
+-- no operation that it begins may wake it
+pub never_wakes : (st : Stage) (op : DeviceOp) (io : Bool) (hs : List Held) (n all : ℕ) → is_done st ≡ false → StageIs st op io hs n all → DeviceMayWake op → ⊥
+never_wakes stage.Done op io hs n all live h m = absurd (cc)
+never_wakes stage.Taking DeviceOp.arm io hs n all live h m = h
+never_wakes stage.Taking DeviceOp.hear io hs n all live h m = h
+never_wakes stage.Taking DeviceOp.disarm io hs n all live h m = h
+never_wakes stage.Giving DeviceOp.arm io hs n all live h m = h
+never_wakes stage.Giving DeviceOp.hear io hs n all live h m = h
+never_wakes stage.Giving DeviceOp.disarm io hs n all live h m = h
+never_wakes st DeviceOp.idle io hs n all live h m = m
+never_wakes st DeviceOp.signal io hs n all live h m = m
+never_wakes st DeviceOp.take io hs n all live h m = m
+never_wakes st DeviceOp.rest io hs n all live h m = m
+never_wakes st (DeviceOp.give k l) io hs n all live h m = m
 
 -- ---- what is left to do
 
@@ -84,6 +123,9 @@ weight_goes DeviceOp.signal op' n m busy (inr e) less = subst (λ o. weight o m 
 weight_goes DeviceOp.take op' n m busy g less = subst (λ o. weight o m < n) (sym g) less
 weight_goes DeviceOp.rest op' n m busy g less = subst (λ o. weight o m < n) (sym g) less
 weight_goes (DeviceOp.give k l) op' n m busy g less = subst (λ o. weight o m < n) (sym g) less
+weight_goes DeviceOp.arm op' n m busy g less = subst (λ o. weight o m < n) (sym g) less
+weight_goes DeviceOp.hear op' n m busy g less = subst (λ o. weight o m < n) (sym g) less
+weight_goes DeviceOp.disarm op' n m busy g less = subst (λ o. weight o m < n) (sym g) less
 
 pub weight_published : (op : DeviceOp) (n : ℕ) → DevicePublished op → weight op n ≤ 46 + n
 weight_published op n (inl e) = subst (λ o. weight o n ≤ 46 + n) (sym e) (omega arith)

@@ -1,5 +1,5 @@
 -- What each answer of the end leaves of a model device.
-use Rattle.std.proofs.Common.{◌≡◌, ◌≢◌, ℕ, ◌+◌, ◌-◌, ◌<◌, ◌≤◌, ◌==◌, ◌||◌, Bool, true, false, Some, nat_lt, List, [], ◌∷◌, ◌++◌, length, refl, sym, ◌∙◌, ap, subst, arith, inl, inr}
+use Rattle.std.proofs.Common.{◌≡◌, ◌≢◌, ℕ, ◌+◌, ◌-◌, ◌<◌, ◌≤◌, ◌==◌, ◌||◌, Bool, true, false, Some, None, nat_lt, List, [], ◌∷◌, ◌++◌, length, refl, sym, ◌∙◌, ap, subst, arith, inl, inr}
 use Rattle.std.proofs.lemmas.Bool.{ltb-true, lt-ltb}
 use Rattle.std.proofs.lemmas.List.{length_push, nil_from_length}
 use Rattle.vd_model.specs.declared.chain.Piece.{Piece}
@@ -14,8 +14,9 @@ use Rattle.vd_ring.specs.declared.device.DeviceView.{DeviceView}
 use Rattle.vd_ring.specs.declared.frame.Frame.{Frame}
 use Rattle.vd_ring.specs.History.{entry, takes, gives}
 use Rattle.vd_layout.proofs.OnePair.{says_given}
-use Rattle.vd_layout.specs.Begun.{DeviceOp, DevicePublished}
+use Rattle.vd_layout.specs.Begun.{DeviceOp, DevicePublished, DeviceMayWake}
 use Rattle.vd_layout.specs.Device.{DeviceModel, IsDeviceStep, IsLawfulDevice}
+use Rattle.vd_layout.specs.Unarmed.{device_stays}
 use Rattle.vd_bus.specs.declared.device.Attached.{Attached}
 use Rattle.vd_bus.specs.Device.{IsServing, HasServed}
 use Rattle.vd_bus.specs.Entries.{Reserved}
@@ -27,9 +28,14 @@ use Rattle.vd_models.specs.declared.serving.Turn.TheVariants.{Worked, Waits}
 use Rattle.vd_models.specs.Serving.{state, Serves, Opens, IsTurn, IsHeld, StageIs, HasWindow, next_held, rest_held, begun_of, held_of, taken_stage, given_stage, is_done, weight, operations, HasMore}
 use Rattle.vd_models.proofs.Lists.{prefix_same, prefix_push, next_is, All-next}
 use Rattle.vd_models.proofs.Holding.{lens_begun, serving_taken, serving_given, serving_rested, held_taken, held_given, held_rested, takes_rested}
-use Rattle.vd_models.proofs.Stages.{at_take, at_give, at_rest, goes_on, some_more, weight_goes, weight_published, weight_at, operations_taken, operations_given, not_first, not_second, apart, zero_test, some_test, fewer, fewer_by, as_far}
+use Rattle.vd_models.proofs.Stages.{at_take, at_give, at_rest, goes_on, some_more, never_wakes, weight_goes, weight_published, weight_at, operations_taken, operations_given, not_first, not_second, apart, zero_test, some_test, fewer, fewer_by, as_far}
 
 module _ {P E : Type 0} (port : PortModel P) (e : DeviceModel E) (law : IsLawfulDevice e) (p q : P) (by : Attached) (w : DeviceView) (a b y : E) where
+  -- it is not armed still
+  still_unarmed : (answer : DeviceAct) (st : Stage) (held : Buffer Held) (begun : Reserved Begun) → Opens e by (state b st held begun) w → (s : IsDeviceStep port e p q w b y answer) → (e.side.after w s.op s.access s.got).armed ≡ None
+  still_unarmed answer st held begun opens s = device_stays e law port p q w b y answer
+      (λ is. never_wakes st (e.begun b) w.frame.features.in_order held.items (length begun.items) (by.at + by.order.count) opens.live opens.serves.stage (subst (λ z. DeviceMayWake z) (sym is) tt)) opens.serves.unarmed s
+
   -- ---- a take
 
   stage_taken : (full : Bool) (io : Bool) (op : DeviceOp) (hs : List Held) (n all capacity : ℕ) → op ≡ DeviceOp.idle → full ≡ ((length hs == capacity) || (n == all)) → 0 < length hs → n ≤ all → StageIs (taken_stage full) op io hs n all
@@ -85,6 +91,7 @@ module _ {P E : Type 0} (port : PortModel P) (e : DeviceModel E) (law : IsLawful
               (held_taken begun.items by held.items w.frame w.done c h v.serving v.held))));
           stage = stage_taken full w'.frame.features.in_order (e.begun y) held'.items (length begun'.items) all held'.capacity s.says.2 is_full (omega arith) (omega arith);
           rests = s.rests ∙ sym (live_taken full);
+          unarmed = still_unarmed (act.Taken k c) stage.Taking held begun opens s;
           window = window_taken full (length begun'.items) all (length held'.items) held'.capacity is_full (omega arith) (omega (arith, v.window));
           room = omega (arith, v.room);
           small = v.small;
@@ -156,6 +163,7 @@ module _ {P E : Type 0} (port : PortModel P) (e : DeviceModel E) (law : IsLawful
               (held_given io begun.items by held.items w.frame w.done k n is next v.held)));
           stage = stage_given empty w'.frame.features.in_order (e.begun y) held'.items (length begun.items) all said.published is_empty;
           rests = s.rests ∙ sym (live_given empty);
+          unarmed = still_unarmed (act.Given k) stage.Giving held begun opens s;
           window = window_given empty (length held'.items) held'.capacity is_empty (omega (arith, v.window)) (omega (arith, v.window));
           room = v.room;
           small = v.small;
@@ -188,6 +196,7 @@ module _ {P E : Type 0} (port : PortModel P) (e : DeviceModel E) (law : IsLawful
         held = subst (λ (f : Frame). IsHeld begun.items by held.items f w'.done) (sym (law.framed w s.op s.access s.got)) (subst (λ (z : List DeviceDone). IsHeld begun.items by held.items w.frame z) (sym s.says.2) v.held);
         stage = at;
         rests = s.rests ∙ sym live;
+        unarmed = still_unarmed act.Nothing stage.Taking held begun opens s;
         window = window;
         room = v.room;
         small = v.small;
@@ -261,6 +270,7 @@ module _ {P E : Type 0} (port : PortModel P) (e : DeviceModel E) (law : IsLawful
               (subst (λ (z : List Held). IsHeld begun.items by z w.frame (Rest ∷ w.done)) (sym none) (held_rested begun.items by w.frame w.done empty)));
           stage = (none, all);
           rests = s.rests;
+          unarmed = still_unarmed act.Rested stage.Taking held begun opens s;
           window = (omega (arith, v.window), omega (arith, v.window));
           room = v.room;
           small = v.small;
@@ -297,6 +307,7 @@ module _ {P E : Type 0} (port : PortModel P) (e : DeviceModel E) (law : IsLawful
           held = subst (λ (f : Frame). IsHeld begun.items by held.items f w'.done) (sym framed) (subst (λ (z : List DeviceDone). IsHeld begun.items by held.items w.frame z) (sym s.says.1) v.held);
           stage = subst (λ (f : Frame). StageIs st (e.begun y) f.features.in_order held.items (length begun.items) (by.at + by.order.count)) (sym framed) (goes_on st (e.begun b) (e.begun y) w.frame.features.in_order held.items (length begun.items) (by.at + by.order.count) opens.live s.says.0 v.stage);
           rests = s.rests ∙ sym opens.live;
+          unarmed = still_unarmed act.Moved st held begun opens s;
           window = v.window;
           room = v.room;
           small = v.small;
@@ -372,9 +383,9 @@ module _ {P E : Type 0} (port : PortModel P) (e : DeviceModel E) (law : IsLawful
   other (act.Given k) st held begun opens lighter busy t g n r s = absurd (g k refl)
   other act.Nothing st held begun opens lighter busy t g n r s = absurd (n refl)
   other act.Rested st held begun opens lighter busy t g n r s = absurd (r refl)
-  other act.Armed st held begun opens lighter busy t g n r s = absurd s.says
-  other act.Awake st held begun opens lighter busy t g n r s = absurd s.says
-  other act.Asleep st held begun opens lighter busy t g n r s = absurd s.says
+  other act.Armed st held begun opens lighter busy t g n r s = absurd (never_wakes st (e.begun b) w.frame.features.in_order held.items (length begun.items) (by.at + by.order.count) opens.live opens.serves.stage (subst (λ z. DeviceMayWake z) (sym s.says.0) tt))
+  other act.Awake st held begun opens lighter busy t g n r s = absurd (never_wakes st (e.begun b) w.frame.features.in_order held.items (length begun.items) (by.at + by.order.count) opens.live opens.serves.stage s.says.0)
+  other act.Asleep st held begun opens lighter busy t g n r s = absurd (never_wakes st (e.begun b) w.frame.features.in_order held.items (length begun.items) (by.at + by.order.count) opens.live opens.serves.stage (subst (λ z. DeviceMayWake z) (sym s.says.0) tt))
 
 -- the test whether chains are still to begin
 pub more_is : (n m : ℕ) (by : Attached) (begun : List Begun) → n ≡ length begun → m ≡ by.at + by.order.count → HasMore (nat_lt n m) by begun

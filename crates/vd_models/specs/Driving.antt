@@ -51,6 +51,7 @@ BegunIs u DriverOp.idle next f o = Unit {0}
 BegunIs u DriverOp.signal next f o = Unit {0}
 BegunIs u (DriverOp.offer c) next f o = next ≡ Some c
 BegunIs u DriverOp.collect next f o = u ≡ false → IsStuck next f o
+BegunIs u _ next f o = ⊥
 
 abbrev pub DoneIs : Bool → DriverOp → ℕ → ℕ → Type 0
 DoneIs true op returned all = (op ≡ DriverOp.idle) × (returned ≡ all)
@@ -65,6 +66,8 @@ pub record Drives {D : Type 0} (d : DriverModel D) (s : Script) (x : Drive D) (v
   pub returned : x.returned ≡ map as_return (collects v.done)
   pub count : length (Rattle.vd_ring.specs.History.offers v.done) ≡ length (collects v.done) + length (open_at v.done)
   pub begun : BegunIs x.turn (d.begun x.end) (next_at s.runs x.at) v.frame v.done
+  -- it never arms
+  pub unarmed : v.armed ≡ None
   pub done : DoneIs x.done (d.begun x.end) (length x.returned) (length (chains s))
   pub room : length (chains s) ≤ x.capacity
   pub few : length (chains s) ≤ 4000000000

@@ -100,6 +100,8 @@ pub record Serves {E : Type 0} (e : DeviceModel E) (by : Attached) (x : State E)
   pub held : IsHeld x.begun.items by x.held.items w.frame w.done
   pub stage : StageIs x.stage (e.begun x.end) w.frame.features.in_order x.held.items (length x.begun.items) (by.at + by.order.count)
   pub rests : e.resting x.end ≡ is_done x.stage
+  -- it never arms
+  pub unarmed : w.armed ≡ None
   pub window : HasWindow x.stage (length x.held.items) x.held.capacity
   pub room : by.at + by.order.count ≤ length x.begun.items + x.begun.room
   pub small : by.at + by.order.count < 4294967296

@@ -7,7 +7,7 @@ ghost use Rattle.vd_bus.specs.Device.{IsUnchanged};
 ghost use Rattle.vd_models.specs.Serving.{Holds, HaveLens, capacity_of, journal_room, is_done, move_of};
 ghost use Rattle.vd_models.specs.Laws.{held_law, serves_law, done_law};
 
-use crate::serving::{Held, Policy, Serving, Stage};
+use crate::serving::{Held, Stage, serve, serve_all};
 use circular_buffer::HeapCircularBuffer;
 use std::alloc::{AllocError, Global};
 use vd_bus::{Attached, Device, Event, Journal, Order, Refused};
@@ -185,7 +185,7 @@ impl<L: Layout> Device<L> for ModelDevice<L> {
         let Some(held) = &mut self.held else {
             unreachable!()
         };
-        <Policy as Serving<L>>::serve(
+        serve::<L, P>(
             end,
             by,
             &mut self.stage,
@@ -204,7 +204,7 @@ impl<L: Layout> Device<L> for ModelDevice<L> {
         let Some(held) = &mut self.held else {
             unreachable!()
         };
-        <Policy as Serving<L>>::serve_all(
+        serve_all::<L, P>(
             end,
             by,
             &mut self.stage,

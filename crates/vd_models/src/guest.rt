@@ -5,9 +5,8 @@ ghost use Rattle.vd_models.specs.GuestLaws.{unloaded_law, held_law, offered_law,
 
 use crate::cursor::{Cursor, count, settle};
 use crate::device::move_of;
-use crate::driving::Driving;
+use crate::driving::{drive, drive_all};
 use crate::script::copy_script;
-use crate::serving::Policy;
 use std::alloc::{AllocError, Global};
 use vd_bus::Guest;
 use vd_layout::{Layout, Move};
@@ -112,7 +111,7 @@ impl<L: Layout> Guest<L> for ModelGuest<L> {
         let Some(mut loaded) = self.loaded.take() else {
             unreachable!()
         };
-        <Policy as Driving<L>>::drive(
+        drive::<L, P>(
             &mut end,
             &loaded.script,
             &mut loaded.at,
@@ -137,7 +136,7 @@ impl<L: Layout> Guest<L> for ModelGuest<L> {
         let Some(mut loaded) = self.loaded.take() else {
             unreachable!()
         };
-        <Policy as Driving<L>>::drive_all(
+        drive_all::<L, P>(
             &mut end,
             &loaded.script,
             &mut loaded.at,

@@ -121,101 +121,81 @@ fn after_give(empty: bool) -> Stage
     if empty { Stage::Taking } else { Stage::Giving }
 }
 
-/// The device's policy. Its calls are a trait's, since an implementation of `Device` can't call functions that are
-/// generic over an end which may be sent to a thread.
-pub(crate) struct Policy;
-
-pub(crate) trait Serving<L: Layout> {
-    /// Begins the next operation where none is in progress. `more` tells whether there are chains still to begin.
-    fn begin_next(end: &mut L::Device, stage: Stage, held: &HeapCircularBuffer<Held>, more: bool)
-        requires { (by : Attached) × (begun : Reserved Begun) × (w : DeviceView) × Opens L.Device.device by (state end.old stage held.now begun) w × HasMore more by begun.items }
-        ensures busy { ¬ (L.Device.device.begun end.new ≡ DeviceOp.idle) }
-        ensures serves { (by : Attached) (begun : Reserved Begun) (w : DeviceView) → Opens L.Device.device by (state end.old stage held.now begun) w → HasMore more by begun.items → Opens L.Device.device by (state end.new stage held.now begun) w }
-        ensures nearer { weight (L.Device.device.begun end.new) (L.Device.device.left end.new) ≤ weight (L.Device.device.begun end.old) (L.Device.device.left end.old) };
-
-    /// Makes one access.
-    fn serve<P: Port>(
-        end: &mut L::Device,
-        by: &Attached,
-        stage: &mut Stage,
-        held: &mut HeapCircularBuffer<Held>,
-        begun: &mut Entries<Begun>,
-        port: &mut P,
-    ) -> Turn
-        requires own { (w : DeviceView) × Opens L.Device.device by.now (state end.old stage.old held.old begun.old) w × IsOwn P.port L.Device.device.side port.old w }
-        ensures { (w : DeviceView) → Opens L.Device.device by.now (state end.old stage.old held.old begun.old) w → IsOwn P.port L.Device.device.side port.old w → IsTurn P.port L.Device.device by.now port.old port.new w (state end.old stage.old held.old begun.old) (state end.new stage.new held.new begun.new) result };
-
-    /// Makes accesses over plain words until the device is done, or has given all that was offered.
-    fn serve_all<P: Port>(
-        end: &mut L::Device,
-        by: &Attached,
-        stage: &mut Stage,
-        held: &mut HeapCircularBuffer<Held>,
-        begun: &mut Entries<Begun>,
-        port: &mut P,
-    )
-        requires { (ws : List ℕ) × (v : DriverView) × (w : DeviceView) × P.port.plain port.old ws × L.layout.ring ws v w × Opens L.Device.device by.now (state end.old stage.old held.old begun.old) w }
-        ensures { (ws : List ℕ) (v : DriverView) (w : DeviceView) → P.port.plain port.old ws → L.layout.ring ws v w → Opens L.Device.device by.now (state end.old stage.old held.old begun.old) w → IsServedAll P.port L.Device.device L.layout by.now port.old port.new v w (state end.old stage.old held.old begun.old) (state end.new stage.new held.new begun.new) };
+/// Begins the next operation where none is in progress. `more` tells whether there are chains still to begin.
+pub(crate) fn begin_next<L: Layout>(
+    end: &mut L::Device,
+    stage: Stage,
+    held: &HeapCircularBuffer<Held>,
+    more: bool,
+)
+    requires { (by : Attached) × (begun : Reserved Begun) × (w : DeviceView) × Opens L.Device.device by (state end.old stage held.now begun) w × HasMore more by begun.items }
+    ensures busy { ¬ (L.Device.device.begun end.new ≡ DeviceOp.idle) }
+    ensures serves { (by : Attached) (begun : Reserved Begun) (w : DeviceView) → Opens L.Device.device by (state end.old stage held.now begun) w → HasMore more by begun.items → Opens L.Device.device by (state end.new stage held.now begun) w }
+    ensures nearer { weight (L.Device.device.begun end.new) (L.Device.device.left end.new) ≤ weight (L.Device.device.begun end.old) (L.Device.device.left end.old) }
+{
+    if end.idle() {
+        match stage {
+            Stage::Taking if more => end.begin_take(),
+            Stage::Taking => end.begin_rest(),
+            _ => {
+                let next = next(held, end.features().in_order);
+                end.begin_give(next.number, next.len);
+            }
+        }
+    }
 }
 
-impl<L: Layout> Serving<L> for Policy {
-    fn begin_next(end: &mut L::Device, stage: Stage, held: &HeapCircularBuffer<Held>, more: bool) {
-        if end.idle() {
-            match stage {
-                Stage::Taking if more => end.begin_take(),
-                Stage::Taking => end.begin_rest(),
-                _ => {
-                    let next = next(held, end.features().in_order);
-                    end.begin_give(next.number, next.len);
-                }
-            }
+/// Makes one access.
+pub(crate) fn serve<L: Layout, P: Port>(
+    end: &mut L::Device,
+    by: &Attached,
+    stage: &mut Stage,
+    held: &mut HeapCircularBuffer<Held>,
+    begun: &mut Entries<Begun>,
+    port: &mut P,
+) -> Turn
+    requires own { (w : DeviceView) × Opens L.Device.device by.now (state end.old stage.old held.old begun.old) w × IsOwn P.port L.Device.device.side port.old w }
+    ensures { (w : DeviceView) → Opens L.Device.device by.now (state end.old stage.old held.old begun.old) w → IsOwn P.port L.Device.device.side port.old w → IsTurn P.port L.Device.device by.now port.old port.new w (state end.old stage.old held.old begun.old) (state end.new stage.new held.new begun.new) result }
+{
+    let all = by.at as usize + by.order.count() as usize;
+    let in_order = end.features().in_order;
+    begin_next::<L>(end, *stage, held, begun.len() < all);
+    match end.step(port) {
+        DeviceAct::Taken(number, chain) => {
+            note(number, chain, held, begun);
+            *stage = after_take(held.is_full() | (begun.len() == all));
         }
-    }
-
-    fn serve<P: Port>(
-        end: &mut L::Device,
-        by: &Attached,
-        stage: &mut Stage,
-        held: &mut HeapCircularBuffer<Held>,
-        begun: &mut Entries<Begun>,
-        port: &mut P,
-    ) -> Turn {
-        let all = by.at as usize + by.order.count() as usize;
-        let in_order = end.features().in_order;
-        <Policy as Serving<L>>::begin_next(end, *stage, held, begun.len() < all);
-        match end.step(port) {
-            DeviceAct::Taken(number, chain) => {
-                note(number, chain, held, begun);
-                *stage = after_take(held.is_full() | (begun.len() == all));
-            }
-            DeviceAct::Given(_) => {
-                drop_next(held, in_order);
-                *stage = after_give(held.is_empty());
-            }
-            DeviceAct::Nothing => {
-                if held.is_empty() {
-                    return Turn::Waits;
-                }
-                *stage = Stage::Giving;
-            }
-            DeviceAct::Rested => *stage = Stage::Done,
-            _ => {}
+        DeviceAct::Given(_) => {
+            drop_next(held, in_order);
+            *stage = after_give(held.is_empty());
         }
-        Turn::Worked
-    }
-
-    fn serve_all<P: Port>(
-        end: &mut L::Device,
-        by: &Attached,
-        stage: &mut Stage,
-        held: &mut HeapCircularBuffer<Held>,
-        begun: &mut Entries<Begun>,
-        port: &mut P,
-    ) {
-        while !stage.is_done() {
-            if let Turn::Waits = <Policy as Serving<L>>::serve(end, by, stage, held, begun, port) {
-                return;
+        DeviceAct::Nothing => {
+            if held.is_empty() {
+                return Turn::Waits;
             }
+            *stage = Stage::Giving;
+        }
+        DeviceAct::Rested => *stage = Stage::Done,
+        _ => {}
+    }
+    Turn::Worked
+}
+
+/// Makes accesses over plain words until the device is done, or has given all that was offered.
+pub(crate) fn serve_all<L: Layout, P: Port>(
+    end: &mut L::Device,
+    by: &Attached,
+    stage: &mut Stage,
+    held: &mut HeapCircularBuffer<Held>,
+    begun: &mut Entries<Begun>,
+    port: &mut P,
+)
+    requires { (ws : List ℕ) × (v : DriverView) × (w : DeviceView) × P.port.plain port.old ws × L.layout.ring ws v w × Opens L.Device.device by.now (state end.old stage.old held.old begun.old) w }
+    ensures { (ws : List ℕ) (v : DriverView) (w : DeviceView) → P.port.plain port.old ws → L.layout.ring ws v w → Opens L.Device.device by.now (state end.old stage.old held.old begun.old) w → IsServedAll P.port L.Device.device L.layout by.now port.old port.new v w (state end.old stage.old held.old begun.old) (state end.new stage.new held.new begun.new) }
+{
+    while !stage.is_done() {
+        if let Turn::Waits = serve::<L, P>(end, by, stage, held, begun, port) {
+            return;
         }
     }
 }

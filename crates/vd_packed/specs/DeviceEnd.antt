@@ -1,7 +1,10 @@
 -- For which views the device's end of a packed ring stands, and what it has begun.
-use Rattle.std.specs.Prelude.{◌≡◌, ℕ, ◌+◌, ◌-◌, ◌*◌, ◌<◌, ◌≤◌, ◌&&◌, nat_eq, nat_lt, Bool, true, false, List, [], ◌∷◌, ◌++◌, length, Option, None, Some, if◌then◌else◌, slice_index_or}
+use Rattle.std.specs.Prelude.{◌≡◌, ℕ, ◌+◌, ◌-◌, ◌*◌, ◌<◌, ◌≤◌, ◌&&◌, not, nat_eq, nat_lt, Bool, true, false, List, [], ◌∷◌, ◌++◌, length, Option, None, Some, if◌then◌else◌, slice_index_or}
+use Rattle.std.proofs.Common.{ap, ◌∙◌}
 use Rattle.vd_model.specs.declared.chain.Piece.{Piece}
 use Rattle.vd_model.specs.Chains.{needs}
+use Rattle.vd_words.specs.declared.access.Op.{Op}
+use Rattle.vd_words.specs.declared.access.Op.TheVariants as op
 use Rattle.vd_ring.specs.declared.frame.Frame.{Frame}
 use Rattle.vd_ring.specs.declared.device.DeviceDone.{DeviceDone}
 use Rattle.vd_ring.specs.declared.device.DeviceNow.{DeviceNow}
@@ -9,10 +12,10 @@ use Rattle.vd_ring.specs.declared.device.DeviceNow.TheVariants as now
 use Rattle.vd_ring.specs.declared.device.DeviceView.{DeviceView}
 use Rattle.vd_ring.specs.Frames.{limit}
 use Rattle.vd_ring.specs.History.{takes, gives, heads, running, taken_head, chain_at, numbers, occurs, IsWhole}
-use Rattle.vd_packed_ring.specs.PackedWords.{id_of}
+use Rattle.vd_packed_ring.specs.PackedWords.{is_available, kick_at}
 use Rattle.vd_packed_ring.specs.PackedChains.{pieces_in}
 use Rattle.vd_packed_ring.specs.PackedPositions.{tpos, upos, base_of}
-use Rattle.vd_packed_ring.specs.PackedDevice.{IsNewHead, device_side, device_act}
+use Rattle.vd_packed_ring.specs.PackedDevice.{device_side, device_act}
 use Rattle.vd_layout.specs.Begun.{DeviceOp}
 use Rattle.vd_layout.specs.Device.{DeviceModel}
 use Rattle.vd_packed.specs.declared.device.PackedDevice.{PackedDevice}
@@ -22,12 +25,15 @@ use Rattle.vd_packed.specs.declared.spot.Spot.{Spot}
 use Rattle.vd_packed.specs.DriverEnd.{IsMadeFor, packed_words}
 use Rattle.vd_packed.specs.Spots.{IsAt, base_word}
 
--- the counts, and where the two positions stand
-pub record DeviceCounts (taken given : ℕ) (next used : Spot) (f : Frame) (s : List DeviceDone) : Type 0 where
+-- the counts, the two positions and where they stand; no chain has more than 16 descriptors
+pub record DeviceCounts (taken given : ℕ) (next used : Spot) (next_position used_position : ℕ) (f : Frame) (s : List DeviceDone) : Type 0 where
   pub takes : taken ≡ length (takes s)
   pub gives : given ≡ length (gives s)
   pub next_at : IsAt next f.size (tpos f s)
   pub used_at : IsAt used f.size (upos f s)
+  pub next_is : next_position ≡ tpos f s
+  pub used_is : used_position ≡ upos f s
+  pub few : (k : ℕ) → needs f.features (chain_at (Rattle.vd_ring.specs.History.takes s) k) ≤ 16
 
 -- each chain taken runs or is given, and only once
 pub record TakesOnce (s : List DeviceDone) : Type 0 where
@@ -38,9 +44,9 @@ pub record TakesOnce (s : List DeviceDone) : Type 0 where
 abbrev pub number_at : List (Option ℕ) → ℕ → Option ℕ
 number_at table h = slice_index_or table h None
 
--- how many descriptors chain k has, which are no more than the ring's places
+-- how many descriptors chain k has: one at least, and no more than the ring's places
 abbrev pub IsCount : ℕ → Frame → List DeviceDone → ℕ → Type 0
-IsCount n f s k = (n ≡ needs f.features (chain_at (takes s) k)) × (needs f.features (chain_at (takes s) k) ≤ f.size)
+IsCount n f s k = (n ≡ needs f.features (chain_at (takes s) k)) × (needs f.features (chain_at (takes s) k) ≤ f.size) × (0 < needs f.features (chain_at (takes s) k))
 
 -- the running chains are in the table at their heads with their counts, and nothing else is
 pub record HoldsRunning (table : List (Option ℕ)) (counts : List ℕ) (guesses : ℕ) (f : Frame) (s : List DeviceDone) : Type 0 where
@@ -61,14 +67,12 @@ pub record IsNext (f : Frame) (s : List DeviceDone) (number head len : ℕ) : Ty
   pub small : len < 4294967296
 
 -- a take has loaded the words of whole descriptors and then `more`, and is at the descriptor at this spot
-pub record IsTaking (f : Frame) (s : List DeviceDone) (pieces : List Piece) (spot : Spot) (h : ℕ) (more : List ℕ) (d : DeviceNow) : Type 0 where
+pub record IsTaking (f : Frame) (s : List DeviceDone) (pieces : List Piece) (spot : Spot) (more : List ℕ) (d : DeviceNow) : Type 0 where
   pub word : ℕ
   pub words : List ℕ
   pub whole : List ℕ
   pub is : d ≡ now.Taking (word ∷ words)
   pub parts : word ∷ words ≡ whole ++ more
-  pub is_head : id_of word ≡ h
-  pub new : IsNewHead f s h
   pub limited : length (takes s) < limit f
   pub spelled : pieces_in whole ≡ pieces
   pub even : length whole ≡ 2 * length pieces
@@ -78,30 +82,78 @@ abbrev pub DeviceStepStands : DeviceStep → List Piece → ℕ → Spot → Fra
 DeviceStepStands step.Idle ps w spot f s d = d ≡ now.Idle
 DeviceStepStands step.Resting ps w spot f s d = (d ≡ now.Idle) × (running s ≡ []) × IsWhole s
 DeviceStepStands step.Look ps w spot f s d = d ≡ now.Idle
-DeviceStepStands (step.Address h) ps w spot f s d = IsTaking f s ps spot h (w ∷ []) d
-DeviceStepStands (step.Second h) ps w spot f s d = IsTaking f s ps spot h [] d
+DeviceStepStands step.Address ps w spot f s d = IsTaking f s ps spot (w ∷ []) d
+DeviceStepStands step.Second ps w spot f s d = IsTaking f s ps spot [] d
 DeviceStepStands (step.Give k h n) ps w spot f s d = (d ≡ now.Idle) × IsNext f s k h n
+DeviceStepStands (step.Check n) ps w spot f s d = (old : ℕ) × (d ≡ now.Checking old (upos f s)) × (old + n ≡ upos f s) × (0 < n) × (n ≤ f.size)
+DeviceStepStands step.Ring ps w spot f s d = (old : ℕ) × (new : ℕ) × (d ≡ now.Ringing old new)
+DeviceStepStands step.Arm ps w spot f s d = d ≡ now.Idle
+DeviceStepStands step.LookAgain ps w spot f s d = d ≡ now.Arming
+DeviceStepStands step.Hear ps w spot f s d = d ≡ now.Idle
+DeviceStepStands step.WakeArming ps w spot f s d = (d ≡ now.Disarming op.Arm) × (f.features.event_idx ≡ false)
+DeviceStepStands step.WakeHearing ps w spot f s d = (d ≡ now.Disarming op.Hear) × (f.features.event_idx ≡ false)
+DeviceStepStands step.Disarm ps w spot f s d = d ≡ now.Idle
 DeviceStepStands step.Rest ps w spot f s d = (d ≡ now.Idle) × IsWhole s
+DeviceStepStands step.RestLook ps w spot f s d = (d ≡ now.Resting) × IsWhole s
 
--- a take is in progress whose look showed a chain
-abbrev pub is_loading : DeviceStep → Bool
-is_loading (step.Address h) = true
-is_loading (step.Second h) = true
-is_loading _ = false
+-- in which steps the end is armed
+abbrev pub DeviceStepArmed : DeviceStep → Bool → Type 0
+DeviceStepArmed step.Idle armed = Unit {0}
+DeviceStepArmed step.Rest armed = Unit {0}
+DeviceStepArmed step.LookAgain armed = armed ≡ true
+DeviceStepArmed step.Hear armed = armed ≡ true
+DeviceStepArmed step.Disarm armed = armed ≡ true
+DeviceStepArmed _ armed = armed ≡ false
 
--- no event word is stored, and no bell rung or heard
-pub record IsSilent (v : DeviceView) : Type 0 where
-  pub unarmed : v.armed ≡ None
-  pub unheard : v.heard ≡ 0
-  pub unrung : v.bells ≡ 0
+-- 1 where a bell may still be stored
+abbrev pub device_owes : DeviceStep → ℕ
+device_owes (step.Check n) = 1
+device_owes step.Ring = 1
+device_owes _ = 0
+
+-- a step that ends with the disarming store, and its operation
+abbrev pub Wakes : DeviceStep → Op → Type 0
+Wakes step.WakeArming o = o ≡ op.Arm
+Wakes step.WakeHearing o = o ≡ op.Hear
+Wakes step.Disarm o = o ≡ op.Disarm
+Wakes _ o = ⊥
+
+-- a step of a check, a bell, an arming, a hearing, a disarming or a rest
+abbrev pub IsSignal : DeviceStep → Type 0
+IsSignal step.Idle = ⊥
+IsSignal step.Resting = ⊥
+IsSignal step.Look = ⊥
+IsSignal step.Address = ⊥
+IsSignal step.Second = ⊥
+IsSignal (step.Give k h n) = ⊥
+IsSignal _ = Unit {0}
+
+-- where it is armed, what it heard, and how many bells it stored: no more than chains it gave
+pub record DeviceSignals (armed : Bool) (heard bells given : ℕ) (doing : DeviceStep) (v : DeviceView) : Type 0 where
+  pub is_armed : v.armed ≡ (if armed then Some (tpos v.frame v.done) else None)
+  pub hears : heard ≡ v.heard
+  pub rings : bells ≡ v.bells
+  pub few : bells + device_owes doing ≤ given
+  pub awake : DeviceStepArmed doing armed
 
 pub record DeviceStands (e : PackedDevice) (v : DeviceView) : Type 0 where
   pub made : IsMadeFor e.size e.features v.frame
-  pub counts : DeviceCounts e.taken e.given e.next e.used v.frame v.done
+  pub counts : DeviceCounts e.taken e.given e.next e.used e.next_position e.used_position v.frame v.done
   pub holds : HoldsRunning e.running.items e.counts.items (length e.guesses.items) v.frame v.done
-  pub shown : is_loading e.doing ≡ v.shown
-  pub silent : IsSilent v
+  pub kick : e.kick ≡ kick_at v.frame
+  pub signals : DeviceSignals e.armed e.heard e.bells e.given e.doing v
   pub doing : DeviceStepStands e.doing e.pieces.items e.second e.at v.frame v.done v.doing
+
+-- an end that is not armed stands for views that are not
+pub not_armed : (e : PackedDevice) (v : DeviceView) → DeviceStands e v → e.armed ≡ false → v.armed ≡ None
+not_armed e v st off = st.signals.is_armed ∙ ap (λ (b : Bool). if b then Some (tpos v.frame v.done) else None) off
+
+pub is_armed : (e : PackedDevice) (v : DeviceView) → DeviceStands e v → e.armed ≡ true → v.armed ≡ Some (tpos v.frame v.done)
+is_armed e v st on = st.signals.is_armed ∙ ap (λ (b : Bool). if b then Some (tpos v.frame v.done) else None) on
+
+-- whether a loaded second word shows a further chain
+abbrev pub device_shows : DeviceView → ℕ → Bool
+device_shows v r = is_available v.frame.size (tpos v.frame v.done) r
 
 -- ---- the operation that is begun, and the accesses that it still takes at most
 
@@ -109,20 +161,38 @@ abbrev pub device_begun : DeviceStep → DeviceOp
 device_begun step.Idle = DeviceOp.idle
 device_begun step.Resting = DeviceOp.idle
 device_begun step.Look = DeviceOp.take
-device_begun (step.Address h) = DeviceOp.take
-device_begun (step.Second h) = DeviceOp.take
+device_begun step.Address = DeviceOp.take
+device_begun step.Second = DeviceOp.take
 device_begun (step.Give k h n) = DeviceOp.give k n
+device_begun (step.Check n) = DeviceOp.signal
+device_begun step.Ring = DeviceOp.signal
+device_begun step.Arm = DeviceOp.arm
+device_begun step.LookAgain = DeviceOp.arm
+device_begun step.Hear = DeviceOp.hear
+device_begun step.WakeArming = DeviceOp.arm
+device_begun step.WakeHearing = DeviceOp.hear
+device_begun step.Disarm = DeviceOp.disarm
 device_begun step.Rest = DeviceOp.rest
+device_begun step.RestLook = DeviceOp.rest
 
 -- by the number of pieces loaded so far
 abbrev pub device_left : DeviceStep → ℕ → ℕ
 device_left step.Idle n = 0
 device_left step.Resting n = 0
 device_left step.Look n = 34
-device_left (step.Address h) n = 2 * (16 - n) + 1
-device_left (step.Second h) n = 2 * (16 - n) + 2
-device_left (step.Give k h l) n = 1
-device_left step.Rest n = 1
+device_left step.Address n = 2 * (16 - n) + 1
+device_left step.Second n = 2 * (16 - n) + 2
+device_left (step.Give k h l) n = 3
+device_left (step.Check k) n = 2
+device_left step.Ring n = 1
+device_left step.Arm n = 3
+device_left step.LookAgain n = 2
+device_left step.Hear n = 2
+device_left step.WakeArming n = 1
+device_left step.WakeHearing n = 1
+device_left step.Disarm n = 1
+device_left step.Rest n = 2
+device_left step.RestLook n = 1
 
 abbrev pub is_resting : DeviceStep → Bool
 is_resting step.Resting = true
@@ -136,13 +206,15 @@ abbrev pub packed_device : DeviceModel PackedDevice
 packed_device = record {
   side = device_side;
   act = device_act;
+  shows = device_shows;
   stands = DeviceStands;
   begun = λ e. device_begun e.doing;
+  armed = λ e. e.armed;
   left = λ e. device_left e.doing (length e.pieces.items);
   size = λ e. e.size;
   features = λ e. e.features;
   resting = λ e. is_resting e.doing;
-  fresh = λ e. is_idle e.doing && (nat_eq e.taken 0 && nat_eq e.given 0);
+  fresh = λ e. (is_idle e.doing && (nat_eq e.taken 0 && nat_eq e.given 0)) && not e.armed;
   words = packed_words;
   base = λ e. base_word e.next;
   base_of = base_of;

@@ -1,4 +1,4 @@
--- The step of a give and that of a rest: each is next in a view that the end stands for, and the end stands for the view after it.
+-- The step of a give: it is next in a view that the end stands for, and the end stands for the view after it.
 use Rattle.std.proofs.Common.{◌≡◌, ℕ, ◌+◌, ◌*◌, ◌<◌, ◌≤◌, true, nat_lt, List, [], ◌∷◌, length, take, Option, Some, None, slice_index_or, slice_set, refl, sym, ap, ◌∙◌, subst, arith, inl, inr}
 use Rattle.std.specs.Vec.{with_item}
 use Rattle.std.proofs.lemmas.Bool.{cases_lt, cases_eq}
@@ -27,18 +27,20 @@ use Rattle.vd_packed_ring.specs.PackedDevice.{DeviceNextAt, DeviceNext, device_a
 use Rattle.vd_packed_ring.proofs.Positions.{device_span, sum_entries, upos_given}
 use Rattle.vd_packed_ring.proofs.WordFacts.{used_id, used_len}
 use Rattle.vd_layout.proofs.OnePair.{were_given}
-use Rattle.vd_layout.specs.Begun.{DeviceOp}
+use Rattle.vd_layout.specs.Begun.{DeviceOp, IsDeviceOp}
 use Rattle.vd_layout.specs.Device.{DeviceSays, IsDeviceStep, is_rested}
 use Rattle.vd_packed.specs.declared.device.PackedDevice.{PackedDevice}
+use Rattle.vd_packed.specs.declared.device.DeviceStep.{DeviceStep}
 use Rattle.vd_packed.specs.declared.device.DeviceStep.TheVariants as step
 use Rattle.vd_packed.specs.DriverEnd.{packed_words}
-use Rattle.vd_packed.specs.DeviceEnd.{TakesOnce, HoldsRunning, IsCount, number_at, IsNext, DeviceStands, DeviceStepStands, device_begun, device_left, is_resting, packed_device}
+use Rattle.vd_packed.specs.DeviceEnd.{TakesOnce, HoldsRunning, IsCount, number_at, IsNext, DeviceStands, DeviceStepStands, DeviceStepArmed, device_owes, not_armed, device_begun, device_left, is_resting, packed_device}
 use Rattle.vd_packed.specs.Places.{spot_below, second_at, same_at, forward_at, used_second_at}
 use Rattle.vd_packed.specs.Seconds.{used_second}
 use Rattle.vd_packed.specs.Spots.{IsAt, forward}
 
 -- what one step of the end owes in a view
 pub record Goes (e e' : PackedDevice) (v : DeviceView) (o : Op) (a : Access) (r : ℕ) (answer : DeviceAct) : Type 0 where
+  pub of_it : IsDeviceOp (device_begun e.doing) o
   pub next : DeviceNext v o a
   pub stands : DeviceStands e' (device_after v o a r)
   pub is : answer ≡ device_act v o a r
@@ -47,7 +49,7 @@ pub record Goes (e e' : PackedDevice) (v : DeviceView) (o : Op) (a : Access) (r 
   pub rests : is_resting e'.doing ≡ is_rested answer
 
 pub made : {P : Type 0} (port : PortModel P) (p q : P) (e e' : PackedDevice) (v : DeviceView) (o : Op) (a : Access) (r : ℕ) (answer : DeviceAct) → Goes e e' v o a r answer → port.moves p o a r q → IsDeviceStep port packed_device p q v e e' answer
-made port p q e e' v o a r answer go moved = record { op = o; access = a; got = r; was_next = go.next; moved = moved; now_stands = go.stands; is_answer = go.is; left = go.left; says = go.says; rests = go.rests }
+made port p q e e' v o a r answer go moved = record { op = o; access = a; got = r; of_it = go.of_it; was_next = go.next; moved = moved; now_stands = go.stands; is_answer = go.is; left = go.left; says = go.says; rests = go.rests }
 
 pub size_facts : (e : PackedDevice) (v : DeviceView) → DeviceStands e v → (0 < e.size) × (e.size ≤ 32768) × (e.size ≡ v.frame.size)
 size_facts e v st = (omega (arith, st.made.sized, st.made.lawful.least), omega (arith, st.made.sized, st.made.lawful.most), st.made.sized)
@@ -57,6 +59,10 @@ pub spots_below : (e : PackedDevice) (v : DeviceView) → DeviceStands e v → (
 spots_below e v st =
     let some : 0 < v.frame.size = omega (arith, st.made.lawful.least) in
     (omega (arith, spot_below e.next v.frame.size (tpos v.frame v.done) some st.counts.next_at, st.made.sized), omega (arith, spot_below e.used v.frame.size (upos v.frame v.done) some st.counts.used_at, st.made.sized))
+
+-- what a step's stage says
+pub at_step : (e : PackedDevice) (v : DeviceView) (t : DeviceStep) → e.doing ≡ t → DeviceStands e v → DeviceStepStands t e.pieces.items e.second e.at v.frame v.done v.doing × DeviceStepArmed t e.armed × (e.bells + device_owes t ≤ e.given)
+at_step e v t is st = (subst (λ s. DeviceStepStands s e.pieces.items e.second e.at v.frame v.done v.doing) is st.doing, subst (λ s. DeviceStepArmed s e.armed) is st.signals.awake, subst (λ s. e.bells + device_owes s ≤ e.given) is st.signals.few)
 
 -- ---- the store of a used descriptor
 
@@ -141,7 +147,7 @@ given_small e v number head len is st =
     omega (arith, st.counts.takes, st.counts.gives, st.holds.once.count, Rattle.vd_ring.proofs.Counts.occurs_some number (running v.done) n.runs)
 
 pub give_goes : (e : PackedDevice) (v : DeviceView) (r number head len x count : ℕ) → e.doing ≡ step.Give number head len → DeviceStands e v → x ≡ used_second e.used.wrap head len → IsCount count v.frame v.done number
-    → Goes e (record e { given = e.given + 1; used = forward e.used count e.size; running = with_item e.running head None; doing = step.Idle }) v op.Give (Store (2 * e.used.place + 1) x) r (act.Given number)
+    → Goes e (record e { given = e.given + 1; used = forward e.used count e.size; used_position = e.used_position + count; running = with_item e.running head None; doing = step.Check count }) v op.Give (Store (2 * e.used.place + 1) x) r (act.Given number)
 give_goes e v r number head len x count is st word sized =
     let f : Frame = v.frame in let s : List DeviceDone = v.done in let q : ℕ = upos f s in
     let facts = give_facts e v number head len is st in
@@ -156,102 +162,36 @@ give_goes e v r number head len x count is st word sized =
     let longer = length_push (gives s) (entry number len) in
     let s2 : List DeviceDone = Give (entry number len ∷ []) ∷ s in
     let past : upos f s2 ≡ q + needs f.features (chain_at (takes s) number) = upos_given f s (entry number len) in
-    let e' : PackedDevice = record e { given = e.given + 1; used = forward e.used count e.size; running = with_item e.running head None; doing = step.Idle } in
-    let is_after : device_after v op.Give (Store p x) r ≡ record v { done = s2; stored = slice_set v.stored p x; doing = now.Idle } =
-    ap (λ t. device_after_at t v op.Give (Store p x) r) facts.4 ∙ ap (λ (ys : List Used). record v { done = Give ys ∷ s; stored = slice_set v.stored p x; doing = now.Idle }) one in
+    let e' : PackedDevice = record e { given = e.given + 1; used = forward e.used count e.size; used_position = e.used_position + count; running = with_item e.running head None; doing = step.Check count } in
+    let is_after : device_after v op.Give (Store p x) r ≡ record v { done = s2; stored = slice_set v.stored p x; doing = now.Checking q (upos f s2) } =
+    ap (λ t. device_after_at t v op.Give (Store p x) r) facts.4 ∙ ap (λ (ys : List Used). record v { done = Give ys ∷ s; stored = slice_set v.stored p x; doing = now.Checking q (upos f (Give ys ∷ s)) }) one in
+    let t = at_step e v (step.Give number head len) is st in
+    let off : e.armed ≡ false = t.1 in
+    let some : 0 < needs f.features (chain_at (takes s) number) = sized.2 in
     record {
+      of_it = subst (λ t. IsDeviceOp (device_begun t) op.Give) (sym is) refl;
       next = subst (λ t. DeviceNextAt t v op.Give (Store p x)) (sym facts.4)
-          (st.silent.unarmed, record { number = number; runs = Contains_from number (running s) n.runs; next = may_return f (chain_at (takes s)) (length (gives s)) number n.in_order; len = len; small = n.small; place = place; word = value ∙ ap (λ (h : ℕ). used_word f.size q h len) (sym n.is_head) });
+          (not_armed e v st off, record { number = number; runs = Contains_from number (running s) n.runs; next = may_return f (chain_at (takes s)) (length (gives s)) number n.in_order; len = len; small = n.small; place = place; word = value ∙ ap (λ (h : ℕ). used_word f.size q h len) (sym n.is_head) });
       stands = subst (λ t. DeviceStands e' t) (sym is_after) record {
         made = st.made;
         counts = record {
           takes = st.counts.takes;
           gives = omega (arith, st.counts.gives, longer);
           next_at = st.counts.next_at;
+          next_is = st.counts.next_is;
+          used_is = omega (arith, st.counts.used_is, past, sized.0);
+          few = st.counts.few;
           used_at = same_at (forward e.used count e.size) f.size (q + count) (upos f s2) (omega (arith, past, sized.0))
               (subst (λ (m : ℕ). IsAt (forward e.used count m) f.size (q + count)) (sym st.made.sized) (forward_at e.used f.size q count (omega (arith, st.made.lawful.least)) (omega (arith, sized.0, sized.1)) st.counts.used_at));
         };
         holds = holds_fewer e.running.items e.counts.items (length e.guesses.items) head number len f s st.holds n.runs n.is_head n.inside;
-        shown = sym (ap Rattle.vd_packed.specs.DeviceEnd.is_loading is) ∙ st.shown;
-        silent = record { unarmed = st.silent.unarmed; unheard = st.silent.unheard; unrung = st.silent.unrung };
-        doing = refl;
+        kick = st.kick;
+        signals = record { is_armed = st.signals.is_armed; hears = st.signals.hears; rings = st.signals.rings; few = omega (arith, t.2); awake = off };
+        doing = (q, refl, omega (arith, past, sized.0), omega (arith, sized.0, some), omega (arith, sized.0, sized.1));
       };
       is = sym (ap (λ t. device_act_at t v op.Give (Store p x) r) facts.4 ∙ ap (λ (ys : List Used). act.Given (last_used ys).number) one);
-      left = subst (λ t. 0 < device_left t (length e.pieces.items)) (sym is) (let y : 0 < 1 = omega arith in y);
-      says = subst (λ t. DeviceSays packed_words (act.Given number) (device_begun t) DeviceOp.idle f s (device_after v op.Give (Store p x) r).done) (sym is)
-          (len, entry number len ∷ [], refl, inl refl, ap (λ (w : DeviceView). w.done) is_after, were_given f s number len (Contains_from number (running s) n.runs) n.in_order);
-      rests = refl;
-    }
-
--- ---- the look of a rest
-
-rests_running : (table : List (Option ℕ)) (counts : List ℕ) (guesses : ℕ) (f : Frame) (s : List DeviceDone) (table' : List (Option ℕ)) → HoldsRunning table counts guesses f s → IsWhole s → length table' ≡ length table → ((h : ℕ) → number_at table' h ≡ None) → HoldsRunning table' counts guesses f (Rest ∷ s)
-rests_running table counts guesses f s table' h whole long none = record {
-  once = record {
-    each = λ k. elim (cases_lt k (length (gives s))) [
-      | inl a ↦ omega (arith, whole k a, kept, one_below k (length (take (length (gives s)) (takes s))) (omega (arith, kept)))
-      | inr a ↦ omega (arith, few k a, kept, one_above k (length (take (length (gives s)) (takes s))) (omega (arith, kept)))
-    ];
-    count = omega (arith, kept);
-    as_many = length-take-le (length (gives s)) (heads s) (omega (arith, h.once.count, h.once.as_many)) ∙ sym kept;
-  };
-  places = long ∙ h.places;
-  as_many = h.as_many;
-  guessed = h.guessed;
-  kept = λ k a. absurd (omega arith);
-  named = λ i k there. absurd (no k (sym (none i) ∙ there));
-  counted = λ k d a. absurd (omega arith);
-}
-  where
-    kept : length (take (length (gives s)) (takes s)) ≡ length (gives s)
-    kept = length-take-le (length (gives s)) (takes s) (omega (arith, h.once.count))
-
-    no : (k : ℕ) → None ≡ Some k → ⊥
-    no k e = cc e
-
-    -- what is given and whole has no other number
-    few : (k : ℕ) → length (gives s) ≤ k → occurs k (numbers (gives s)) ≡ 0
-    few k a = omega (arith, occurs_rest (length (gives s)) k (numbers (gives s)) a (λ j b. omega (arith, whole j b)), length-map (gives s) (λ (u : Used). u.number))
-
--- a rest leaves the position of what was given, and what is taken ends there
-rest_upos : (f : Frame) (s : List DeviceDone) → TakesOnce (Rest ∷ s) → upos f (Rest ∷ s) ≡ upos f s
-rest_upos f s once = sum_entries (λ u. needs f.features (chain_at (takes (Rest ∷ s)) u.number)) (λ u. needs f.features (chain_at (takes s) u.number)) (gives s) (λ j a. ap (needs f.features) (get_or-take (length (gives s)) (takes s) (used_at (gives s) j).number [] (below j a)))
-  where
-    below : (j : ℕ) → j < length (gives s) → (used_at (gives s) j).number < length (gives s)
-    below j a = elim (cases_lt (used_at (gives s) j).number (length (gives s))) [
-      | inl b ↦ b
-      | inr b ↦ absurd (omega (arith, once.each (used_at (gives s) j).number, number_in (gives s) j a, once.count, one_above (used_at (gives s) j).number (length (take (length (gives s)) (takes s))) (omega (arith, once.count))))
-    ]
-
-rest_tpos : (f : Frame) (s : List DeviceDone) → TakesOnce (Rest ∷ s) → tpos f (Rest ∷ s) ≡ upos f s
-rest_tpos f s once = let none : running_size f (Rest ∷ s) ≡ 0 = refl in omega (arith, device_span f (Rest ∷ s) once.each, rest_upos f s once, none)
-
-pub rest_goes : (e e2 : PackedDevice) (v : DeviceView) (r : ℕ) → e.doing ≡ step.Rest → DeviceStands e v → length e2.running.items ≡ length e.running.items → ((h : ℕ) → number_at e2.running.items h ≡ None)
-    → Goes e (record e { taken = e.given; next = e.used; running = e2.running; doing = step.Resting }) v op.Rest (Load (2 * e.next.place + 1)) r act.Rested
-rest_goes e e2 v r is st long none =
-    let f : Frame = v.frame in let s : List DeviceDone = v.done in
-    let n : DeviceStepStands step.Rest e.pieces.items e.second e.at f s v.doing = subst (λ t. DeviceStepStands t e.pieces.items e.second e.at f s v.doing) is st.doing in
-    let p : ℕ = 2 * e.next.place + 1 in
-    let held = rests_running e.running.items e.counts.items (length e.guesses.items) f s e2.running.items st.holds n.1 long none in
-    let e' : PackedDevice = record e { taken = e.given; next = e.used; running = e2.running; doing = step.Resting } in
-    let is_after : device_after v op.Rest (Load p) r ≡ record v { done = Rest ∷ s; armed = None; seen = later v.seen (seen_to v r) } = ap (λ t. device_after_at t v op.Rest (Load p) r) n.0 in
-    record {
-      next = subst (λ t. DeviceNextAt t v op.Rest (Load p)) (sym n.0) record { whole = n.1; place = second_at e.next f.size (tpos f s) st.counts.next_at };
-      stands = subst (λ t. DeviceStands e' t) (sym is_after) record {
-        made = st.made;
-        counts = record {
-          takes = omega (arith, st.counts.gives, held.once.count);
-          gives = st.counts.gives;
-          next_at = same_at e.used f.size (upos f s) (tpos f (Rest ∷ s)) (sym (rest_tpos f s held.once)) st.counts.used_at;
-          used_at = same_at e.used f.size (upos f s) (upos f (Rest ∷ s)) (sym (rest_upos f s held.once)) st.counts.used_at;
-        };
-        holds = held;
-        shown = sym (ap Rattle.vd_packed.specs.DeviceEnd.is_loading is) ∙ st.shown;
-        silent = record { unarmed = refl; unheard = st.silent.unheard; unrung = st.silent.unrung };
-        doing = (n.0, refl, n.1);
-      };
-      is = sym (ap (λ t. device_act_at t v op.Rest (Load p) r) n.0);
-      left = subst (λ t. 0 < device_left t (length e.pieces.items)) (sym is) (let y : 0 < 1 = omega arith in y);
-      says = subst (λ t. DeviceSays packed_words act.Rested (device_begun t) DeviceOp.idle f s (device_after v op.Rest (Load p) r).done) (sym is) (refl, refl, ap (λ (w : DeviceView). w.done) is_after, n.1);
+      left = subst (λ t. 2 < device_left t (length e.pieces.items)) (sym is) (let y : 2 < 3 = omega arith in y);
+      says = subst (λ t. DeviceSays packed_words (act.Given number) (device_begun t) DeviceOp.signal f s (device_after v op.Give (Store p x) r).done) (sym is)
+          (len, entry number len ∷ [], refl, inr refl, ap (λ (w : DeviceView). w.done) is_after, were_given f s number len (Contains_from number (running s) n.runs) n.in_order);
       rests = refl;
     }

@@ -1,5 +1,5 @@
 -- The laws of the device's end of a packed ring.
-use Rattle.std.proofs.Common.{◌≡◌, ℕ, ◌-◌, ◌/◌, ◌%◌, ◌<◌, ◌≤◌, ◌&&◌, ◌==◌, Bool, true, false, nat_lt, List, [], ◌∷◌, length, Option, Some, None, slice_set, refl, sym, ap, ◌∙◌, subst, arith, inl, inr}
+use Rattle.std.proofs.Common.{◌≡◌, ℕ, ◌-◌, ◌/◌, ◌%◌, ◌<◌, ◌≤◌, ◌&&◌, ◌==◌, not, Bool, true, false, nat_lt, List, [], ◌∷◌, length, Option, Some, None, slice_set, refl, sym, ap, ◌∙◌, subst, arith, inl, inr}
 use Rattle.std.specs.List.{Contains}
 use Rattle.std.proofs.lemmas.Bool.{cases_lt, eqb-true}
 use Rattle.std.proofs.lemmas.List.{get_or_past}
@@ -27,7 +27,8 @@ use Rattle.vd_packed.specs.declared.device.PackedDevice.{PackedDevice}
 use Rattle.vd_packed.specs.declared.device.DeviceStep.{DeviceStep}
 use Rattle.vd_packed.specs.declared.device.DeviceStep.TheVariants as step
 use Rattle.vd_packed.specs.declared.spot.Spot.{Spot}
-use Rattle.vd_packed.specs.DeviceEnd.{HoldsRunning, number_at, IsNext, IsTaking, DeviceStands, DeviceStepStands, device_begun, device_left, is_resting, is_idle, packed_device}
+use Rattle.vd_packed.specs.DeviceEnd.{HoldsRunning, number_at, IsNext, IsTaking, DeviceStands, DeviceStepStands, DeviceStepArmed, device_owes, not_armed, is_armed, device_begun, device_left, is_resting, is_idle, packed_device}
+use Rattle.vd_packed.specs.DeviceAnswers.{stays_unarmed, device_looks_laws}
 use Rattle.vd_packed.specs.Places.{base_at_spot}
 use Rattle.vd_packed.specs.Spots.{base_word}
 
@@ -56,29 +57,56 @@ rests_at : (t : DeviceStep) (ps : List Piece) (w : ℕ) (p : Spot) (f : Frame) (
 rests_at step.Idle ps w p f s d h e = h
 rests_at step.Resting ps w p f s d h e = h.0
 rests_at step.Look ps w p f s d h e = absurd (cc e)
-rests_at (step.Address k) ps w p f s d h e = absurd (cc e)
-rests_at (step.Second k) ps w p f s d h e = absurd (cc e)
+rests_at step.Address ps w p f s d h e = absurd (cc e)
+rests_at step.Second ps w p f s d h e = absurd (cc e)
 rests_at (step.Give k h n) ps w p f s d x e = absurd (cc e)
 rests_at step.Rest ps w p f s d h e = absurd (cc e)
+rests_at (step.Check m) ps w p f s d h e = absurd (cc e)
+rests_at step.Ring ps w p f s d h e = absurd (cc e)
+rests_at step.Arm ps w p f s d h e = absurd (cc e)
+rests_at step.LookAgain ps w p f s d h e = absurd (cc e)
+rests_at step.Hear ps w p f s d h e = absurd (cc e)
+rests_at step.WakeArming ps w p f s d h e = absurd (cc e)
+rests_at step.WakeHearing ps w p f s d h e = absurd (cc e)
+rests_at step.Disarm ps w p f s d h e = absurd (cc e)
+rests_at step.RestLook ps w p f s d h e = absurd (cc e)
 
 ends_at : (t : DeviceStep) (n : ℕ) → device_left t n ≡ 0 → device_begun t ≡ DeviceOp.idle
 ends_at step.Idle n h = refl
 ends_at step.Resting n h = refl
 ends_at step.Look n h = absurd (omega arith)
-ends_at (step.Address k) n h = absurd (omega arith)
-ends_at (step.Second k) n h = absurd (omega arith)
+ends_at step.Address n h = absurd (omega arith)
+ends_at step.Second n h = absurd (omega arith)
 ends_at (step.Give k h l) n x = absurd (omega arith)
 ends_at step.Rest n h = absurd (omega arith)
+ends_at (step.Check m) n h = absurd (omega arith)
+ends_at step.Ring n h = absurd (omega arith)
+ends_at step.Arm n h = absurd (omega arith)
+ends_at step.LookAgain n h = absurd (omega arith)
+ends_at step.Hear n h = absurd (omega arith)
+ends_at step.WakeArming n h = absurd (omega arith)
+ends_at step.WakeHearing n h = absurd (omega arith)
+ends_at step.Disarm n h = absurd (omega arith)
+ends_at step.RestLook n h = absurd (omega arith)
 
 -- what is resting or fresh is idle
 resting_idle : (t : DeviceStep) → is_resting t ≡ true → (device_begun t ≡ DeviceOp.idle) × (t ≡ step.Resting)
 resting_idle step.Resting e = (refl, refl)
 resting_idle step.Idle e = absurd (cc e)
 resting_idle step.Look e = absurd (cc e)
-resting_idle (step.Address k) e = absurd (cc e)
-resting_idle (step.Second k) e = absurd (cc e)
+resting_idle step.Address e = absurd (cc e)
+resting_idle step.Second e = absurd (cc e)
 resting_idle (step.Give k h l) e = absurd (cc e)
 resting_idle step.Rest e = absurd (cc e)
+resting_idle (step.Check m) e = absurd (cc e)
+resting_idle step.Ring e = absurd (cc e)
+resting_idle step.Arm e = absurd (cc e)
+resting_idle step.LookAgain e = absurd (cc e)
+resting_idle step.Hear e = absurd (cc e)
+resting_idle step.WakeArming e = absurd (cc e)
+resting_idle step.WakeHearing e = absurd (cc e)
+resting_idle step.Disarm e = absurd (cc e)
+resting_idle step.RestLook e = absurd (cc e)
 
 -- a fresh end is idle, and has taken and given nothing
 fresh_idle : (t : DeviceStep) (m n : ℕ) → (is_idle t && ((m == 0) && (n == 0))) ≡ true → (device_begun t ≡ DeviceOp.idle) × (m ≡ 0) × (n ≡ 0)
@@ -90,21 +118,43 @@ fresh_idle step.Idle m n e = let both = and_both (m == 0) (n == 0) e in (refl, e
     and_both false b e = absurd (cc e)
 fresh_idle step.Resting m n e = absurd (cc e)
 fresh_idle step.Look m n e = absurd (cc e)
-fresh_idle (step.Address k) m n e = absurd (cc e)
-fresh_idle (step.Second k) m n e = absurd (cc e)
+fresh_idle step.Address m n e = absurd (cc e)
+fresh_idle step.Second m n e = absurd (cc e)
 fresh_idle (step.Give k h l) m n e = absurd (cc e)
 fresh_idle step.Rest m n e = absurd (cc e)
+fresh_idle (step.Check k) m n e = absurd (cc e)
+fresh_idle step.Ring m n e = absurd (cc e)
+fresh_idle step.Arm m n e = absurd (cc e)
+fresh_idle step.LookAgain m n e = absurd (cc e)
+fresh_idle step.Hear m n e = absurd (cc e)
+fresh_idle step.WakeArming m n e = absurd (cc e)
+fresh_idle step.WakeHearing m n e = absurd (cc e)
+fresh_idle step.Disarm m n e = absurd (cc e)
+fresh_idle step.RestLook m n e = absurd (cc e)
+
+parts : (a b : Bool) → (a && b) ≡ true → (a ≡ true) × (b ≡ true)
+parts true true e = (refl, refl)
+parts true false e = absurd (cc e)
+parts false b e = absurd (cc e)
 
 still_idle : (e : PackedDevice) → IsStill packed_device e → device_begun e.doing ≡ DeviceOp.idle
 still_idle e (inl r) = (resting_idle e.doing r).0
-still_idle e (inr r) = (fresh_idle e.doing e.taken e.given r).0
+still_idle e (inr r) = (fresh_idle e.doing e.taken e.given (parts (is_idle e.doing && ((e.taken == 0) && (e.given == 0))) (not e.armed) r).0).0
+
+still_unarmed : (e : PackedDevice) (v : DeviceView) → DeviceStands e v → IsStill packed_device e → e.armed ≡ false
+still_unarmed e v st (inl r) = subst (λ t. DeviceStepArmed t e.armed) (resting_idle e.doing r).1 st.signals.awake
+still_unarmed e v st (inr r) = turned e.armed (parts (is_idle e.doing && ((e.taken == 0) && (e.given == 0))) (not e.armed) r).1
+  where
+    turned : (b : Bool) → not b ≡ true → b ≡ false
+    turned true h = absurd (cc h)
+    turned false h = refl
 
 still_whole : (e : PackedDevice) (v : DeviceView) → DeviceStands e v → IsStill packed_device e → (running v.done ≡ []) × (length (takes v.done) ≡ length (gives v.done)) × IsWhole v.done
 still_whole e v st (inl r) =
     let n : DeviceStepStands step.Resting e.pieces.items e.second e.at v.frame v.done v.doing = subst (λ t. DeviceStepStands t e.pieces.items e.second e.at v.frame v.done v.doing) (resting_idle e.doing r).1 st.doing in
     (n.1, omega (arith, st.holds.once.count, ap (λ (xs : List ℕ). length xs) n.1), n.2)
 still_whole e v st (inr r) =
-    let n = fresh_idle e.doing e.taken e.given r in
+    let n = fresh_idle e.doing e.taken e.given (parts (is_idle e.doing && ((e.taken == 0) && (e.given == 0))) (not e.armed) r).0 in
     let none : length (takes v.done) ≡ 0 = omega (arith, st.counts.takes) in
     (empty_is (running v.done) (omega (arith, st.holds.once.count)), omega (arith, st.holds.once.count), λ k h. absurd (omega (arith, st.holds.once.count)))
 
@@ -135,15 +185,13 @@ running_loaded table counts guesses f s l i y h = record {
 next_loaded : (f : Frame) (s : List DeviceDone) (k h n : ℕ) (l i y : ℕ) → IsNext f s k h n → IsNext f (LoadCommand l i y ∷ s) k h n
 next_loaded f s k h n l i y x = record { runs = x.runs; in_order = x.in_order; is_head = x.is_head; inside = x.inside; small = x.small }
 
-taking_loaded : (f : Frame) (s : List DeviceDone) (ps : List Piece) (p : Spot) (h : ℕ) (more : List ℕ) (d : DeviceNow) (l i y : ℕ) → IsTaking f s ps p h more d → IsTaking f (LoadCommand l i y ∷ s) ps p h more d
-taking_loaded f s ps p h more d l i y t = record {
+taking_loaded : (f : Frame) (s : List DeviceDone) (ps : List Piece) (p : Spot) (more : List ℕ) (d : DeviceNow) (l i y : ℕ) → IsTaking f s ps p more d → IsTaking f (LoadCommand l i y ∷ s) ps p more d
+taking_loaded f s ps p more d l i y t = record {
   word = t.word;
   words = t.words;
   whole = t.whole;
   is = t.is;
   parts = t.parts;
-  is_head = t.is_head;
-  new = record { inside = t.new.inside; apart = t.new.apart };
   limited = t.limited;
   spelled = t.spelled;
   even = t.even;
@@ -154,10 +202,19 @@ step_loaded : (t : DeviceStep) (ps : List Piece) (w : ℕ) (p : Spot) (f : Frame
 step_loaded step.Idle ps w p f s d l i y x = x
 step_loaded step.Resting ps w p f s d l i y x = x
 step_loaded step.Look ps w p f s d l i y x = x
-step_loaded (step.Address h) ps w p f s d l i y x = taking_loaded f s ps p h (w ∷ []) d l i y x
-step_loaded (step.Second h) ps w p f s d l i y x = taking_loaded f s ps p h [] d l i y x
+step_loaded step.Address ps w p f s d l i y x = taking_loaded f s ps p (w ∷ []) d l i y x
+step_loaded step.Second ps w p f s d l i y x = taking_loaded f s ps p [] d l i y x
 step_loaded (step.Give k h n) ps w p f s d l i y x = (x.0, next_loaded f s k h n l i y x.1)
 step_loaded step.Rest ps w p f s d l i y x = x
+step_loaded (step.Check m) ps w p f s d l i y x = x
+step_loaded step.Ring ps w p f s d l i y x = x
+step_loaded step.Arm ps w p f s d l i y x = x
+step_loaded step.LookAgain ps w p f s d l i y x = x
+step_loaded step.Hear ps w p f s d l i y x = x
+step_loaded step.WakeArming ps w p f s d l i y x = x
+step_loaded step.WakeHearing ps w p f s d l i y x = x
+step_loaded step.Disarm ps w p f s d l i y x = x
+step_loaded step.RestLook ps w p f s d l i y x = x
 
 running_stored : (table : List (Option ℕ)) (counts : List ℕ) (guesses : ℕ) (f : Frame) (s : List DeviceDone) (l y : ℕ) → HoldsRunning table counts guesses f s → HoldsRunning table counts guesses f (StoreAck l y ∷ s)
 running_stored table counts guesses f s l y h = record {
@@ -173,15 +230,13 @@ running_stored table counts guesses f s l y h = record {
 next_stored : (f : Frame) (s : List DeviceDone) (k h n : ℕ) (l y : ℕ) → IsNext f s k h n → IsNext f (StoreAck l y ∷ s) k h n
 next_stored f s k h n l y x = record { runs = x.runs; in_order = x.in_order; is_head = x.is_head; inside = x.inside; small = x.small }
 
-taking_stored : (f : Frame) (s : List DeviceDone) (ps : List Piece) (p : Spot) (h : ℕ) (more : List ℕ) (d : DeviceNow) (l y : ℕ) → IsTaking f s ps p h more d → IsTaking f (StoreAck l y ∷ s) ps p h more d
-taking_stored f s ps p h more d l y t = record {
+taking_stored : (f : Frame) (s : List DeviceDone) (ps : List Piece) (p : Spot) (more : List ℕ) (d : DeviceNow) (l y : ℕ) → IsTaking f s ps p more d → IsTaking f (StoreAck l y ∷ s) ps p more d
+taking_stored f s ps p more d l y t = record {
   word = t.word;
   words = t.words;
   whole = t.whole;
   is = t.is;
   parts = t.parts;
-  is_head = t.is_head;
-  new = record { inside = t.new.inside; apart = t.new.apart };
   limited = t.limited;
   spelled = t.spelled;
   even = t.even;
@@ -192,28 +247,37 @@ step_stored : (t : DeviceStep) (ps : List Piece) (w : ℕ) (p : Spot) (f : Frame
 step_stored step.Idle ps w p f s d l y x = x
 step_stored step.Resting ps w p f s d l y x = x
 step_stored step.Look ps w p f s d l y x = x
-step_stored (step.Address h) ps w p f s d l y x = taking_stored f s ps p h (w ∷ []) d l y x
-step_stored (step.Second h) ps w p f s d l y x = taking_stored f s ps p h [] d l y x
+step_stored step.Address ps w p f s d l y x = taking_stored f s ps p (w ∷ []) d l y x
+step_stored step.Second ps w p f s d l y x = taking_stored f s ps p [] d l y x
 step_stored (step.Give k h n) ps w p f s d l y x = (x.0, next_stored f s k h n l y x.1)
 step_stored step.Rest ps w p f s d l y x = x
+step_stored (step.Check m) ps w p f s d l y x = x
+step_stored step.Ring ps w p f s d l y x = x
+step_stored step.Arm ps w p f s d l y x = x
+step_stored step.LookAgain ps w p f s d l y x = x
+step_stored step.Hear ps w p f s d l y x = x
+step_stored step.WakeArming ps w p f s d l y x = x
+step_stored step.WakeHearing ps w p f s d l y x = x
+step_stored step.Disarm ps w p f s d l y x = x
+step_stored step.RestLook ps w p f s d l y x = x
 
 after_command : (e : PackedDevice) (v : DeviceView) (l i y : ℕ) → DeviceStands e v → DeviceStands e (record v { done = LoadCommand l i y ∷ v.done })
 after_command e v l i y st = record {
   made = st.made;
-  counts = record { takes = st.counts.takes; gives = st.counts.gives; next_at = st.counts.next_at; used_at = st.counts.used_at };
+  counts = record { takes = st.counts.takes; gives = st.counts.gives; next_at = st.counts.next_at; used_at = st.counts.used_at; next_is = st.counts.next_is; used_is = st.counts.used_is; few = st.counts.few };
   holds = running_loaded e.running.items e.counts.items (length e.guesses.items) v.frame v.done l i y st.holds;
-  shown = st.shown;
-  silent = record { unarmed = st.silent.unarmed; unheard = st.silent.unheard; unrung = st.silent.unrung };
+  kick = st.kick;
+  signals = record { is_armed = st.signals.is_armed; hears = st.signals.hears; rings = st.signals.rings; few = st.signals.few; awake = st.signals.awake };
   doing = step_loaded e.doing e.pieces.items e.second e.at v.frame v.done v.doing l i y st.doing;
 }
 
 after_ack : (e : PackedDevice) (v : DeviceView) (l x : ℕ) (us : List ℕ) → DeviceStands e v → DeviceStands e (record v { done = StoreAck l x ∷ v.done; stored = us })
 after_ack e v l x us st = record {
   made = st.made;
-  counts = record { takes = st.counts.takes; gives = st.counts.gives; next_at = st.counts.next_at; used_at = st.counts.used_at };
+  counts = record { takes = st.counts.takes; gives = st.counts.gives; next_at = st.counts.next_at; used_at = st.counts.used_at; next_is = st.counts.next_is; used_is = st.counts.used_is; few = st.counts.few };
   holds = running_stored e.running.items e.counts.items (length e.guesses.items) v.frame v.done l x st.holds;
-  shown = st.shown;
-  silent = record { unarmed = st.silent.unarmed; unheard = st.silent.unheard; unrung = st.silent.unrung };
+  kick = st.kick;
+  signals = record { is_armed = st.signals.is_armed; hears = st.signals.hears; rings = st.signals.rings; few = st.signals.few; awake = st.signals.awake };
   doing = step_stored e.doing e.pieces.items e.second e.at v.frame v.done v.doing l x st.doing;
 }
 
@@ -232,12 +296,28 @@ device_laws = record {
   still = still_idle;
   whole = still_whole;
   based = λ e v st still. is_based e v st;
-  unused = fresh_unused;
+  unused = λ e v st r. fresh_unused e v st (parts (is_idle e.doing && ((e.taken == 0) && (e.given == 0))) (not e.armed) r).0;
   control = λ e v a r st n. control_at v.doing e v a r st n;
   framed = λ v o a r. device_frame v o a r;
-  unarmed = λ e v st still. st.silent.unarmed;
+  stays_unarmed = λ v o a r other off. stays_unarmed v o a r other off;
+  looks = device_looks_laws;
+  armed = λ e v st on. (tpos v.frame v.done, is_armed e v st on);
+  not_armed = λ e v st off. not_armed e v st off;
+  unarmed_still = still_unarmed;
+  unarmed = λ e v st still. not_armed e v st (still_unarmed e v st still);
   runs = λ e v st. runs_in_table e.running.items v.frame v.done st.holds.once.each st.holds.once.count st.holds.once.as_many st.holds.places st.holds.kept;
   controls = device_controls;
+}
+
+-- the end stands after the beginning of an operation
+pub begins : (e : PackedDevice) (v : DeviceView) (t : DeviceStep) → device_begun e.doing ≡ DeviceOp.idle → DeviceStands e v → (v.doing ≡ now.Idle → DeviceStepStands t e.pieces.items e.second e.at v.frame v.done v.doing) → DeviceStepArmed t e.armed → device_owes t ≡ 0 → DeviceStands (record e { doing = t }) v
+begins e v t idle st doing armed none = record {
+  made = st.made;
+  counts = st.counts;
+  holds = st.holds;
+  kick = st.kick;
+  signals = record { is_armed = st.signals.is_armed; hears = st.signals.hears; rings = st.signals.rings; few = omega (arith, st.signals.few, none); awake = armed };
+  doing = doing (rests_at e.doing e.pieces.items e.second e.at v.frame v.done v.doing st.doing idle);
 }
 
 -- ---- what a look through the table tells

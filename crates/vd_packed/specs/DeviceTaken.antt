@@ -2,9 +2,9 @@
 use Rattle.std.proofs.Common.{◌≡◌, ◌≢◌, ℕ, ◌+◌, ◌*◌, ◌<◌, ◌≤◌, Bool, true, false, not, List, [], ◌∷◌, ◌++◌, length, Option, Some, None, if◌then◌else◌, nat_lt, slice_index, slice_index_or, slice_set, refl, sym, ap, ◌∙◌, subst, arith, inl, inr}
 use Rattle.std.specs.Vec.{with_item}
 use Rattle.std.proofs.lemmas.Bool.{cases_lt, cases_eq}
-use Rattle.std.proofs.lemmas.List.{length_push, length-append, length-set, get_or_append_left, get_or_push, get_or-set_same, get_or-set_other, append-nil, append_assoc}
+use Rattle.std.proofs.lemmas.List.{length_push, length-append, length-set, get_or_append_left, get_or_push, get_or_past, get_or-set_same, get_or-set_other, append-nil, append_assoc}
 use Rattle.vd_model.specs.declared.chain.Piece.{Piece}
-use Rattle.vd_model.specs.Chains.{needs}
+use Rattle.vd_model.specs.Chains.{IsChain, needs}
 use Rattle.vd_words.specs.declared.access.Access.TheVariants.{Load}
 use Rattle.vd_words.specs.declared.access.Op.TheVariants as op
 use Rattle.vd_ring.specs.declared.act.DeviceAct.TheVariants as act
@@ -17,21 +17,27 @@ use Rattle.vd_ring.specs.History.{takes, gives, heads, running, taken_head, chai
 use Rattle.vd_ring.proofs.Counts.{one, one_same, one_other, one_more, one_above, occurs_push, Contains_from}
 use Rattle.vd_ring.proofs.ListSteps.{number_in}
 use Rattle.vd_packed_ring.specs.PackedWords.{id_of, goes_on}
-use Rattle.vd_packed_ring.specs.PackedChains.{piece_of, is_whole, chain_of}
+use Rattle.vd_packed_ring.specs.PackedChains.{piece_of, last_id, loaded_head, is_whole, chain_of}
 use Rattle.vd_packed_ring.specs.PackedPositions.{tpos, upos}
 use Rattle.vd_packed_ring.specs.PackedDevice.{IsNewHead, device_after, device_after_at, device_takes, device_act_at}
 use Rattle.vd_packed_ring.proofs.Positions.{sum_entries}
-use Rattle.vd_packed_ring.proofs.Spelled.{needs_pieces, chain_is}
-use Rattle.vd_layout.specs.Begun.{DeviceOp}
+use Rattle.vd_packed_ring.proofs.Spelled.{needs_pieces, chain_is, head_is}
+use Rattle.vd_layout.specs.Begun.{DeviceOp, IsDeviceOp}
 use Rattle.vd_layout.specs.Device.{DeviceSays, IsTaken}
 use Rattle.vd_packed.specs.declared.device.PackedDevice.{PackedDevice}
 use Rattle.vd_packed.specs.declared.device.DeviceStep.TheVariants as step
+use Rattle.vd_packed.specs.declared.device.Told.{Told}
+use Rattle.vd_packed.specs.declared.device.Told.TheVariants as told
+use Rattle.vd_packed.specs.Telling.{act_of}
 use Rattle.vd_packed.specs.DriverEnd.{packed_words}
-use Rattle.vd_packed.specs.DeviceEnd.{TakesOnce, HoldsRunning, number_at, DeviceStands, DeviceStepStands, device_begun, device_left}
-use Rattle.vd_packed.specs.DeviceGiving.{Goes}
+use Rattle.vd_packed.specs.DeviceEnd.{TakesOnce, HoldsRunning, number_at, not_armed, DeviceStands, device_begun, device_left}
+use Rattle.vd_packed.specs.DeviceGiving.{Goes, at_step}
 use Rattle.vd_packed.specs.Places.{same_at}
 use Rattle.vd_packed.specs.Spots.{forward}
-use Rattle.vd_packed.specs.DeviceTaking.{Loaded, address_next, is_ended, spelled_more, spot_more, whole_chain}
+use Rattle.vd_packed.specs.DeviceTaking.{Loaded, address_next, is_ended, few_pieces, spelled_more, spot_more, more_goes, whole_chain}
+use Rattle.vd_packed.specs.Bounds.{few_each, limit_small}
+use Rattle.vd_packed.specs.Loaded.{HasMore, HasTaken, MayTake}
+use Rattle.vd_packed.specs.Loads.{id_last}
 
 -- it leaves the position of what was given
 take_upos : (f : Frame) (s : List DeviceDone) (c : List Piece) (h : ℕ) → TakesOnce s → upos f (Take c h ∷ s) ≡ upos f s
@@ -44,9 +50,9 @@ take_upos f s c h once = sum_entries (λ u. needs f.features (chain_at (takes (T
     ]
 
 -- it runs at its head
-pub holds_more : (table : List (Option ℕ)) (counts : List ℕ) (guesses guesses' h n : ℕ) (f : Frame) (s : List DeviceDone) (c : List Piece) → HoldsRunning table counts guesses f s → IsNewHead f s h → 0 < guesses' → n ≡ needs f.features c → needs f.features c ≤ f.size
+pub holds_more : (table : List (Option ℕ)) (counts : List ℕ) (guesses guesses' h n : ℕ) (f : Frame) (s : List DeviceDone) (c : List Piece) → HoldsRunning table counts guesses f s → IsNewHead f s h → 0 < guesses' → n ≡ needs f.features c → needs f.features c ≤ f.size → 0 < needs f.features c
     → HoldsRunning (slice_set table h (Some (length (takes s)))) (slice_set counts h n) guesses' f (Take c h ∷ s)
-holds_more table counts guesses guesses' h n f s c held new guess sized few = record {
+holds_more table counts guesses guesses' h n f s c held new guess sized few some = record {
   once = record {
     each = λ k. omega (arith, held.once.each k, occurs_push k (running s) t, one_more k t, ap (λ m. one (nat_lt k m)) longer);
     count = omega (arith, held.once.count, longer, length_push (running s) t);
@@ -76,7 +82,7 @@ holds_more table counts guesses guesses' h n f s c held new guess sized few = re
     | inl e ↦ (
         let head : slice_index (heads s ++ h ∷ []) k ≡ h = ap (slice_index (heads s ++ h ∷ [])) e ∙ new_head in
         let chain : chain_at (takes s ++ c ∷ []) k ≡ c = ap (chain_at (takes s ++ c ∷ [])) e ∙ get_or_push (takes s) c [] t refl in
-        (ap (λ i. slice_index_or (slice_set counts h n) i d) head ∙ (get_or-set_same counts h n d (omega (arith, new.inside, held.as_many)) ∙ (sized ∙ ap (needs f.features) (sym chain))), subst (λ (x : List Piece). needs f.features x ≤ f.size) (sym chain) few)
+        (ap (λ i. slice_index_or (slice_set counts h n) i d) head ∙ (get_or-set_same counts h n d (omega (arith, new.inside, held.as_many)) ∙ (sized ∙ ap (needs f.features) (sym chain))), subst (λ (x : List Piece). needs f.features x ≤ f.size) (sym chain) few, subst (λ (x : List Piece). 0 < needs f.features x) (sym chain) some)
         )
     | inr ne ↦ (
         let old = old_runs k ne a in
@@ -84,6 +90,7 @@ holds_more table counts guesses guesses' h n f s c held new guess sized few = re
         let was = held.counted k d old in (
           ap (λ i. slice_index_or (slice_set counts h n) i d) (old_head k (below k old)) ∙ (get_or-set_other counts h (taken_head s k) n d (new.apart k (Contains_from k (running s) old)) ∙ (was.0 ∙ ap (needs f.features) (sym chain))),
           subst (λ (x : List Piece). needs f.features x ≤ f.size) (sym chain) was.1,
+          subst (λ (x : List Piece). 0 < needs f.features x) (sym chain) was.2,
         )
         )
   ];
@@ -113,46 +120,70 @@ holds_more table counts guesses guesses' h n f s c held new guess sized few = re
     old_runs : (k : ℕ) → k ≢ length (takes s) → 1 ≤ occurs k (running s ++ length (takes s) ∷ []) → 1 ≤ occurs k (running s)
     old_runs k ne a = omega (arith, a, occurs_push k (running s) (length (takes s)), one_other (length (takes s)) k (λ e. ne (sym e)))
 
-pub address_last : (e e2 : PackedDevice) (v : DeviceView) (h x n : ℕ) (cs : List Piece) → (l : Loaded e v h x) → DeviceStands e v → e.doing ≡ step.Address h → goes_on e.second ≡ false
+-- the chain's id is that of its last second word
+told_head : (e : PackedDevice) (v : DeviceView) (x : ℕ) → (l : Loaded e v x) → DeviceStands e v → goes_on e.second ≡ false → l.told.head ≡ id_of e.second
+told_head e v x l st off =
+    let ws : List ℕ = l.had.word ∷ l.had.words ++ x ∷ [] in
+    sym (l.told.complete (is_ended e v x st l ∙ ap not off)).2 ∙ (head_is v.frame ws st.made.built ∙ (ap last_id l.words ∙ id_last l.had.whole e.second x (length e.pieces.items) l.had.even))
+
+taken_few : (f : Frame) (s : List DeviceDone) (c : List Piece) (h : ℕ) → needs f.features c ≤ 16 → ((k : ℕ) → needs f.features (chain_at (takes s) k) ≤ 16) → (k : ℕ) → needs f.features (chain_at (takes (Take c h ∷ s)) k) ≤ 16
+taken_few f s c h short few k = elim (cases_lt k (length (takes s))) [
+  | inl a ↦ subst (λ (x : List Piece). needs f.features x ≤ 16) (sym (get_or_append_left (takes s) (c ∷ []) [] k a)) (few k)
+  | inr a ↦ elim (cases_eq k (length (takes s))) [
+    | inl e ↦ subst (λ (x : List Piece). needs f.features x ≤ 16) (sym (get_or_push (takes s) c [] k (sym e))) short
+    | inr ne ↦ subst (λ (x : List Piece). needs f.features x ≤ 16) (get_or_past (takes s) (length (takes s)) [] (omega arith) ∙ sym (get_or_past (takes s ++ c ∷ []) k [] (omega (arith, length_push (takes s) c)))) (few (length (takes s)))
+  ]
+]
+
+address_last : (e e2 : PackedDevice) (v : DeviceView) (h x n : ℕ) (cs : List Piece) → (l : Loaded e v x) → DeviceStands e v → e.doing ≡ step.Address → goes_on e.second ≡ false → h ≡ id_of e.second
     → cs ≡ e.pieces.items ++ piece_of x e.second ∷ [] → n ≡ length e.pieces.items + 1 → 0 < length e2.guesses.items
-    → Goes e (record e { taken = e.taken + 1; next = forward e.at 1 e.size; running = with_item e.running h (Some e.taken); counts = with_item e.counts h n; guesses = e2.guesses; pieces = e2.pieces; at = forward e.at 1 e.size; doing = step.Idle }) v op.Take (Load (2 * e.at.place)) x (act.Taken e.taken cs)
-address_last e e2 v h x n cs l st is off spelled many guesses =
+    → Goes e (record e { taken = e.taken + 1; next = forward e.at 1 e.size; next_position = e.next_position + n; running = with_item e.running h (Some e.taken); counts = with_item e.counts h n; guesses = e2.guesses; pieces = e2.pieces; at = forward e.at 1 e.size; doing = step.Idle }) v op.Take (Load (2 * e.at.place)) x (act.Taken e.taken cs)
+address_last e e2 v h x n cs l st is off named spelled many guesses =
     let f : Frame = v.frame in let s : List DeviceDone = v.done in let t : ℕ = length (takes s) in
     let had = l.had in let w : ℕ = had.word in let ws : List ℕ = had.words in
     let p : ℕ = 2 * e.at.place in
-    let end : is_whole f (w ∷ ws ++ x ∷ []) ≡ true = is_ended e v h x st l ∙ ap not off in
-    let is_chain : chain_of f (w ∷ ws ++ x ∷ []) ≡ cs = chain_is f (w ∷ ws ++ x ∷ []) st.made.built ∙ (spelled_more e v h x l ∙ sym spelled) in
-    let is_told : cs ≡ l.told.chain = spelled ∙ whole_chain e v h x off st l in
+    let end : is_whole f (w ∷ ws ++ x ∷ []) ≡ true = is_ended e v x st l ∙ ap not off in
+    let is_chain : chain_of f (w ∷ ws ++ x ∷ []) ≡ cs = chain_is f (w ∷ ws ++ x ∷ []) st.made.built ∙ (spelled_more e v x l ∙ sym spelled) in
+    let is_told : cs ≡ l.told.chain = spelled ∙ whole_chain e v x off st l in
+    let head : l.told.head ≡ h = told_head e v x l st off ∙ sym named in
+    let new : IsNewHead f s h = subst (λ k. IsNewHead f s k) head l.told.is_new in
+    let is_head : loaded_head f (w ∷ ws ++ x ∷ []) ≡ h = (l.told.complete end).2 ∙ head in
     let longer = length_push (takes s) cs in
     let count : needs f.features cs ≡ length e.pieces.items + 1 = needs_pieces f cs st.made.built ∙ (ap (λ (ps : List Piece). length ps) spelled ∙ length_push e.pieces.items (piece_of x e.second)) in
     let few : needs f.features cs ≤ f.size = subst (λ (c : List Piece). needs f.features c ≤ f.size) (sym is_told) l.told.fits.size in
+    let short : needs f.features cs ≤ 16 = omega (arith, count, few_pieces e v x st l) in
     let s2 : List DeviceDone = Take cs h ∷ s in
     let past : tpos f s2 ≡ tpos f s + needs f.features cs = Rattle.std.proofs.lemmas.List.Sums.sum_by_push (needs f.features) (takes s) cs in
     let v2 : DeviceView = record v { done = s2; shown = false; doing = now.Idle } in
     let is_after : device_after v op.Take (Load p) x ≡ v2 =
     ap (λ u. device_after_at u v op.Take (Load p) x) had.is ∙ (ap (λ b. if b then device_takes v (w ∷ ws ++ x ∷ []) else record v { doing = now.Taking (w ∷ ws ++ x ∷ []) }) end
-    ∙ (ap (λ (c : List Piece). record v { done = Take c (id_of w) ∷ s; shown = false; doing = now.Idle }) is_chain ∙ ap (λ k. record v { done = Take cs k ∷ s; shown = false; doing = now.Idle }) had.is_head)) in
-    let spot = spot_more e v h x st l in
-    let e' : PackedDevice = record e { taken = e.taken + 1; next = forward e.at 1 e.size; running = with_item e.running h (Some e.taken); counts = with_item e.counts h n; guesses = e2.guesses; pieces = e2.pieces; at = forward e.at 1 e.size; doing = step.Idle } in
+    ∙ (ap (λ (c : List Piece). record v { done = Take c (loaded_head f (w ∷ ws ++ x ∷ [])) ∷ s; shown = false; doing = now.Idle }) is_chain ∙ ap (λ k. record v { done = Take cs k ∷ s; shown = false; doing = now.Idle }) is_head)) in
+    let spot = spot_more e v x st l in
+    let u = at_step e v step.Address is st in
+    let e' : PackedDevice = record e { taken = e.taken + 1; next = forward e.at 1 e.size; next_position = e.next_position + n; running = with_item e.running h (Some e.taken); counts = with_item e.counts h n; guesses = e2.guesses; pieces = e2.pieces; at = forward e.at 1 e.size; doing = step.Idle } in
     record {
-      next = (address_next e v h is st).0;
-      stands = subst (λ u. DeviceStands e' u) (sym is_after) record {
+      of_it = subst (λ d. IsDeviceOp (device_begun d) op.Take) (sym is) refl;
+      next = (address_next e v is st).0;
+      stands = subst (λ z. DeviceStands e' z) (sym is_after) record {
         made = st.made;
         counts = record {
           takes = omega (arith, st.counts.takes, longer);
           gives = st.counts.gives;
           next_at = same_at (forward e.at 1 e.size) f.size (tpos f s + (length e.pieces.items + 1)) (tpos f s2) (omega (arith, past, count)) spot;
           used_at = same_at e.used f.size (upos f s) (upos f s2) (sym (take_upos f s cs h st.holds.once)) st.counts.used_at;
+          next_is = omega (arith, st.counts.next_is, past, count, many);
+          used_is = st.counts.used_is ∙ sym (take_upos f s cs h st.holds.once);
+          few = taken_few f s cs h short st.counts.few;
         };
         holds = subst (λ k. HoldsRunning (slice_set e.running.items h (Some k)) (slice_set e.counts.items h n) (length e2.guesses.items) f s2) (sym st.counts.takes)
-            (holds_more e.running.items e.counts.items (length e.guesses.items) (length e2.guesses.items) h n f s cs st.holds had.new guesses (many ∙ sym count) few);
-        shown = refl;
-        silent = record { unarmed = st.silent.unarmed; unheard = st.silent.unheard; unrung = st.silent.unrung };
+            (holds_more e.running.items e.counts.items (length e.guesses.items) (length e2.guesses.items) h n f s cs st.holds new guesses (many ∙ sym count) few (omega (arith, count)));
+        kick = st.kick;
+        signals = record { is_armed = not_armed e v st u.1 ∙ sym (ap (λ (y : Bool). if y then Some (tpos f s2) else None) u.1); hears = st.signals.hears; rings = st.signals.rings; few = u.2; awake = tt };
         doing = refl;
       };
-      is = ap (λ k. act.Taken k cs) st.counts.takes ∙ (ap (act.Taken t) (sym is_chain) ∙ sym (ap (λ u. device_act_at u v op.Take (Load p) x) had.is ∙ ap (λ b. if b then act.Taken t (chain_of f (w ∷ ws ++ x ∷ [])) else act.Moved) end));
-      left = subst (λ u. 0 < device_left u (length e.pieces.items)) (sym is) (omega arith);
-      says = subst (λ u. DeviceSays packed_words (act.Taken e.taken cs) (device_begun u) DeviceOp.idle f s (device_after v op.Take (Load p) x).done) (sym is) (
+      is = ap (λ k. act.Taken k cs) st.counts.takes ∙ (ap (act.Taken t) (sym is_chain) ∙ sym (ap (λ d. device_act_at d v op.Take (Load p) x) had.is ∙ ap (λ b. if b then act.Taken t (chain_of f (w ∷ ws ++ x ∷ [])) else act.Moved) end));
+      left = subst (λ d. 0 < device_left d (length e.pieces.items)) (sym is) (omega arith);
+      says = subst (λ d. DeviceSays packed_words (act.Taken e.taken cs) (device_begun d) DeviceOp.idle f s (device_after v op.Take (Load p) x).done) (sym is) (
         h,
         refl,
         refl,
@@ -162,26 +193,49 @@ address_last e e2 v h x n cs l st is off spelled many guesses =
           fits = l.told.fits;
           limited = had.limited;
           room = l.told.room;
-          inside = had.new.inside;
-          apart = had.new.apart;
-          control = λ on. subst (λ k. Rattle.vd_ring.specs.Control.IsControlChain (packed_words.command f k) (packed_words.ack f k) l.told.chain) had.is_head (l.told.control on);
+          inside = new.inside;
+          apart = new.apart;
+          control = λ on. subst (λ k. Rattle.vd_ring.specs.Control.IsControlChain (packed_words.command f k) (packed_words.ack f k) l.told.chain) head (l.told.control on);
         },
       );
       rests = refl;
     }
 
-pub address_facts : (e : PackedDevice) (v : DeviceView) (h : ℕ) → e.doing ≡ step.Address h → DeviceStands e v → (h < length e.running.items) × (h < length e.counts.items) × (0 < length e.guesses.items)
-address_facts e v h is st =
-    let n : DeviceStepStands (step.Address h) e.pieces.items e.second e.at v.frame v.done v.doing = subst (λ t. DeviceStepStands t e.pieces.items e.second e.at v.frame v.done v.doing) is st.doing in
-    (omega (arith, n.new.inside, st.holds.places), omega (arith, n.new.inside, st.holds.as_many), st.holds.guessed)
+pub taken_goes : (e e' : PackedDevice) (v : DeviceView) (x : ℕ) → (l : Loaded e v x) → DeviceStands e v → e.doing ≡ step.Address → goes_on e.second ≡ false → HasTaken x (id_of e.second) e e' → Goes e e' v op.Take (Load (2 * e.at.place)) x (act.Taken e.taken e'.pieces.items)
+taken_goes e e' v x l st is off h = subst (λ (g : PackedDevice). Goes e g v op.Take (Load (2 * e.at.place)) x (act.Taken e.taken e'.pieces.items)) (sym h.kept)
+    (address_last e e' v (id_of e.second) x (length e.pieces.items + 1) e'.pieces.items l st is off refl h.pushed refl (omega (arith, h.guesses, st.holds.guessed)))
 
--- a chain that was taken will be counted in 32 bits
-pub taken_small : (e : PackedDevice) (v : DeviceView) (h x : ℕ) → DeviceStands e v → Loaded e v h x → e.taken < 4294967295
-taken_small e v h x st l = omega (arith, l.had.limited, st.counts.takes, least v.frame.ring)
+-- the last load may be taken in
+pub may_take : (e : PackedDevice) (v : DeviceView) (x : ℕ) → Loaded e v x → DeviceStands e v → goes_on e.second ≡ false → MayTake e (id_of e.second)
+may_take e v x l st off =
+    let inside : id_of e.second < v.frame.size = subst (λ k. k < v.frame.size) (told_head e v x l st off) l.told.is_new.inside in record {
+      running = omega (arith, inside, st.holds.places);
+      counts = omega (arith, inside, st.holds.as_many);
+      guesses = st.holds.guessed;
+      number = omega (arith, l.had.limited, st.counts.takes, limit_small v.frame);
+      position = omega (arith, st.counts.next_is, few_each (needs v.frame.features) (takes v.done) (λ k low. st.counts.few k), l.had.limited, limit_small v.frame);
+    }
+
+-- what it makes is a chain
+pub taken_chain : (e e' : PackedDevice) (v : DeviceView) (x : ℕ) → Loaded e v x → DeviceStands e v → goes_on e.second ≡ false → HasTaken x (id_of e.second) e e' → IsChain e'.pieces.items
+taken_chain e e' v x l st off h = subst IsChain (sym (h.pushed ∙ whole_chain e v x off st l)) l.told.fits.chain
+
+-- the end after an address was taken in
+pub loaded_goes : (e e' : PackedDevice) (v : DeviceView) (x : ℕ) (t : Told) → Loaded e v x → DeviceStands e v → e.doing ≡ step.Address
+    → (goes_on e.second ≡ true → (t ≡ told.Moved) × HasMore x e e') → (goes_on e.second ≡ false → (t ≡ told.Taken e.taken) × HasTaken x (id_of e.second) e e')
+    → Goes e e' v op.Take (Load (2 * e.at.place)) x (act_of t e'.pieces.items)
+loaded_goes e e' v x t l st is more whole = by_word (goes_on e.second) refl
   where
-    either : (b : Bool) → (if b then 4000000000 else 4294967295) ≤ 4294967295
-    either true = omega arith
-    either false = omega arith
+    by_word : (b : Bool) → goes_on e.second ≡ b → Goes e e' v op.Take (Load (2 * e.at.place)) x (act_of t e'.pieces.items)
+    by_word true eq = subst (λ u. Goes e e' v op.Take (Load (2 * e.at.place)) x (act_of u e'.pieces.items)) (sym (more eq).0) (more_goes e e' v x l st is eq (more eq).1)
+    by_word false eq = subst (λ u. Goes e e' v op.Take (Load (2 * e.at.place)) x (act_of u e'.pieces.items)) (sym (whole eq).0) (taken_goes e e' v x l st is eq (whole eq).1)
 
-    least : (n : ℕ) → (if nat_lt n 16 then 4000000000 else 4294967295) ≤ 4294967295
-    least n = either (nat_lt n 16)
+-- where it is taken it is a chain
+pub loaded_chain : (e e' : PackedDevice) (v : DeviceView) (x k : ℕ) (t : Told) → Loaded e v x → DeviceStands e v
+    → (goes_on e.second ≡ true → (t ≡ told.Moved) × HasMore x e e') → (goes_on e.second ≡ false → (t ≡ told.Taken e.taken) × HasTaken x (id_of e.second) e e')
+    → t ≡ told.Taken k → IsChain e'.pieces.items
+loaded_chain e e' v x k t l st more whole is = by_word (goes_on e.second) refl
+  where
+    by_word : (b : Bool) → goes_on e.second ≡ b → IsChain e'.pieces.items
+    by_word true eq = absurd (cc ((more eq).0, is))
+    by_word false eq = taken_chain e e' v x l st eq (whole eq).1

@@ -17,15 +17,16 @@ use Rattle.vd_packed_ring.specs.PackedPositions.{tpos}
 use Rattle.vd_packed_ring.specs.PackedDevice.{DeviceNextAt, DeviceNext, DeviceTells, DeviceTellsAt, BeginsChain, device_after, device_after_at, device_takes, device_act_at}
 use Rattle.vd_packed_ring.proofs.Areas.{second_low}
 use Rattle.vd_packed_ring.proofs.Spelled.{reading_is, whole_is, chain_is, cursor_is, length_direct, length_loaded}
-use Rattle.vd_layout.specs.Begun.{DeviceOp}
+use Rattle.vd_layout.specs.Begun.{DeviceOp, IsDeviceOp}
 use Rattle.vd_layout.specs.Device.{DeviceSays}
 use Rattle.vd_packed.specs.declared.device.PackedDevice.{PackedDevice}
 use Rattle.vd_packed.specs.declared.device.DeviceStep.TheVariants as step
 use Rattle.vd_packed.specs.DriverEnd.{packed_words}
 use Rattle.vd_packed.specs.DeviceEnd.{TakesOnce, HoldsRunning, IsCount, number_at, IsTaking, DeviceStands, DeviceStepStands, device_begun, device_left}
-use Rattle.vd_packed.specs.DeviceGiving.{Goes}
+use Rattle.vd_packed.specs.DeviceGiving.{Goes, at_step}
 use Rattle.vd_packed.specs.Places.{spot_below, second_at, same_at, forward_at}
 use Rattle.vd_packed.specs.Spots.{IsAt, forward}
+use Rattle.vd_packed.specs.Loaded.{HasMore}
 use Rattle.vd_packed.specs.Loads.{following_even, following_odd, ends_odd, ends_last, pieces_last}
 
 -- ---- where the chain isn't whole yet, the loads go on
@@ -38,10 +39,10 @@ acts_on v w p x ws more = ap (λ b. if b then act.Taken (length (takes v.done)) 
 
 -- ---- the load of a further second word
 
-pub second_goes : (e : PackedDevice) (v : DeviceView) (h x : ℕ) → e.doing ≡ step.Second h → DeviceStands e v → Goes e (record e { second = x; doing = step.Address h }) v op.Take (Load (2 * e.at.place + 1)) x act.Moved
-second_goes e v h x is st =
+pub second_goes : (e : PackedDevice) (v : DeviceView) (x : ℕ) → e.doing ≡ step.Second → DeviceStands e v → Goes e (record e { second = x; doing = step.Address }) v op.Take (Load (2 * e.at.place + 1)) x act.Moved
+second_goes e v x is st =
     let f : Frame = v.frame in let s : List DeviceDone = v.done in
-    let n : DeviceStepStands (step.Second h) e.pieces.items e.second e.at f s v.doing = subst (λ t. DeviceStepStands t e.pieces.items e.second e.at f s v.doing) is st.doing in
+    let n : DeviceStepStands step.Second e.pieces.items e.second e.at f s v.doing = subst (λ t. DeviceStepStands t e.pieces.items e.second e.at f s v.doing) is st.doing in
     let w : ℕ = n.word in let ws : List ℕ = n.words in let i : ℕ = length e.pieces.items in let q : ℕ = tpos f s in
     let p : ℕ = 2 * e.at.place + 1 in
     let split : w ∷ ws ≡ n.whole = n.parts ∙ append-nil n.whole in
@@ -50,23 +51,23 @@ second_goes e v h x is st =
     let here : p ≡ cursor f q (w ∷ ws) = place ∙ sym (cursor_is f q (w ∷ ws) st.made.built ∙ following_even f.size q (w ∷ ws) i even) in
     let more : is_whole f (w ∷ ws ++ x ∷ []) ≡ false = whole_is f (w ∷ ws ++ x ∷ []) st.made.built ∙ ends_odd (w ∷ ws) x i even in
     let is_after = ap (λ t. device_after_at t v op.Take (Load p) x) n.is ∙ loads_on v w p x ws more in
-    let e' : PackedDevice = record e { second = x; doing = step.Address h } in
+    let e' : PackedDevice = record e { second = x; doing = step.Address } in
+    let u = at_step e v step.Second is st in
     record {
+      of_it = subst (λ t. IsDeviceOp (device_begun t) op.Take) (sym is) refl;
       next = subst (λ t. DeviceNextAt t v op.Take (Load p)) (sym n.is) record { place = here; inside = inl (omega (arith, place, second_low f (q + i) st.made.lawful.least)) };
       stands = subst (λ t. DeviceStands e' t) (sym is_after) record {
         made = st.made;
         counts = st.counts;
         holds = st.holds;
-        shown = sym (ap Rattle.vd_packed.specs.DeviceEnd.is_loading is) ∙ st.shown;
-        silent = record { unarmed = st.silent.unarmed; unheard = st.silent.unheard; unrung = st.silent.unrung };
+        kick = st.kick;
+        signals = record { is_armed = st.signals.is_armed; hears = st.signals.hears; rings = st.signals.rings; few = u.2; awake = u.1 };
         doing = record {
           word = w;
           words = ws ++ x ∷ [];
           whole = n.whole;
           is = refl;
           parts = ap (λ (us : List ℕ). us ++ x ∷ []) split;
-          is_head = n.is_head;
-          new = n.new;
           limited = n.limited;
           spelled = n.spelled;
           even = n.even;
@@ -81,10 +82,10 @@ second_goes e v h x is st =
 
 -- ---- the load of an address
 
-pub address_next : (e : PackedDevice) (v : DeviceView) (h : ℕ) → e.doing ≡ step.Address h → DeviceStands e v → DeviceNext v op.Take (Load (2 * e.at.place)) × (e.at.place < e.size) × (e.size ≤ 32768)
-address_next e v h is st =
+pub address_next : (e : PackedDevice) (v : DeviceView) → e.doing ≡ step.Address → DeviceStands e v → DeviceNext v op.Take (Load (2 * e.at.place)) × (e.at.place < e.size) × (e.size ≤ 32768)
+address_next e v is st =
     let f : Frame = v.frame in let s : List DeviceDone = v.done in
-    let n : DeviceStepStands (step.Address h) e.pieces.items e.second e.at f s v.doing = subst (λ t. DeviceStepStands t e.pieces.items e.second e.at f s v.doing) is st.doing in
+    let n : DeviceStepStands step.Address e.pieces.items e.second e.at f s v.doing = subst (λ t. DeviceStepStands t e.pieces.items e.second e.at f s v.doing) is st.doing in
     let w : ℕ = n.word in let ws : List ℕ = n.words in let i : ℕ = length e.pieces.items in let q : ℕ = tpos f s in
     let place : 2 * e.at.place ≡ addr_word f.size (q + i) = ap (λ (k : ℕ). 2 * k) n.here.place in
     let here : 2 * e.at.place ≡ cursor f q (w ∷ ws) = place ∙ sym (cursor_is f q (w ∷ ws) st.made.built ∙ (ap (following f.size q) n.parts ∙ following_odd f.size q n.whole e.second i n.even)) in
@@ -92,71 +93,71 @@ address_next e v h is st =
     (subst (λ t. DeviceNextAt t v op.Take (Load (2 * e.at.place))) (sym n.is) record { place = here; inside = inl (omega (arith, below)) }, omega (arith, below, st.made.sized), omega (arith, st.made.sized, st.made.lawful.most))
 
 -- what the loads so far tell of the chain
-pub record Loaded (e : PackedDevice) (v : DeviceView) (h x : ℕ) : Type 0 where
-  pub had : IsTaking v.frame v.done e.pieces.items e.at h (e.second ∷ []) v.doing
+pub record Loaded (e : PackedDevice) (v : DeviceView) (x : ℕ) : Type 0 where
+  pub had : IsTaking v.frame v.done e.pieces.items e.at (e.second ∷ []) v.doing
   pub words : had.word ∷ had.words ++ x ∷ [] ≡ had.whole ++ e.second ∷ x ∷ []
   pub told : BeginsChain v.frame v.done (had.word ∷ had.words ++ x ∷ [])
 
-pub loaded_of : (e : PackedDevice) (v : DeviceView) (h x : ℕ) → e.doing ≡ step.Address h → DeviceStands e v → DeviceTells v op.Take (Load (2 * e.at.place)) x → Loaded e v h x
-loaded_of e v h x is st told =
-    let n : DeviceStepStands (step.Address h) e.pieces.items e.second e.at v.frame v.done v.doing = subst (λ t. DeviceStepStands t e.pieces.items e.second e.at v.frame v.done v.doing) is st.doing in
+pub loaded_of : (e : PackedDevice) (v : DeviceView) (x : ℕ) → e.doing ≡ step.Address → DeviceStands e v → DeviceTells v op.Take (Load (2 * e.at.place)) x → Loaded e v x
+loaded_of e v x is st told =
+    let n : DeviceStepStands step.Address e.pieces.items e.second e.at v.frame v.done v.doing = subst (λ t. DeviceStepStands t e.pieces.items e.second e.at v.frame v.done v.doing) is st.doing in
     record { had = n; words = ap (λ (us : List ℕ). us ++ x ∷ []) n.parts ∙ append_assoc n.whole (e.second ∷ []) (x ∷ []); told = subst (λ t. DeviceTellsAt t v op.Take (Load (2 * e.at.place)) x) n.is told.1 }
 
-pub is_ended : (e : PackedDevice) (v : DeviceView) (h x : ℕ) → DeviceStands e v → (l : Loaded e v h x) → is_whole v.frame (l.had.word ∷ l.had.words ++ x ∷ []) ≡ not (goes_on e.second)
-is_ended e v h x st l = whole_is v.frame (l.had.word ∷ l.had.words ++ x ∷ []) st.made.built ∙ (ap ends l.words ∙ ends_last l.had.whole e.second x (length e.pieces.items) l.had.even)
+pub is_ended : (e : PackedDevice) (v : DeviceView) (x : ℕ) → DeviceStands e v → (l : Loaded e v x) → is_whole v.frame (l.had.word ∷ l.had.words ++ x ∷ []) ≡ not (goes_on e.second)
+is_ended e v x st l = whole_is v.frame (l.had.word ∷ l.had.words ++ x ∷ []) st.made.built ∙ (ap ends l.words ∙ ends_last l.had.whole e.second x (length e.pieces.items) l.had.even)
 
-pub loaded_length : (e : PackedDevice) (v : DeviceView) (h x : ℕ) → (l : Loaded e v h x) → length (l.had.word ∷ l.had.words ++ x ∷ []) ≡ 2 * (length e.pieces.items + 1)
-loaded_length e v h x l = ap (λ (us : List ℕ). length us) l.words ∙ omega (arith, length-append l.had.whole (e.second ∷ x ∷ []), l.had.even)
+pub loaded_length : (e : PackedDevice) (v : DeviceView) (x : ℕ) → (l : Loaded e v x) → length (l.had.word ∷ l.had.words ++ x ∷ []) ≡ 2 * (length e.pieces.items + 1)
+loaded_length e v x l = ap (λ (us : List ℕ). length us) l.words ∙ omega (arith, length-append l.had.whole (e.second ∷ x ∷ []), l.had.even)
 
 pub two_each : (f : Frame) (q id : ℕ) (c : List Piece) → Rattle.vd_packed_ring.specs.PackedWords.IsBuilt f → length (reading f q id c) ≡ 2 * length c
 two_each f q id c b = ap (λ (ps : List Put). length ps) (reading_is f q id c b) ∙ (length_loaded f.size q (direct id c) ∙ ap (λ (k : ℕ). 2 * k) (length_direct id c))
 
-pub few_pieces : (e : PackedDevice) (v : DeviceView) (h x : ℕ) → DeviceStands e v → Loaded e v h x → length e.pieces.items < 16
-few_pieces e v h x st l = omega (arith, loaded_length e v h x l, at_most (is_whole v.frame (l.had.word ∷ l.had.words ++ x ∷ [])) refl, two_each v.frame (tpos v.frame v.done) (loaded_head (l.had.word ∷ l.had.words ++ x ∷ [])) l.told.chain st.made.built, l.told.fits.chain.1)
+pub few_pieces : (e : PackedDevice) (v : DeviceView) (x : ℕ) → DeviceStands e v → Loaded e v x → length e.pieces.items < 16
+few_pieces e v x st l = omega (arith, loaded_length e v x l, at_most (is_whole v.frame (l.had.word ∷ l.had.words ++ x ∷ [])) refl, two_each v.frame (tpos v.frame v.done) l.told.head l.told.chain st.made.built, l.told.fits.chain.1)
   where
-    at_most : (b : Bool) → is_whole v.frame (l.had.word ∷ l.had.words ++ x ∷ []) ≡ b → length (l.had.word ∷ l.had.words ++ x ∷ []) ≤ length (reading v.frame (tpos v.frame v.done) (loaded_head (l.had.word ∷ l.had.words ++ x ∷ [])) l.told.chain)
+    at_most : (b : Bool) → is_whole v.frame (l.had.word ∷ l.had.words ++ x ∷ []) ≡ b → length (l.had.word ∷ l.had.words ++ x ∷ []) ≤ length (reading v.frame (tpos v.frame v.done) l.told.head l.told.chain)
     at_most true eq = omega (arith, (l.told.complete eq).0)
     at_most false eq = omega (arith, l.told.left eq)
 
-pub spelled_more : (e : PackedDevice) (v : DeviceView) (h x : ℕ) → (l : Loaded e v h x) → pieces_in (l.had.word ∷ l.had.words ++ x ∷ []) ≡ e.pieces.items ++ piece_of x e.second ∷ []
-spelled_more e v h x l = ap pieces_in l.words ∙ (pieces_last l.had.whole e.second x (length e.pieces.items) l.had.even ∙ ap (λ (ps : List Piece). ps ++ piece_of x e.second ∷ []) l.had.spelled)
+pub spelled_more : (e : PackedDevice) (v : DeviceView) (x : ℕ) → (l : Loaded e v x) → pieces_in (l.had.word ∷ l.had.words ++ x ∷ []) ≡ e.pieces.items ++ piece_of x e.second ∷ []
+spelled_more e v x l = ap pieces_in l.words ∙ (pieces_last l.had.whole e.second x (length e.pieces.items) l.had.even ∙ ap (λ (ps : List Piece). ps ++ piece_of x e.second ∷ []) l.had.spelled)
 
 -- the spot after it
-pub spot_more : (e : PackedDevice) (v : DeviceView) (h x : ℕ) → DeviceStands e v → (l : Loaded e v h x) → IsAt (forward e.at 1 e.size) v.frame.size (tpos v.frame v.done + (length e.pieces.items + 1))
-spot_more e v h x st l =
+pub spot_more : (e : PackedDevice) (v : DeviceView) (x : ℕ) → DeviceStands e v → (l : Loaded e v x) → IsAt (forward e.at 1 e.size) v.frame.size (tpos v.frame v.done + (length e.pieces.items + 1))
+spot_more e v x st l =
     let f : Frame = v.frame in let q : ℕ = tpos f v.done + length e.pieces.items in
     same_at (forward e.at 1 e.size) f.size (q + 1) (tpos f v.done + (length e.pieces.items + 1)) (omega arith) (subst (λ (m : ℕ). IsAt (forward e.at 1 m) f.size (q + 1)) (sym st.made.sized) (forward_at e.at f.size q 1 (omega (arith, st.made.lawful.least)) (omega (arith, st.made.lawful.least)) l.had.here))
 
-pub address_more : (e e2 : PackedDevice) (v : DeviceView) (h x : ℕ) → Loaded e v h x → DeviceStands e v → e.doing ≡ step.Address h → goes_on e.second ≡ true → e2.pieces.items ≡ e.pieces.items ++ piece_of x e.second ∷ []
-    → Goes e (record e { pieces = e2.pieces; at = forward e.at 1 e.size; doing = step.Second h }) v op.Take (Load (2 * e.at.place)) x act.Moved
-address_more e e2 v h x l st is on pushed =
+address_more : (e e2 : PackedDevice) (v : DeviceView) (x : ℕ) → Loaded e v x → DeviceStands e v → e.doing ≡ step.Address → goes_on e.second ≡ true → e2.pieces.items ≡ e.pieces.items ++ piece_of x e.second ∷ []
+    → Goes e (record e { pieces = e2.pieces; at = forward e.at 1 e.size; doing = step.Second }) v op.Take (Load (2 * e.at.place)) x act.Moved
+address_more e e2 v x l st is on pushed =
     let f : Frame = v.frame in let n = l.had in let w : ℕ = n.word in let ws : List ℕ = n.words in
     let p : ℕ = 2 * e.at.place in
-    let more : is_whole f (w ∷ ws ++ x ∷ []) ≡ false = is_ended e v h x st l ∙ ap not on in
+    let more : is_whole f (w ∷ ws ++ x ∷ []) ≡ false = is_ended e v x st l ∙ ap not on in
     let is_after = ap (λ t. device_after_at t v op.Take (Load p) x) n.is ∙ loads_on v w p x ws more in
-    let e' : PackedDevice = record e { pieces = e2.pieces; at = forward e.at 1 e.size; doing = step.Second h } in
-    let few = few_pieces e v h x st l in
+    let e' : PackedDevice = record e { pieces = e2.pieces; at = forward e.at 1 e.size; doing = step.Second } in
+    let few = few_pieces e v x st l in
     let longer : length e2.pieces.items ≡ length e.pieces.items + 1 = ap (λ (ps : List Piece). length ps) pushed ∙ length_push e.pieces.items (piece_of x e.second) in
+    let u = at_step e v step.Address is st in
     record {
-      next = (address_next e v h is st).0;
+      of_it = subst (λ t. IsDeviceOp (device_begun t) op.Take) (sym is) refl;
+      next = (address_next e v is st).0;
       stands = subst (λ t. DeviceStands e' t) (sym is_after) record {
         made = st.made;
         counts = st.counts;
         holds = st.holds;
-        shown = sym (ap Rattle.vd_packed.specs.DeviceEnd.is_loading is) ∙ st.shown;
-        silent = record { unarmed = st.silent.unarmed; unheard = st.silent.unheard; unrung = st.silent.unrung };
+        kick = st.kick;
+        signals = record { is_armed = st.signals.is_armed; hears = st.signals.hears; rings = st.signals.rings; few = u.2; awake = u.1 };
         doing = record {
           word = w;
           words = ws ++ x ∷ [];
           whole = w ∷ ws ++ x ∷ [];
           is = refl;
           parts = sym (append-nil (w ∷ ws ++ x ∷ []));
-          is_head = n.is_head;
-          new = n.new;
           limited = n.limited;
-          spelled = spelled_more e v h x l ∙ sym pushed;
-          even = omega (arith, loaded_length e v h x l, longer);
-          here = same_at (forward e.at 1 e.size) f.size (tpos f v.done + (length e.pieces.items + 1)) (tpos f v.done + length e2.pieces.items) (omega (arith, longer)) (spot_more e v h x st l);
+          spelled = spelled_more e v x l ∙ sym pushed;
+          even = omega (arith, loaded_length e v x l, longer);
+          here = same_at (forward e.at 1 e.size) f.size (tpos f v.done + (length e.pieces.items + 1)) (tpos f v.done + length e2.pieces.items) (omega (arith, longer)) (spot_more e v x st l);
         };
       };
       is = sym (ap (λ t. device_act_at t v op.Take (Load p) x) n.is ∙ acts_on v w p x ws more);
@@ -165,8 +166,11 @@ address_more e e2 v h x l st is on pushed =
       rests = refl;
     }
 
+pub more_goes : (e e' : PackedDevice) (v : DeviceView) (x : ℕ) → Loaded e v x → DeviceStands e v → e.doing ≡ step.Address → goes_on e.second ≡ true → HasMore x e e' → Goes e e' v op.Take (Load (2 * e.at.place)) x act.Moved
+more_goes e e' v x l st is on h = subst (λ (g : PackedDevice). Goes e g v op.Take (Load (2 * e.at.place)) x act.Moved) (sym h.kept) (address_more e e' v x l st is on h.pushed)
+
 -- else the pieces are a chain that fits
-pub whole_chain : (e : PackedDevice) (v : DeviceView) (h x : ℕ) → goes_on e.second ≡ false → DeviceStands e v → (l : Loaded e v h x) → e.pieces.items ++ piece_of x e.second ∷ [] ≡ l.told.chain
-whole_chain e v h x off st l =
+pub whole_chain : (e : PackedDevice) (v : DeviceView) (x : ℕ) → goes_on e.second ≡ false → DeviceStands e v → (l : Loaded e v x) → e.pieces.items ++ piece_of x e.second ∷ [] ≡ l.told.chain
+whole_chain e v x off st l =
     let ws : List ℕ = l.had.word ∷ l.had.words ++ x ∷ [] in
-    sym (spelled_more e v h x l) ∙ (sym (chain_is v.frame ws st.made.built) ∙ (l.told.complete (is_ended e v h x st l ∙ ap not off)).1)
+    sym (spelled_more e v x l) ∙ (sym (chain_is v.frame ws st.made.built) ∙ (l.told.complete (is_ended e v x st l ∙ ap not off)).1)

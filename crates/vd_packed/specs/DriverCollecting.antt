@@ -1,5 +1,5 @@
 -- The step of a collect: it is next in a view that the end stands for, and the end stands for the view after it.
-use Rattle.std.proofs.Common.{◌≡◌, ℕ, ◌+◌, ◌*◌, ◌<◌, ◌≤◌, Bool, true, false, List, [], ◌∷◌, ◌++◌, length, if◌then◌else◌, slice_index, slice_index_or, refl, sym, ap, ◌∙◌, subst, arith}
+use Rattle.std.proofs.Common.{◌≡◌, ℕ, ◌+◌, ◌*◌, ◌<◌, ◌≤◌, Bool, true, false, List, [], ◌∷◌, ◌++◌, length, Some, None, if◌then◌else◌, slice_index, slice_index_or, refl, sym, ap, ◌∙◌, subst, arith}
 use Rattle.std.proofs.lemmas.List.{length_push, append-nil}
 use Rattle.vd_model.specs.Chains.{needs}
 use Rattle.vd_words.specs.declared.access.Access.TheVariants.{Load}
@@ -18,17 +18,18 @@ use Rattle.vd_ring.proofs.Counts.{occurs_from, Contains_from, occurs_without, wi
 use Rattle.vd_ring.proofs.HeldPlaces.{open_below, same_head, collect_places, head_inside}
 use Rattle.vd_ring.proofs.ListSteps.{batch_one, returns_next}
 use Rattle.vd_packed_ring.specs.PackedWords.{IsLawful, id_of, len_of, is_used}
-use Rattle.vd_packed_ring.specs.PackedPositions.{cpos, later}
+use Rattle.vd_packed_ring.specs.PackedPositions.{opos, cpos, later}
 use Rattle.vd_packed_ring.specs.PackedDriver.{NamesOpen, DriverNextAt, DriverNext, DriverTells, DriverTellsAt, driver_after, driver_after_at, driver_act_at, driver_collects, collect_act}
-use Rattle.vd_packed_ring.proofs.Positions.{cpos_collected}
+use Rattle.vd_packed_ring.proofs.Positions.{cpos_collected, driver_span}
 use Rattle.vd_packed_ring.proofs.Spelled.{lent_one}
 use Rattle.vd_layout.proofs.OnePair.{were_collected}
-use Rattle.vd_layout.specs.Begun.{DriverOp}
+use Rattle.vd_layout.specs.Begun.{DriverOp, IsDriverOp}
 use Rattle.vd_layout.specs.Driver.{DriverSays}
 use Rattle.vd_packed.specs.declared.driver.PackedDriver.{PackedDriver}
 use Rattle.vd_packed.specs.declared.driver.Slot.{Slot}
 use Rattle.vd_packed.specs.declared.driver.DriverStep.TheVariants as step
-use Rattle.vd_packed.specs.DriverEnd.{HoldsIds, DriverStands, DriverStepStands, driver_begun, driver_left}
+use Rattle.vd_packed.specs.Bounds.{limit_small, opos_few}
+use Rattle.vd_packed.specs.DriverEnd.{HoldsIds, DriverStands, DriverStepStands, DriverStepArmed, driver_owes, not_armed, driver_begun, driver_left}
 use Rattle.vd_packed.specs.DriverSteps.{Goes}
 use Rattle.vd_packed.specs.Places.{second_at, same_at, forward_at, shows_used_at}
 use Rattle.vd_packed.specs.Seconds.{shows_used}
@@ -36,10 +37,16 @@ use Rattle.vd_packed.specs.Spots.{forward}
 
 -- ---- the look
 
+look_off : (e : PackedDriver) (v : DriverView) → e.doing ≡ step.Look → DriverStands e v → e.armed ≡ false
+look_off e v is st = subst (λ t. DriverStepArmed t e.armed) is st.signals.awake
+
+look_few : (e : PackedDriver) (v : DriverView) → e.doing ≡ step.Look → DriverStands e v → e.bells + 0 ≤ e.offered
+look_few e v is st = subst (λ t. e.bells + driver_owes t ≤ e.offered) is st.signals.few
+
 pub look_next : (e : PackedDriver) (v : DriverView) → e.doing ≡ step.Look → DriverStands e v → (v.doing ≡ now.Idle) × DriverNext v op.Collect (Load (2 * e.used.place + 1))
 look_next e v is st =
     let n : DriverStepStands step.Look e.pieces.items e.at v.frame v.done v.doing = subst (λ t. DriverStepStands t e.pieces.items e.at v.frame v.done v.doing) is st.doing in
-    (n, subst (λ t. DriverNextAt t v op.Collect (Load (2 * e.used.place + 1))) (sym n) (st.silent.unarmed, second_at e.used v.frame.size (cpos v.frame v.done) st.counts.used_at))
+    (n, subst (λ t. DriverNextAt t v op.Collect (Load (2 * e.used.place + 1))) (sym n) (not_armed e v st (look_off e v is st), second_at e.used v.frame.size (cpos v.frame v.done) st.counts.used_at))
 
 -- where it shows none
 pub nothing_goes : (e : PackedDriver) (v : DriverView) (w : ℕ) → e.doing ≡ step.Look → DriverStands e v → shows_used e.used.wrap w ≡ false → Goes e (record e { doing = step.Idle }) v op.Collect (Load (2 * e.used.place + 1)) w act.Nothing
@@ -52,12 +59,14 @@ nothing_goes e v w is st off =
     let w' : DriverView = record v { seen = later v.seen (cpos f o); shown = false } in
     let is_after : driver_after v op.Collect (Load p) w ≡ w' = ap (λ t. driver_after_at t v op.Collect (Load p) w) n.0 ∙ ap (λ (b : Bool). if b then driver_collects v w else w') none in
     record {
+      of_it = subst (λ t. IsDriverOp (driver_begun t e.pieces.items) op.Collect) (sym is) refl;
       next = n.1;
       stands = subst (λ t. DriverStands e' t) (sym is_after) record {
         made = st.made;
         counts = st.counts;
         holds = st.holds;
-        silent = record { unarmed = st.silent.unarmed; unheard = st.silent.unheard; unrung = st.silent.unrung; unshown = refl };
+        kick = st.kick;
+        signals = record { is_armed = st.signals.is_armed; hears = st.signals.hears; rings = st.signals.rings; few = look_few e v is st; awake = tt };
         doing = n.0;
       };
       is = sym (ap (λ t. driver_act_at t v op.Collect (Load p) w) n.0 ∙ ap (λ (b : Bool). if b then collect_act v w else act.Nothing) none);
@@ -91,6 +100,12 @@ found e v id st n =
       room = omega (arith, h.held.sizes, sum_one (λ j. lent f (chain o j)) k (open_at o) here, lent_one f (chain o k) st.made.lawful, h.room, ap (λ (l : List ℕ). length l) h.queued);
       few = omega (arith, st.counts.left, sum_one (λ j. needs f.features (chain o j)) k (open_at o) here);
     }
+
+-- its position stays small
+pub used_small : (e : PackedDriver) (v : DriverView) (k : ℕ) → DriverStands e v → 1 ≤ occurs k (open_at v.done) → e.used_position + needs v.frame.features (chain v.done k) < 1000000000000
+used_small e v k st here =
+    let f : Frame = v.frame in let o : List DriverDone = v.done in
+    omega (arith, st.counts.used_is, sum_one (λ j. needs f.features (chain o j)) k (open_at o) here, driver_span f o st.holds.held.is_open, opos_few f o st.made.built st.holds.held, st.holds.held.limited, limit_small f)
 
 -- what the loaded word collects
 pub collects_one : (f : Frame) (o : List DriverDone) (id len k : ℕ) → Places f o → 1 ≤ occurs k (open_at o) → head f o k ≡ id → (f.features.in_order ≡ true → k ≡ length (collects o)) → collected f o id len ≡ entry k len ∷ []
@@ -129,22 +144,24 @@ look_names e v w is st on told =
 pub collect_goes : (e : PackedDriver) (v : DriverView) (w number count : ℕ) (e' : PackedDriver) → e.doing ≡ step.Look → DriverStands e v → shows_used e.used.wrap w ≡ true
     → (hit : Found e.free.items e.free.capacity e.slots.items e.space v.frame v.done (id_of w)) → number ≡ hit.number → count ≡ needs v.frame.features (chain v.done hit.number)
     → e'.free.items ≡ e.free.items ++ id_of w ∷ [] → e'.free.capacity ≡ e.free.capacity
-    → Goes e (record e { collected = e.collected + 1; used = forward e.used count e.size; space = e.space + count; free = e'.free; doing = step.Idle }) v op.Collect (Load (2 * e.used.place + 1)) w (act.Collected number (len_of w) (id_of w))
+    → Goes e (record e { collected = e.collected + 1; used = forward e.used count e.size; used_position = e.used_position + count; space = e.space + count; free = e'.free; doing = step.Idle }) v op.Collect (Load (2 * e.used.place + 1)) w (act.Collected number (len_of w) (id_of w))
 collect_goes e v w number count e' is st on hit same sized items capacity =
     let f : Frame = v.frame in let o : List DriverDone = v.done in let k : ℕ = hit.number in
     let p : ℕ = 2 * e.used.place + 1 in
     let n = look_next e v is st in
     let shows : is_used f.size (cpos f o) w ≡ true = sym (shows_used_at e.used f.size (cpos f o) w st.counts.used_at) ∙ on in
     let us : List Used = collected f o (id_of w) (len_of w) in
+    let off : e.armed ≡ false = look_off e v is st in
     let one : us ≡ entry k (len_of w) ∷ [] = collects_one f o (id_of w) (len_of w) k st.holds.held hit.is_open hit.is_head hit.in_order in
     let longer = length_push (collects o) (entry k (len_of w)) in
     let o2 : List DriverDone = Collect (entry k (len_of w) ∷ []) ∷ o in
     let past : cpos f o2 ≡ cpos f o + needs f.features (chain o k) = cpos_collected f o (entry k (len_of w)) in
-    let e2 : PackedDriver = record e { collected = e.collected + 1; used = forward e.used count e.size; space = e.space + count; free = e'.free; doing = step.Idle } in
+    let e2 : PackedDriver = record e { collected = e.collected + 1; used = forward e.used count e.size; used_position = e.used_position + count; space = e.space + count; free = e'.free; doing = step.Idle } in
     let w2 : DriverView = record v { done = o2; seen = later v.seen (cpos f o2); shown = false } in
     let is_after : driver_after v op.Collect (Load p) w ≡ w2 = ap (λ t. driver_after_at t v op.Collect (Load p) w) n.0 ∙ (ap (λ (b : Bool). if b then driver_collects v w else record v { seen = later v.seen (cpos f o); shown = false }) shows
     ∙ ap (λ (ys : List Used). record v { done = Collect ys ∷ o; seen = later v.seen (cpos f (Collect ys ∷ o)); shown = false }) one) in
     record {
+      of_it = subst (λ t. IsDriverOp (driver_begun t e.pieces.items) op.Collect) (sym is) refl;
       next = n.1;
       stands = subst (λ t. DriverStands e2 t) (sym is_after) record {
         made = st.made;
@@ -154,12 +171,15 @@ collect_goes e v w number count e' is st on hit same sized items capacity =
           next_at = st.counts.next_at;
           used_at = same_at (forward e.used count e.size) f.size (cpos f o + count) (cpos f o2) (omega (arith, past))
               (subst (λ (m : ℕ). Rattle.vd_packed.specs.Spots.IsAt (forward e.used count m) f.size (cpos f o + count)) (sym st.made.sized) (forward_at e.used f.size (cpos f o) count (omega (arith, st.made.lawful.least)) (omega (arith, hit.few)) st.counts.used_at));
+          next_is = st.counts.next_is;
+          used_is = omega (arith, st.counts.used_is, past, sized);
           left = omega (arith, st.counts.left, open_collected f o k (len_of w) hit.is_open);
         };
         holds = subst (λ q. HoldsIds q e'.free.capacity e.slots.items f o2) (sym items)
             (subst (λ j. HoldsIds (e.free.items ++ id_of w ∷ []) j e.slots.items f o2) (sym capacity)
             (holds_fewer e.free.items e.free.capacity e.slots.items f o k (id_of w) (len_of w) st.made.lawful st.holds hit.is_open hit.is_head));
-        silent = record { unarmed = st.silent.unarmed; unheard = st.silent.unheard; unrung = st.silent.unrung; unshown = refl };
+        kick = st.kick;
+        signals = record { is_armed = not_armed e v st off ∙ sym (ap (λ (y : Bool). if y then Some (cpos f o2) else None) off); hears = st.signals.hears; rings = st.signals.rings; few = look_few e v is st; awake = tt };
         doing = n.0;
       };
       is = ap (λ j. act.Collected j (len_of w) (id_of w)) same ∙ sym (ap (λ t. driver_act_at t v op.Collect (Load p) w) n.0 ∙ (ap (λ (b : Bool). if b then collect_act v w else act.Nothing) shows ∙ ap (λ (ys : List Used). act.Collected (last_used ys).number (last_used ys).len (id_of w)) one));

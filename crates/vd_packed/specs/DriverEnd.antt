@@ -1,8 +1,11 @@
 -- For which views the driver's end of a packed ring stands, and what it has begun.
-use Rattle.std.specs.Prelude.{◌≡◌, ℕ, zero, suc, ◌+◌, ◌-◌, ◌*◌, ◌/◌, ◌<◌, ◌≤◌, false, List, length, take, None, slice_index_or}
+use Rattle.std.specs.Prelude.{◌≡◌, ℕ, zero, suc, ◌+◌, ◌-◌, ◌*◌, ◌/◌, ◌<◌, ◌≤◌, Bool, true, false, if◌then◌else◌, List, length, take, Option, Some, None, slice_index_or}
+use Rattle.std.proofs.Common.{ap, ◌∙◌}
 use Rattle.vd_model.specs.declared.chain.Piece.{Piece}
 use Rattle.vd_model.specs.declared.features.Features.{Features}
 use Rattle.vd_model.specs.Chains.{needs}
+use Rattle.vd_words.specs.declared.access.Op.{Op}
+use Rattle.vd_words.specs.declared.access.Op.TheVariants as op
 use Rattle.vd_ring.specs.declared.frame.Frame.{Frame}
 use Rattle.vd_ring.specs.declared.frame.Put.{Put}
 use Rattle.vd_ring.specs.declared.driver.DriverDone.{DriverDone}
@@ -11,7 +14,7 @@ use Rattle.vd_ring.specs.declared.driver.DriverNow.TheVariants as now
 use Rattle.vd_ring.specs.declared.driver.DriverView.{DriverView}
 use Rattle.vd_ring.specs.History.{offers, collects, open_at, open_size, free, chain, head, occurs}
 use Rattle.vd_ring.specs.Places.{Places}
-use Rattle.vd_packed_ring.specs.PackedWords.{IsLawful, IsBuilt, command_word, ack_word}
+use Rattle.vd_packed_ring.specs.PackedWords.{IsLawful, IsBuilt, is_used, kick_at, command_word, ack_word}
 use Rattle.vd_packed_ring.specs.PackedPositions.{opos, cpos}
 use Rattle.vd_packed_ring.specs.PackedDriver.{CanOffer, plan, driver_side, driver_act}
 use Rattle.vd_layout.specs.Begun.{DriverOp}
@@ -35,12 +38,14 @@ pub record IsMadeFor (size : ℕ) (features : Features) (f : Frame) : Type 0 whe
   pub lawful : IsLawful f
   pub built : IsBuilt f
 
--- the counts, where the two positions stand, and how many places the open chains leave
-pub record DriverCounts (offered collected : ℕ) (next used : Spot) (space : ℕ) (f : Frame) (o : List DriverDone) : Type 0 where
+-- the counts, the two positions and where they stand, and how many places the open chains leave
+pub record DriverCounts (offered collected : ℕ) (next used : Spot) (next_position used_position space : ℕ) (f : Frame) (o : List DriverDone) : Type 0 where
   pub offers : offered ≡ length (offers o)
   pub collects : collected ≡ length (collects o)
   pub next_at : IsAt next f.size (opos f o)
   pub used_at : IsAt used f.size (cpos f o)
+  pub next_is : next_position ≡ opos f o
+  pub used_is : used_position ≡ cpos f o
   pub left : space + open_size f o ≡ f.size
 
 -- a slot keeps the open chain k
@@ -66,20 +71,70 @@ DriverStepStands step.Idle c spot f o d = d ≡ now.Idle
 DriverStepStands (step.Describe at) c spot f o d = CanOffer f o c × (at + 1 < 2 * length c) × IsAt spot f.size (opos f o + (at + 1) / 2) × (d ≡ offering at (take at (plan f o c)))
 DriverStepStands step.Publish c spot f o d = CanOffer f o c × IsAt spot f.size (opos f o + length c) × (d ≡ now.Offering (plan f o c))
 DriverStepStands step.Look c spot f o d = d ≡ now.Idle
+DriverStepStands (step.Check n) c spot f o d = (old : ℕ) × (d ≡ now.Checking old (opos f o)) × (old + n ≡ opos f o) × (0 < n) × (n ≤ f.size)
+DriverStepStands step.Ring c spot f o d = (old : ℕ) × (new : ℕ) × (d ≡ now.Ringing old new)
+DriverStepStands step.Arm c spot f o d = d ≡ now.Idle
+DriverStepStands step.LookAgain c spot f o d = d ≡ now.Arming
+DriverStepStands step.Hear c spot f o d = d ≡ now.Idle
+DriverStepStands step.WakeArming c spot f o d = (d ≡ now.Disarming op.Arm) × (f.features.event_idx ≡ false)
+DriverStepStands step.WakeHearing c spot f o d = (d ≡ now.Disarming op.Hear) × (f.features.event_idx ≡ false)
+DriverStepStands step.Disarm c spot f o d = d ≡ now.Idle
 
--- no event word is stored, no bell rung or heard, and each look that showed an entry collected it
-pub record IsSilent (v : DriverView) : Type 0 where
-  pub unarmed : v.armed ≡ None
-  pub unheard : v.heard ≡ 0
-  pub unrung : v.bells ≡ 0
-  pub unshown : v.shown ≡ false
+-- in which steps the end is armed
+abbrev pub DriverStepArmed : DriverStep → Bool → Type 0
+DriverStepArmed step.Idle armed = Unit {0}
+DriverStepArmed step.LookAgain armed = armed ≡ true
+DriverStepArmed step.Hear armed = armed ≡ true
+DriverStepArmed step.Disarm armed = armed ≡ true
+DriverStepArmed _ armed = armed ≡ false
+
+-- 1 where a bell may still be stored
+abbrev pub driver_owes : DriverStep → ℕ
+driver_owes (step.Check n) = 1
+driver_owes step.Ring = 1
+driver_owes _ = 0
+
+-- a step that ends with the disarming store, and its operation
+abbrev pub Wakes : DriverStep → Op → Type 0
+Wakes step.WakeArming o = o ≡ op.Arm
+Wakes step.WakeHearing o = o ≡ op.Hear
+Wakes step.Disarm o = o ≡ op.Disarm
+Wakes _ o = ⊥
+
+-- a step of a check, a bell, an arming, a hearing or a disarming
+abbrev pub IsSignal : DriverStep → Type 0
+IsSignal step.Idle = ⊥
+IsSignal (step.Describe at) = ⊥
+IsSignal step.Publish = ⊥
+IsSignal step.Look = ⊥
+IsSignal _ = Unit {0}
+
+-- where it is armed, what it heard, and how many bells it stored: no more than chains it offered
+pub record DriverSignals (armed : Bool) (heard bells offered : ℕ) (doing : DriverStep) (v : DriverView) : Type 0 where
+  pub is_armed : v.armed ≡ (if armed then Some (cpos v.frame v.done) else None)
+  pub hears : heard ≡ v.heard
+  pub rings : bells ≡ v.bells
+  pub few : bells + driver_owes doing ≤ offered
+  pub awake : DriverStepArmed doing armed
 
 pub record DriverStands (e : PackedDriver) (v : DriverView) : Type 0 where
   pub made : IsMadeFor e.size e.features v.frame
-  pub counts : DriverCounts e.offered e.collected e.next e.used e.space v.frame v.done
+  pub counts : DriverCounts e.offered e.collected e.next e.used e.next_position e.used_position e.space v.frame v.done
   pub holds : HoldsIds e.free.items e.free.capacity e.slots.items v.frame v.done
-  pub silent : IsSilent v
+  pub kick : e.kick ≡ kick_at v.frame
+  pub signals : DriverSignals e.armed e.heard e.bells e.offered e.doing v
   pub doing : DriverStepStands e.doing e.pieces.items e.at v.frame v.done v.doing
+
+-- an end that is not armed stands for views that are not
+pub not_armed : (e : PackedDriver) (v : DriverView) → DriverStands e v → e.armed ≡ false → v.armed ≡ None
+not_armed e v st off = st.signals.is_armed ∙ ap (λ (b : Bool). if b then Some (cpos v.frame v.done) else None) off
+
+pub is_armed : (e : PackedDriver) (v : DriverView) → DriverStands e v → e.armed ≡ true → v.armed ≡ Some (cpos v.frame v.done)
+is_armed e v st on = st.signals.is_armed ∙ ap (λ (b : Bool). if b then Some (cpos v.frame v.done) else None) on
+
+-- whether a loaded second word shows a further used descriptor
+abbrev pub driver_shows : DriverView → ℕ → Bool
+driver_shows v r = is_used v.frame.size (cpos v.frame v.done) r
 
 -- ---- the operation that is begun, and the accesses that it still takes at most
 
@@ -88,19 +143,37 @@ driver_begun step.Idle c = DriverOp.idle
 driver_begun (step.Describe at) c = DriverOp.offer c
 driver_begun step.Publish c = DriverOp.offer c
 driver_begun step.Look c = DriverOp.collect
+driver_begun (step.Check n) c = DriverOp.signal
+driver_begun step.Ring c = DriverOp.signal
+driver_begun step.Arm c = DriverOp.arm
+driver_begun step.LookAgain c = DriverOp.arm
+driver_begun step.Hear c = DriverOp.hear
+driver_begun step.WakeArming c = DriverOp.arm
+driver_begun step.WakeHearing c = DriverOp.hear
+driver_begun step.Disarm c = DriverOp.disarm
 
 abbrev pub driver_left : DriverStep → List Piece → ℕ
 driver_left step.Idle c = 0
-driver_left (step.Describe at) c = 2 * length c - at + 1
-driver_left step.Publish c = 1
+driver_left (step.Describe at) c = 2 * length c - at + 3
+driver_left step.Publish c = 3
 driver_left step.Look c = 1
+driver_left (step.Check n) c = 2
+driver_left step.Ring c = 1
+driver_left step.Arm c = 3
+driver_left step.LookAgain c = 2
+driver_left step.Hear c = 2
+driver_left step.WakeArming c = 1
+driver_left step.WakeHearing c = 1
+driver_left step.Disarm c = 1
 
 abbrev pub packed_driver : DriverModel PackedDriver
 packed_driver = record {
   side = driver_side;
   act = driver_act;
+  shows = driver_shows;
   stands = DriverStands;
   begun = λ e. driver_begun e.doing e.pieces.items;
+  armed = λ e. e.armed;
   left = λ e. driver_left e.doing e.pieces.items;
   size = λ e. e.size;
   features = λ e. e.features;

@@ -1,5 +1,5 @@
 -- The laws of the driver's end of a packed ring.
-use Rattle.std.proofs.Common.{◌≡◌, ℕ, ◌+◌, ◌-◌, ◌/◌, ◌%◌, ◌<◌, ◌≤◌, List, ◌∷◌, length, slice_set, refl, sym, subst, arith}
+use Rattle.std.proofs.Common.{◌≡◌, ℕ, ◌+◌, ◌-◌, ◌/◌, ◌%◌, ◌<◌, ◌≤◌, false, List, ◌∷◌, length, slice_set, refl, sym, subst, arith}
 use Rattle.std.specs.Prelude.{unwrap_or}
 use Rattle.vd_model.specs.declared.chain.Piece.{Piece}
 use Rattle.vd_words.specs.declared.access.Access.{Access}
@@ -14,7 +14,7 @@ use Rattle.vd_ring.specs.declared.driver.DriverView.{DriverView}
 use Rattle.vd_ring.specs.Control.{last_collected}
 use Rattle.vd_ring.specs.Places.{Places}
 use Rattle.vd_packed_ring.specs.PackedWords.{commands_from}
-use Rattle.vd_packed_ring.specs.PackedPositions.{opos}
+use Rattle.vd_packed_ring.specs.PackedPositions.{opos, cpos}
 use Rattle.vd_packed_ring.specs.PackedDriver.{CanOffer, DriverNextAt, driver_after_at}
 use Rattle.vd_packed_ring.proofs.ControlFacts.{driver_controls}
 use Rattle.vd_packed_ring.proofs.DriverViews.{driver_frame}
@@ -26,7 +26,8 @@ use Rattle.vd_packed.specs.declared.driver.PackedDriver.{PackedDriver}
 use Rattle.vd_packed.specs.declared.driver.DriverStep.{DriverStep}
 use Rattle.vd_packed.specs.declared.driver.DriverStep.TheVariants as step
 use Rattle.vd_packed.specs.declared.spot.Spot.{Spot}
-use Rattle.vd_packed.specs.DriverEnd.{DriverStands, DriverStepStands, driver_begun, driver_left, packed_driver, packed_words}
+use Rattle.vd_packed.specs.DriverEnd.{DriverStands, DriverStepStands, DriverStepArmed, driver_owes, driver_begun, driver_left, not_armed, is_armed, packed_driver, packed_words}
+use Rattle.vd_packed.specs.DriverAnswers.{stays_unarmed, driver_looks_laws}
 use Rattle.vd_packed.specs.Places.{same_at}
 
 pub room_from : (e : PackedDriver) (v : DriverView) (c : List Piece) → DriverStands e v → length c ≤ e.space → HasRoom v.frame v.done c
@@ -48,20 +49,44 @@ rests_at step.Idle c s f o d h e = h
 rests_at (step.Describe at) c s f o d h e = absurd (cc e)
 rests_at step.Publish c s f o d h e = absurd (cc e)
 rests_at step.Look c s f o d h e = absurd (cc e)
+rests_at (step.Check n) c s f o d h e = absurd (cc e)
+rests_at step.Ring c s f o d h e = absurd (cc e)
+rests_at step.Arm c s f o d h e = absurd (cc e)
+rests_at step.LookAgain c s f o d h e = absurd (cc e)
+rests_at step.Hear c s f o d h e = absurd (cc e)
+rests_at step.WakeArming c s f o d h e = absurd (cc e)
+rests_at step.WakeHearing c s f o d h e = absurd (cc e)
+rests_at step.Disarm c s f o d h e = absurd (cc e)
+
+-- an idle end owes no bell
+idle_few : (t : DriverStep) (c : List Piece) (m n : ℕ) → driver_begun t c ≡ DriverOp.idle → m + driver_owes t ≤ n → m + 0 ≤ n
+idle_few t c m n idle few = omega (arith, few)
 
 -- the end stands after the beginning of an offer that may be made
-pub begins_offer : (e e' : PackedDriver) (v : DriverView) (c : List Piece) → driver_begun e.doing e.pieces.items ≡ DriverOp.idle → DriverStands e v → MayOffer packed_words v c → e'.pieces.items ≡ c → DriverStands (record e { pieces = e'.pieces; at = e.next; doing = step.Describe 0 }) v
-begins_offer e e' v c idle st may same = record {
+pub begins_offer : (e e' : PackedDriver) (v : DriverView) (c : List Piece) → driver_begun e.doing e.pieces.items ≡ DriverOp.idle → e.armed ≡ false → DriverStands e v → MayOffer packed_words v c → e'.pieces.items ≡ c → DriverStands (record e { pieces = e'.pieces; at = e.next; doing = step.Describe 0 }) v
+begins_offer e e' v c idle off st may same = record {
   made = st.made;
   counts = st.counts;
   holds = st.holds;
-  silent = st.silent;
+  kick = st.kick;
+  signals = record { is_armed = st.signals.is_armed; hears = st.signals.hears; rings = st.signals.rings; few = idle_few e.doing e.pieces.items e.bells e.offered idle st.signals.few; awake = off };
   doing = subst (λ (ps : List Piece). DriverStepStands (step.Describe 0) ps e.next v.frame v.done v.doing) (sym same) (
     can_offer e v c st may,
     let some : 0 < length c = may.fits.chain.0 in omega arith,
     same_at e.next v.frame.size (opos v.frame v.done) (opos v.frame v.done + (0 + 1) / 2) (omega arith) st.counts.next_at,
     rests_at e.doing e.pieces.items e.at v.frame v.done v.doing st.doing idle,
   );
+}
+
+-- the end stands after the beginning of another operation
+pub begins : (e : PackedDriver) (v : DriverView) (t : DriverStep) → driver_begun e.doing e.pieces.items ≡ DriverOp.idle → DriverStands e v → (v.doing ≡ now.Idle → DriverStepStands t e.pieces.items e.at v.frame v.done v.doing) → DriverStepArmed t e.armed → driver_owes t ≡ 0 → DriverStands (record e { doing = t }) v
+begins e v t idle st doing armed none = record {
+  made = st.made;
+  counts = st.counts;
+  holds = st.holds;
+  kick = st.kick;
+  signals = record { is_armed = st.signals.is_armed; hears = st.signals.hears; rings = st.signals.rings; few = omega (arith, st.signals.few, none); awake = armed };
+  doing = doing (rests_at e.doing e.pieces.items e.at v.frame v.done v.doing st.doing idle);
 }
 
 -- ---- the laws
@@ -71,6 +96,14 @@ ends_at step.Idle c h = refl
 ends_at (step.Describe at) c h = absurd (omega arith)
 ends_at step.Publish c h = absurd (omega arith)
 ends_at step.Look c h = absurd (omega arith)
+ends_at (step.Check n) c h = absurd (omega arith)
+ends_at step.Ring c h = absurd (omega arith)
+ends_at step.Arm c h = absurd (omega arith)
+ends_at step.LookAgain c h = absurd (omega arith)
+ends_at step.Hear c h = absurd (omega arith)
+ends_at step.WakeArming c h = absurd (omega arith)
+ends_at step.WakeHearing c h = absurd (omega arith)
+ends_at step.Disarm c h = absurd (omega arith)
 
 -- ---- acts that neither offer nor collect leave what the end stands for
 
@@ -85,6 +118,14 @@ step_loaded step.Idle c s f o d l y h = h
 step_loaded (step.Describe at) c s f o d l y h = (can_loaded f o c l y h.0, h.1, h.2, h.3)
 step_loaded step.Publish c s f o d l y h = (can_loaded f o c l y h.0, h.1, h.2)
 step_loaded step.Look c s f o d l y h = h
+step_loaded (step.Check n) c s f o d l y h = h
+step_loaded step.Ring c s f o d l y h = h
+step_loaded step.Arm c s f o d l y h = h
+step_loaded step.LookAgain c s f o d l y h = h
+step_loaded step.Hear c s f o d l y h = h
+step_loaded step.WakeArming c s f o d l y h = h
+step_loaded step.WakeHearing c s f o d l y h = h
+step_loaded step.Disarm c s f o d l y h = h
 
 places_stored : (f : Frame) (o : List DriverDone) (h i y : ℕ) → Places f o → Places f (StoreCommand h i y ∷ o)
 places_stored f o h i y p = record { once = p.once; sizes = p.sizes; as_many = p.as_many; listed = p.listed; is_open = p.is_open; count = p.count; fits = p.fits; limited = p.limited }
@@ -97,22 +138,32 @@ step_stored step.Idle c s f o d i j y h = h
 step_stored (step.Describe at) c s f o d i j y h = (can_stored f o c i j y h.0, h.1, h.2, h.3)
 step_stored step.Publish c s f o d i j y h = (can_stored f o c i j y h.0, h.1, h.2)
 step_stored step.Look c s f o d i j y h = h
+step_stored (step.Check n) c s f o d i j y h = h
+step_stored step.Ring c s f o d i j y h = h
+step_stored step.Arm c s f o d i j y h = h
+step_stored step.LookAgain c s f o d i j y h = h
+step_stored step.Hear c s f o d i j y h = h
+step_stored step.WakeArming c s f o d i j y h = h
+step_stored step.WakeHearing c s f o d i j y h = h
+step_stored step.Disarm c s f o d i j y h = h
 
 after_ack : (e : PackedDriver) (v : DriverView) (l y : ℕ) → DriverStands e v → DriverStands e (record v { done = LoadAck l y ∷ v.done })
 after_ack e v l y st = record {
   made = st.made;
-  counts = record { offers = st.counts.offers; collects = st.counts.collects; next_at = st.counts.next_at; used_at = st.counts.used_at; left = st.counts.left };
+  counts = record { offers = st.counts.offers; collects = st.counts.collects; next_at = st.counts.next_at; used_at = st.counts.used_at; next_is = st.counts.next_is; used_is = st.counts.used_is; left = st.counts.left };
   holds = record { held = places_loaded v.frame v.done l y st.holds.held; queued = st.holds.queued; room = st.holds.room; as_many = st.holds.as_many; open_chains = st.holds.open_chains };
-  silent = record { unarmed = st.silent.unarmed; unheard = st.silent.unheard; unrung = st.silent.unrung; unshown = st.silent.unshown };
+  kick = st.kick;
+  signals = record { is_armed = st.signals.is_armed; hears = st.signals.hears; rings = st.signals.rings; few = st.signals.few; awake = st.signals.awake };
   doing = step_loaded e.doing e.pieces.items e.at v.frame v.done v.doing l y st.doing;
 }
 
 after_command : (e : PackedDriver) (v : DriverView) (h i y : ℕ) (us : List ℕ) → DriverStands e v → DriverStands e (record v { done = StoreCommand h i y ∷ v.done; stored = us })
 after_command e v h i y us st = record {
   made = st.made;
-  counts = record { offers = st.counts.offers; collects = st.counts.collects; next_at = st.counts.next_at; used_at = st.counts.used_at; left = st.counts.left };
+  counts = record { offers = st.counts.offers; collects = st.counts.collects; next_at = st.counts.next_at; used_at = st.counts.used_at; next_is = st.counts.next_is; used_is = st.counts.used_is; left = st.counts.left };
   holds = record { held = places_stored v.frame v.done h i y st.holds.held; queued = st.holds.queued; room = st.holds.room; as_many = st.holds.as_many; open_chains = st.holds.open_chains };
-  silent = record { unarmed = st.silent.unarmed; unheard = st.silent.unheard; unrung = st.silent.unrung; unshown = st.silent.unshown };
+  kick = st.kick;
+  signals = record { is_armed = st.signals.is_armed; hears = st.signals.hears; rings = st.signals.rings; few = st.signals.few; awake = st.signals.awake };
   doing = step_stored e.doing e.pieces.items e.at v.frame v.done v.doing h i y st.doing;
 }
 
@@ -127,7 +178,11 @@ driver_laws = record {
   at_rest = λ e v st idle. rests_at e.doing e.pieces.items e.at v.frame v.done v.doing st.doing idle;
   ends = λ e none. ends_at e.doing e.pieces.items none;
   control = λ e v a r st n. control_at v.doing e v a r st n;
+  armed = λ e v st on. (cpos v.frame v.done, is_armed e v st on);
+  unarmed = λ e v st off. not_armed e v st off;
   framed = λ v o a r. driver_frame v o a r;
+  stays_unarmed = λ v o a r other off. stays_unarmed v o a r other off;
+  looks = driver_looks_laws;
   places = λ e v st. st.holds.held;
   controls = driver_controls;
 }

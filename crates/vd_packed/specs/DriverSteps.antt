@@ -1,5 +1,5 @@
 -- The steps of an offer: each is next in a view that the end stands for, and the end stands for the view after it.
-use Rattle.std.proofs.Common.{◌≡◌, ◌≢◌, ℕ, zero, suc, ◌+◌, ◌-◌, ◌*◌, ◌/◌, ◌%◌, ◌<◌, ◌≤◌, ◌==◌, Bool, true, false, List, [], ◌∷◌, ◌++◌, length, take, drop, None, if◌then◌else◌, nat_lt, slice_index, slice_index_or, slice_set, refl, sym, ap, ◌∙◌, subst, arith, inl, inr}
+use Rattle.std.proofs.Common.{◌≡◌, ◌≢◌, ℕ, zero, suc, ◌+◌, ◌-◌, ◌*◌, ◌/◌, ◌%◌, ◌<◌, ◌≤◌, ◌==◌, Bool, true, false, List, [], ◌∷◌, ◌++◌, length, take, drop, Some, None, if◌then◌else◌, nat_lt, slice_index, slice_index_or, slice_set, refl, sym, ap, ◌∙◌, subst, arith, inl, inr}
 use Rattle.std.proofs.lemmas.Bool.{cases_eq, eq-eqb, ne_eqb, ltb-true, ltb-false}
 use Rattle.std.proofs.lemmas.List.{length-set, length_push, take_all, take_more, get_or-set_same, get_or-set_other, get_or-take}
 use Rattle.std.specs.Vec.{with_item}
@@ -31,13 +31,14 @@ use Rattle.vd_packed_ring.specs.PackedDriver.{CanOffer, Begins, DriverNextAt, Dr
 use Rattle.vd_packed_ring.proofs.Clear.{plan_is}
 use Rattle.vd_packed_ring.proofs.Positions.{driver_span, opos_offered, cpos_offered, free_some}
 use Rattle.vd_packed_ring.proofs.Spelled.{needs_pieces, lent_one, publishing_is, staged_is, staged_back}
-use Rattle.vd_layout.specs.Begun.{DriverOp}
-use Rattle.vd_layout.specs.Driver.{DriverSays, IsDriverStep}
+use Rattle.vd_layout.specs.Begun.{DriverOp, IsDriverOp}
+use Rattle.vd_layout.specs.Driver.{DriverSays, WasOffered, IsDriverStep}
 use Rattle.vd_packed.specs.declared.driver.PackedDriver.{PackedDriver}
 use Rattle.vd_packed.specs.declared.driver.Slot.{Slot}
 use Rattle.vd_packed.specs.declared.driver.DriverStep.TheVariants as step
 use Rattle.vd_packed.specs.declared.spot.Spot.{Spot}
-use Rattle.vd_packed.specs.DriverEnd.{HoldsIds, DriverStands, DriverStepStands, Keeps, offering, driver_begun, driver_left, packed_driver}
+use Rattle.vd_packed.specs.Bounds.{limit_small, opos_few}
+use Rattle.vd_packed.specs.DriverEnd.{HoldsIds, DriverStands, DriverStepStands, DriverStepArmed, driver_owes, not_armed, Keeps, offering, driver_begun, driver_left, packed_driver}
 use Rattle.vd_packed.specs.Offers.{plan_length, begins_at, apart_at, word_at}
 use Rattle.vd_packed.specs.Places.{spot_below, second_at, same_at, forward_at}
 use Rattle.vd_packed.specs.Seconds.{available_word, described_step, spot_after}
@@ -45,6 +46,7 @@ use Rattle.vd_packed.specs.Spots.{IsAt, forward}
 
 -- what one step of the end owes in a view
 pub record Goes (e e' : PackedDriver) (v : DriverView) (o : Op) (a : Access) (r : ℕ) (answer : DriverAct) : Type 0 where
+  pub of_it : IsDriverOp (driver_begun e.doing e.pieces.items) o
   pub next : DriverNext v o a
   pub stands : DriverStands e' (driver_after v o a r)
   pub is : answer ≡ driver_act v o a r
@@ -52,7 +54,7 @@ pub record Goes (e e' : PackedDriver) (v : DriverView) (o : Op) (a : Access) (r 
   pub says : DriverSays answer (driver_begun e.doing e.pieces.items) (driver_begun e'.doing e'.pieces.items) v.frame v.done (driver_after v o a r).done
 
 pub made : {P : Type 0} (port : PortModel P) (p q : P) (e e' : PackedDriver) (v : DriverView) (o : Op) (a : Access) (r : ℕ) (answer : DriverAct) → Goes e e' v o a r answer → port.moves p o a r q → IsDriverStep port packed_driver p q v e e' answer
-made port p q e e' v o a r answer go moved = record { op = o; access = a; got = r; was_next = go.next; moved = moved; now_stands = go.stands; is_answer = go.is; left = go.left; says = go.says }
+made port p q e e' v o a r answer go moved = record { op = o; access = a; got = r; of_it = go.of_it; was_next = go.next; moved = moved; now_stands = go.stands; is_answer = go.is; left = go.left; says = go.says }
 
 pub size_facts : (e : PackedDriver) (v : DriverView) → DriverStands e v → (0 < e.size) × (e.size ≤ 32768) × (e.size ≡ v.frame.size)
 size_facts e v st = (omega (arith, st.made.sized, st.made.lawful.least), omega (arith, st.made.sized, st.made.lawful.most), st.made.sized)
@@ -99,13 +101,21 @@ stands_on false j c spot f o ps can below many eq is here =
     let last : 2 * length c ≤ j + 2 = ltb-false (j + 2) (2 * length c) eq in
     (can, same_at spot f.size (opos f o + (j + 1 + 1) / 2) (opos f o + length c) (omega arith) here, ap now.Offering (is ∙ take_all (j + 1) (plan f o c) (omega arith)))
 
-shorter : (b : Bool) (j : ℕ) (c : List Piece) → nat_lt (j + 2) (2 * length c) ≡ b → j + 1 < 2 * length c → driver_left (if b then step.Describe (j + 1) else step.Publish) c < 2 * length c - j + 1
+shorter : (b : Bool) (j : ℕ) (c : List Piece) → nat_lt (j + 2) (2 * length c) ≡ b → j + 1 < 2 * length c → driver_left (if b then step.Describe (j + 1) else step.Publish) c < 2 * length c - j + 3
 shorter true j c eq below = omega (arith, ltb-true (j + 2) (2 * length c) eq)
 shorter false j c eq below = omega arith
 
 goes_on : (b : Bool) (j : ℕ) (c : List Piece) → driver_begun (if b then step.Describe (j + 1) else step.Publish) c ≡ DriverOp.offer c
 goes_on true j c = refl
 goes_on false j c = refl
+
+owes_none : (b : Bool) (j m n : ℕ) → m + 0 ≤ n → m + driver_owes (if b then step.Describe (j + 1) else step.Publish) ≤ n
+owes_none true j m n h = h
+owes_none false j m n h = h
+
+awake_on : (b : Bool) (j : ℕ) (armed : Bool) → armed ≡ false → DriverStepArmed (if b then step.Describe (j + 1) else step.Publish) armed
+awake_on true j armed h = h
+awake_on false j armed h = h
 
 pub describe_goes : (e : PackedDriver) (v : DriverView) (j r : ℕ) → e.doing ≡ step.Describe j → DriverStands e v
     → let s = slice_index_or (plan v.frame v.done e.pieces.items) j (put 0 0) in Goes e (record e { at = spot_after e.at j e.size; doing = described_step j (length e.pieces.items) }) v op.Offer (Store s.place s.word) r act.Moved
@@ -126,13 +136,17 @@ describe_goes e v j r is st =
     let e' : PackedDriver = record e { at = spot_after e.at j e.size; doing = described_step j (length c) } in
     let more : ps ++ s ∷ [] ≡ take (j + 1) pl = sym (take_more pl j (put 0 0) low) in
     let spot : IsAt (spot_after e.at j e.size) f.size (opos f o + (j + 1 + 1) / 2) = subst (λ (k : ℕ). IsAt (spot_after e.at j k) f.size (opos f o + (j + 1 + 1) / 2)) (sym st.made.sized) (spot_on e.at f.size (opos f o) j (omega (arith, l.least)) n.2) in
+    let off : e.armed ≡ false = subst (λ t. DriverStepArmed t e.armed) is st.signals.awake in
+    let few : e.bells + 0 ≤ e.offered = subst (λ t. e.bells + driver_owes t ≤ e.offered) is st.signals.few in
     record {
-      next = subst (λ t. DriverNextAt t v op.Offer (Store s.place s.word)) (sym n.3) (next_at v j ps s st.silent.unarmed none (begins_at f o c j can low));
+      of_it = subst (λ t. IsDriverOp (driver_begun t c) op.Offer) (sym is) refl;
+      next = subst (λ t. DriverNextAt t v op.Offer (Store s.place s.word)) (sym n.3) (next_at v j ps s (not_armed e v st off) none (begins_at f o c j can low));
       stands = subst (λ w. DriverStands e' w) (sym is_after) record {
         made = st.made;
         counts = st.counts;
         holds = st.holds;
-        silent = record { unarmed = st.silent.unarmed; unheard = st.silent.unheard; unrung = st.silent.unrung; unshown = st.silent.unshown };
+        kick = st.kick;
+        signals = record { is_armed = st.signals.is_armed; hears = st.signals.hears; rings = st.signals.rings; few = owes_none (nat_lt (j + 2) (2 * length c)) j e.bells e.offered few; awake = awake_on (nat_lt (j + 2) (2 * length c)) j e.armed off };
         doing = stands_on (nat_lt (j + 2) (2 * length c)) j c (spot_after e.at j e.size) f o (ps ++ s ∷ []) can below len refl more spot;
       };
       is = sym (ap (λ t. driver_act_at t v op.Offer (Store s.place s.word) r) n.3 ∙ act_at v j ps s.place s.word r ne);
@@ -218,23 +232,22 @@ publish_facts e v is st =
       omega (arith, n.0.room, needs_pieces f c st.made.built, driver_span f o st.holds.held.is_open, st.counts.left),
     )
 
+-- its position fits 64 bits
+pub position_small : (e : PackedDriver) (v : DriverView) → e.doing ≡ step.Publish → DriverStands e v → e.next_position + length e.pieces.items < 1000000000000
+position_small e v is st =
+    let n : DriverStepStands step.Publish e.pieces.items e.at v.frame v.done v.doing = subst (λ t. DriverStepStands t e.pieces.items e.at v.frame v.done v.doing) is st.doing in
+    omega (arith, n.0.limited, limit_small v.frame, st.counts.next_is, opos_few v.frame v.done st.made.built st.holds.held, n.0.fits.chain.1)
+
 -- the number of a chain that is offered now fits 32 bits
 pub offered_small : (e : PackedDriver) (v : DriverView) → e.doing ≡ step.Publish → DriverStands e v → e.offered < 4294967295
 offered_small e v is st =
     let n : DriverStepStands step.Publish e.pieces.items e.at v.frame v.done v.doing = subst (λ t. DriverStepStands t e.pieces.items e.at v.frame v.done v.doing) is st.doing in
-    omega (arith, n.0.limited, st.counts.offers, least v.frame.ring)
-  where
-    either : (b : Bool) → (if b then 4000000000 else 4294967295) ≤ 4294967295
-    either true = omega arith
-    either false = omega arith
-
-    least : (n : ℕ) → (if nat_lt n 16 then 4000000000 else 4294967295) ≤ 4294967295
-    least n = either (nat_lt n 16)
+    omega (arith, n.0.limited, st.counts.offers, limit_small v.frame)
 
 publish_at : (e : PackedDriver) (v : DriverView) (r p x : ℕ) (e' : PackedDriver) (s : Slot) → e.doing ≡ step.Publish → DriverStands e v
     → p ≡ second_word v.frame.size (opos v.frame v.done) → x ≡ (publishing v.frame.size (opos v.frame v.done) (direct (next_head v.frame v.done) e.pieces.items)).word
     → e'.free.items ≡ drop 1 e.free.items → e'.free.capacity ≡ e.free.capacity → s.number ≡ e.offered → s.count ≡ length e.pieces.items
-    → Goes e (record e { offered = e.offered + 1; next = e.at; space = e.space - length e.pieces.items; free = e'.free; slots = with_item e.slots (slice_index e.free.items 0) s; doing = step.Idle }) v op.Offer (Store p x) r (act.Offered e.offered)
+    → Goes e (record e { offered = e.offered + 1; next = e.at; next_position = e.next_position + length e.pieces.items; space = e.space - length e.pieces.items; free = e'.free; slots = with_item e.slots (slice_index e.free.items 0) s; doing = step.Check (length e.pieces.items) }) v op.Offer (Store p x) r (act.Offered e.offered)
 publish_at e v r p x e' s is st place word left capacity number count =
     let f : Frame = v.frame in let o : List DriverDone = v.done in let c : List Piece = e.pieces.items in
     let m : ℕ = length (offers o) in let id : ℕ = next_head f o in let q : ℕ = opos f o in
@@ -247,47 +260,54 @@ publish_at e v r p x e' s is st place word left capacity number count =
     let spelled : staged_chain f (words_of ps) x ≡ c = staged_is f (words_of ps) x b ∙ (ap (λ (us : List Put). staged_pieces (words_of us) x) (plan_is f o c b) ∙ (ap (λ (y : ℕ). staged_pieces (words_of (staged f.size q (direct id c))) y) word ∙ staged_back f.size q id c can.fits.chain.0 (omega (arith, low.1, low.2, small.1)) can.fits.chain.3)) in
     let whole : put p x ≡ last_put f o c = ap (λ (k : ℕ). put k x) place ∙ (ap (λ (k : ℕ). put (second_word f.size q) k) word ∙ sym (publishing_is f q id c b)) in
     let on : (p == second_word f.size q) ≡ true = eq-eqb p (second_word f.size q) place in
-    let e2 : PackedDriver = record e { offered = e.offered + 1; next = e.at; space = e.space - length c; free = e'.free; slots = with_item e.slots (slice_index e.free.items 0) s; doing = step.Idle } in
+    let e2 : PackedDriver = record e { offered = e.offered + 1; next = e.at; next_position = e.next_position + length c; space = e.space - length c; free = e'.free; slots = with_item e.slots (slice_index e.free.items 0) s; doing = step.Check (length c) } in
     let longer = length_push (offers o) c in
     let many = needs_pieces f c b in
-    let is_after : driver_after v op.Offer (Store p x) r ≡ record v { done = Offer c ∷ o; stored = slice_set v.stored p x; doing = now.Idle } =
+    let is_after : driver_after v op.Offer (Store p x) r ≡ record v { done = Offer c ∷ o; stored = slice_set v.stored p x; doing = now.Checking q (opos f (Offer c ∷ o)) } =
     ap (λ t. driver_after_at t v op.Offer (Store p x) r) n.2 ∙ (ap (λ (i : Bool). if i then driver_offers v ps p x else stores v p x (now.Offering (ps ++ put p x ∷ []))) on
-    ∙ ap (λ (cs : List Piece). record v { done = Offer cs ∷ o; stored = slice_set v.stored p x; doing = now.Idle }) spelled) in
+    ∙ ap (λ (cs : List Piece). record v { done = Offer cs ∷ o; stored = slice_set v.stored p x; doing = now.Checking q (opos f (Offer cs ∷ o)) }) spelled) in
     let held0 = holds_more e.free.items e.free.capacity e.slots.items f o c s st.holds l can (number ∙ st.counts.offers) (count ∙ sym many) in
     let held : HoldsIds e'.free.items e'.free.capacity (slice_set e.slots.items (slice_index e.free.items 0) s) f (Offer c ∷ o) =
     subst (λ u. HoldsIds u e'.free.capacity (slice_set e.slots.items (slice_index e.free.items 0) s) f (Offer c ∷ o)) (sym left)
     (subst (λ k. HoldsIds (drop 1 e.free.items) k (slice_set e.slots.items (slice_index e.free.items 0) s) f (Offer c ∷ o)) (sym capacity) held0) in
     let fits = publish_facts e v is st in
+    let off : e.armed ≡ false = subst (λ t. DriverStepArmed t e.armed) is st.signals.awake in
+    let few : e.bells + 0 ≤ e.offered = subst (λ t. e.bells + driver_owes t ≤ e.offered) is st.signals.few in
+    let past : q + length c ≡ opos f (Offer c ∷ o) = omega (arith, opos_offered f o c, many) in
     record {
+      of_it = subst (λ t. IsDriverOp (driver_begun t c) op.Offer) (sym is) refl;
       next = subst (λ t. DriverNextAt t v op.Offer (Store p x)) (sym n.2) (inr record { chain = c; can = can; whole = refl; last = whole });
       stands = subst (λ w. DriverStands e2 w) (sym is_after) record {
         made = st.made;
         counts = record {
           offers = omega (arith, st.counts.offers, longer);
           collects = st.counts.collects;
-          next_at = same_at e.at f.size (q + length c) (opos f (Offer c ∷ o)) (omega (arith, opos_offered f o c, many)) n.1;
+          next_at = same_at e.at f.size (q + length c) (opos f (Offer c ∷ o)) past n.1;
           used_at = same_at e.used f.size (cpos f o) (cpos f (Offer c ∷ o)) (sym (cpos_offered f o c st.holds.held)) st.counts.used_at;
+          next_is = omega (arith, st.counts.next_is, past);
+          used_is = st.counts.used_is ∙ sym (cpos_offered f o c st.holds.held);
           left = omega (arith, fits, st.counts.left, open_offered f o c st.holds.held held0.held, many);
         };
         holds = held;
-        silent = record { unarmed = st.silent.unarmed; unheard = st.silent.unheard; unrung = st.silent.unrung; unshown = st.silent.unshown };
-        doing = refl;
+        kick = st.kick;
+        signals = record { is_armed = not_armed e v st off ∙ sym (ap (λ (y : Bool). if y then Some (cpos f (Offer c ∷ o)) else None) off); hears = st.signals.hears; rings = st.signals.rings; few = omega (arith, few); awake = off };
+        doing = (q, refl, past, can.fits.chain.0, omega (arith, can.fits.size, many));
       };
       is = ap act.Offered st.counts.offers ∙ sym (ap (λ t. driver_act_at t v op.Offer (Store p x) r) n.2 ∙ ap (λ (i : Bool). if i then act.Offered m else act.Moved) on);
-      left = subst (λ t. 0 < driver_left t c) (sym is) (let z : 0 < 1 = omega arith in z);
-      says = subst (λ t. DriverSays (act.Offered e.offered) (driver_begun t c) DriverOp.idle f o (driver_after v op.Offer (Store p x) r).done) (sym is)
-          (c, refl, inl refl, st.counts.offers, ap (λ (w : DriverView). w.done) is_after);
+      left = subst (λ t. 2 < driver_left t c) (sym is) (let z : 2 < 3 = omega arith in z);
+      says = subst (λ t. DriverSays (act.Offered e.offered) (driver_begun t c) DriverOp.signal f o (driver_after v op.Offer (Store p x) r).done) (sym is)
+          (c, refl, inr refl, st.counts.offers, ap (λ (w : DriverView). w.done) is_after, record { fits = can.fits; room = omega (arith, can.room, driver_span f o st.holds.held.is_open); limited = can.limited });
     }
 
 -- the word as the end computes it
 pub publish_goes : (e : PackedDriver) (v : DriverView) (r x id : ℕ) (e' : PackedDriver) (s : Slot) → e.doing ≡ step.Publish → DriverStands e v
     → id ≡ slice_index e.free.items 0 → x ≡ available_word e.next.wrap id (slice_index_or e.pieces.items 0 blank) (if nat_lt (0 + 1) (length e.pieces.items) then 1 else 0)
     → e'.free.items ≡ drop 1 e.free.items → e'.free.capacity ≡ e.free.capacity → s.number ≡ e.offered → s.count ≡ length e.pieces.items
-    → Goes e (record e { offered = e.offered + 1; next = e.at; space = e.space - length e.pieces.items; free = e'.free; slots = with_item e.slots id s; doing = step.Idle }) v op.Offer (Store (2 * e.next.place + 1) x) r (act.Offered e.offered)
+    → Goes e (record e { offered = e.offered + 1; next = e.at; next_position = e.next_position + length e.pieces.items; space = e.space - length e.pieces.items; free = e'.free; slots = with_item e.slots id s; doing = step.Check (length e.pieces.items) }) v op.Offer (Store (2 * e.next.place + 1) x) r (act.Offered e.offered)
 publish_goes e v r x id e' s is st first_id word left capacity number count =
     let f : Frame = v.frame in let o : List DriverDone = v.done in let c : List Piece = e.pieces.items in let q : ℕ = opos f o in
     let fits = publish_facts e v is st in
     let is_id : id ≡ next_head f o = first_id ∙ ap first st.holds.queued in
     let value : x ≡ (publishing f.size q (direct (next_head f o) c)).word = word ∙ (word_at e.next f.size q id c 0 fits.2 st.counts.next_at ∙ ap (λ (i : ℕ). (publishing f.size q (direct i c)).word) is_id) in
-    subst (λ i. Goes e (record e { offered = e.offered + 1; next = e.at; space = e.space - length c; free = e'.free; slots = with_item e.slots i s; doing = step.Idle }) v op.Offer (Store (2 * e.next.place + 1) x) r (act.Offered e.offered)) (sym first_id)
+    subst (λ i. Goes e (record e { offered = e.offered + 1; next = e.at; next_position = e.next_position + length c; space = e.space - length c; free = e'.free; slots = with_item e.slots i s; doing = step.Check (length c) }) v op.Offer (Store (2 * e.next.place + 1) x) r (act.Offered e.offered)) (sym first_id)
     (publish_at e v r (2 * e.next.place + 1) x e' s is st (second_at e.next f.size q st.counts.next_at) value left capacity number count)

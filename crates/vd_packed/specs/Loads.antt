@@ -1,8 +1,8 @@
 -- Where the words of whole descriptors end, in the order of a take.
 use Rattle.std.proofs.Common.{◌≡◌, ℕ, zero, suc, ◌+◌, ◌*◌, false, not, List, [], ◌∷◌, ◌++◌, length, refl, ap, ◌∙◌, arith}
 use Rattle.vd_model.specs.declared.chain.Piece.{Piece}
-use Rattle.vd_packed_ring.specs.PackedWords.{addr_word, second_word, goes_on}
-use Rattle.vd_packed_ring.specs.PackedChains.{piece_of, pieces_in, ends, following}
+use Rattle.vd_packed_ring.specs.PackedWords.{addr_word, second_word, id_of, goes_on}
+use Rattle.vd_packed_ring.specs.PackedChains.{piece_of, pieces_in, ends, last_id, following}
 
 pub following_even : (n q : ℕ) (ws : List ℕ) (i : ℕ) → length ws ≡ 2 * i → following n q ws ≡ second_word n (q + i)
 following_even n q [] i e = ap (second_word n) (omega arith)
@@ -35,3 +35,10 @@ pieces_last [] w x i e = refl
 pieces_last (u ∷ []) w x i e = absurd (omega arith)
 pieces_last (u ∷ a ∷ ws) w x zero e = absurd (omega arith)
 pieces_last (u ∷ a ∷ ws) w x (suc i) e = ap (λ (ps : List Piece). piece_of a u ∷ ps) (pieces_last ws w x i (omega arith))
+
+pub id_last : (ws : List ℕ) (w x i : ℕ) → length ws ≡ 2 * i → last_id (ws ++ w ∷ x ∷ []) ≡ id_of w
+id_last [] w x i e = refl
+id_last (u ∷ []) w x i e = absurd (omega arith)
+id_last (u ∷ a ∷ []) w x i e = refl
+id_last (u ∷ a ∷ b ∷ ws) w x zero e = absurd (omega arith)
+id_last (u ∷ a ∷ b ∷ ws) w x (suc i) e = id_last (b ∷ ws) w x i (omega arith)

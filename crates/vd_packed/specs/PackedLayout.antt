@@ -1,5 +1,5 @@
 -- What the layout of a packed ring is, and its laws.
-use Rattle.std.proofs.Common.{◌≡◌, ℕ, ◌-◌, ◌/◌, ◌%◌, ◌≤◌, ◌==◌, ◌&&◌, nat_le, Bool, true, false, List, [], ◌∷◌, ◌++◌, length, take, refl, sym, ap, ◌∙◌, subst, arith}
+use Rattle.std.proofs.Common.{◌≡◌, ℕ, ◌-◌, ◌/◌, ◌%◌, ◌≤◌, ◌==◌, ◌&&◌, not, nat_le, Bool, true, false, List, [], ◌∷◌, ◌++◌, length, take, refl, sym, ap, ◌∙◌, subst, arith}
 use Rattle.std.specs.List.{sum_by}
 use Rattle.std.proofs.lemmas.Bool.{leb-true}
 use Rattle.std.proofs.lemmas.List.{length_push, get_or_push, take-append-le, take_all}
@@ -32,6 +32,7 @@ use Rattle.vd_packed_ring.proofs.DeviceViews.{device_inside}
 use Rattle.vd_packed_ring.proofs.DeviceAnswers.{has_last_used, looks_nothing}
 use Rattle.vd_packed_ring.proofs.DeviceBagSteps.{bags}
 use Rattle.vd_packed_ring.proofs.Opens.{opens}
+use Rattle.vd_packed_ring.proofs.Sleeping.{signals, driver_asleep, device_asleep, driver_hears, device_hears}
 use Rattle.vd_layout.specs.Layout.{LayoutModel, IsMadeWith, CanMake, IsFresh, IsLawfulLayout}
 use Rattle.vd_packed.specs.declared.driver.PackedDriver.{PackedDriver}
 use Rattle.vd_packed.specs.declared.driver.DriverStep.TheVariants as driver_step
@@ -81,7 +82,7 @@ made_for n f c g can with =
       sized = sym with.size;
       featured = sym with.features;
       lawful = record { packed = with.packed; least = omega (arith, with.size, size.0); most = omega (arith, with.size, size.1) };
-      built = record { direct = ap (λ (x : Features). x.indirect) with.features ∙ can.direct; flagged = ap (λ (x : Features). x.event_idx) with.features ∙ can.flagged };
+      built = record { direct = ap (λ (x : Features). x.indirect) with.features ∙ can.direct };
     }
 
 -- the areas of a frame, by what it was made with
@@ -131,7 +132,13 @@ packed_laws = record {
   places = λ ws v w r. r.places;
   lists = λ ws v w r. r.lists;
   rested = λ ws v w r. r.rested;
+  some_word = λ g l. omega arith;
   controls = controls_stand;
+  signals = λ ws v w r. signals ws v w r;
+  driver_asleep = λ ws v w op a r n is. driver_asleep ws v w op a r n is;
+  device_asleep = λ ws v w op a r n is. device_asleep ws v w op a r n is;
+  driver_hears = λ ws v w op a r n. driver_hears ws v w op a r n;
+  device_hears = λ ws v w op a r n. device_hears ws v w op a r n;
   driver_nothing = λ ws v w op a r n is. (driver_nothing ws v w op a r n).all is;
   device_nothing = λ ws v w op a r n is. (looks_nothing ws v w op a r n).all is;
   spells = λ ws v w op a k r n is. spells_last ws v op a k (driver_offered ws v w op a k r n is);
@@ -146,16 +153,16 @@ packed_laws = record {
 }
 
 -- both ends of a fresh ring
-pub fresh_ends : (n : ℕ) (f : Features) (c : Bool) (x : PackedDriver) (y : PackedDevice) → CanMake packed_layout n f → ((g : Frame) → IsMadeFor n f g → DriverStands x (fresh_driver g (width g))) → ((g : Frame) → IsMadeFor n f g → DeviceStands y (fresh_device g (width g)))
-    → (x.doing ≡ driver_step.Idle) × (x.size ≡ n) × (x.features ≡ f) → (y.doing ≡ device_step.Idle) × (y.size ≡ n) × (y.features ≡ f) × (y.taken ≡ 0) × (y.given ≡ 0) → IsFresh packed_driver packed_device packed_layout n f c x y
+pub fresh_ends : (n : ℕ) (f : Features) (c : Bool) (x : PackedDriver) (y : PackedDevice) → CanMake packed_layout n f → ((g : Frame) → IsMadeFor n f g → g.control ≡ c → DriverStands x (fresh_driver g (width g))) → ((g : Frame) → IsMadeFor n f g → g.control ≡ c → DeviceStands y (fresh_device g (width g)))
+    → (x.doing ≡ driver_step.Idle) × (x.size ≡ n) × (x.features ≡ f) × (x.armed ≡ false) → (y.doing ≡ device_step.Idle) × (y.size ≡ n) × (y.features ≡ f) × (y.taken ≡ 0) × (y.given ≡ 0) × (y.armed ≡ false) → IsFresh packed_driver packed_device packed_layout n f c x y
 fresh_ends n f c x y can drives serves idle still = record {
-  drives = λ g with. drives g (made_for n f c g can with);
-  serves = λ g with. serves g (made_for n f c g can with);
+  drives = λ g with. drives g (made_for n f c g can with) with.control;
+  serves = λ g with. serves g (made_for n f c g can with) with.control;
   driver_idle = ap (λ t. driver_begun t x.pieces.items) idle.0;
   device_idle = ap device_begun still.0;
   driver_sized = (idle.1, idle.2);
   device_sized = (still.1, still.2);
   awake = ap is_resting still.0;
-  unused = ap (λ t. is_idle t && ((y.taken == 0) && (y.given == 0))) still.0 ∙ (ap (λ k. (k == 0) && (y.given == 0)) still.3 ∙ ap (λ k. k == 0) still.4);
-  driver_unarmed = λ v st. st.silent.unarmed;
+  unused = ap (λ t. (is_idle t && ((y.taken == 0) && (y.given == 0))) && not y.armed) still.0 ∙ (ap (λ k. ((k == 0) && (y.given == 0)) && not y.armed) still.3 ∙ (ap (λ k. (k == 0) && not y.armed) still.4 ∙ ap (λ b. not b) still.5));
+  driver_unarmed = idle.3;
 }

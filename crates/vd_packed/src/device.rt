@@ -5,21 +5,35 @@ use vd_model::{Features, Piece};
 
 mod end;
 mod give;
+mod loaded;
 mod make;
+mod rest;
 mod running;
+mod signal;
+mod sleep;
 mod take;
 
-/// What the next step does. A take has its chain's head; a give has the chain's number and head, and the length.
+/// What the next step does. A give has the chain's number and head, and the length; `Check` the number of descriptors given last,
+/// which end at the used position.
 #[derive(Copy, Clone)]
 pub enum DeviceStep {
     Idle,
     /// Idle, since a rest.
     Resting,
     Look,
-    Address(u32),
-    Second(u32),
+    Address,
+    Second,
     Give(u32, u32, u32),
+    Check(u32),
+    Ring,
+    Arm,
+    LookAgain,
+    Hear,
+    WakeArming,
+    WakeHearing,
+    Disarm,
     Rest,
+    RestLook,
 }
 
 /// The device's end of a packed ring.
@@ -29,17 +43,38 @@ pub struct PackedDevice {
     pub(crate) features: Features,
     pub(crate) taken: u32,
     pub(crate) given: u32,
-    // where the next chain and the next used descriptor stand
+    // where the next chain and the next used descriptor stand, and their positions
     pub(crate) next: Spot,
     pub(crate) used: Spot,
+    pub(crate) next_position: u64,
+    pub(crate) used_position: u64,
     // the numbers of the running chains, and how many descriptors each has, by their ids
     pub(crate) running: Vec<Option<u32>>,
     pub(crate) counts: Vec<u32>,
     // at the low bits of a number, the id of the chain taken last with these bits: where to look first
     pub(crate) guesses: Vec<u32>,
+    // the place of the driver's bell; the own one is the next
+    pub(crate) kick: u32,
+    // whether it is armed, the bell heard last, and the number of bells stored
+    pub(crate) armed: bool,
+    pub(crate) heard: u64,
+    pub(crate) bells: u64,
     // what a take has loaded so far: whole descriptors, and the second word of the one at this spot
     pub(crate) pieces: ArrayVec<Piece, 16>,
     pub(crate) second: u64,
     pub(crate) at: Spot,
     pub(crate) doing: DeviceStep,
+}
+
+/// What a step did. The chain of a take is in the pieces that it has loaded.
+#[derive(Copy, Clone)]
+pub enum Told {
+    Moved,
+    Taken(u32),
+    Given(u32),
+    Nothing,
+    Armed,
+    Awake,
+    Asleep,
+    Rested,
 }

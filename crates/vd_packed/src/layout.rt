@@ -32,9 +32,8 @@ impl Layout for Packed {
         f: Features,
         control: bool,
     ) -> Result<(PackedDriver, PackedDevice), AllocError> {
-        let _ = control;
-        let driver = PackedDriver::make(alloc, size, f)?;
-        let device = PackedDevice::make(alloc, size, f)?;
+        let driver = PackedDriver::make(alloc, size, f, control)?;
+        let device = PackedDevice::make(alloc, size, f, control)?;
         Ok((driver, device))
     }
 
@@ -78,7 +77,7 @@ fn acks_area(size: u32, indirect: bool, control: bool) -> u32
 }
 
 /// How many words there are: behind the acks stand two bells.
-fn all_words(size: u32, indirect: bool, control: bool) -> u32
+pub(crate) fn all_words(size: u32, indirect: bool, control: bool) -> u32
     requires { size ≤ 32768 }
     ensures { result ≡ all_words size indirect control }
 {

@@ -3,6 +3,7 @@
 
 mod device;
 mod driver;
+mod event;
 mod layout;
 mod spot;
 mod words;

@@ -1,5 +1,5 @@
 -- The lists and positions of the two sides agree; what the two looks show; where each side stores.
-use Rattle.std.proofs.Common.{◌↔◌, ◌≡◌, ℕ, ◌+◌, ◌%◌, ◌<◌, ◌≤◌, Bool, true, false, List, [], ◌∷◌, ◌++◌, length, take, nat_lt, slice_index, slice_index_or, refl, sym, ap, ◌∙◌, subst, arith, inl, inr}
+use Rattle.std.proofs.Common.{◌↔◌, ◌≡◌, ℕ, ◌+◌, ◌*◌, ◌%◌, ◌<◌, ◌≤◌, Bool, true, false, List, [], ◌∷◌, ◌++◌, length, take, nat_lt, slice_index, slice_index_or, refl, sym, ap, ◌∙◌, subst, arith, inl, inr}
 use Rattle.std.proofs.lemmas.Bool.{cases_lt}
 use Rattle.std.proofs.lemmas.List.{length_push, get_or_push, get_or-take}
 use Rattle.vd_model.specs.Chains.{needs}
@@ -23,14 +23,15 @@ use Rattle.vd_ring.proofs.Counts.{one_small, occurs_from}
 use Rattle.vd_ring.proofs.HeldPlaces.{chain_fits}
 use Rattle.vd_ring.proofs.ListSteps.{given_below, given_within}
 use Rattle.vd_ring.proofs.DeviceLists.{running_below}
-use Rattle.vd_packed_ring.specs.PackedWords.{IsLawful, IsBuilt, second_word, is_used, put}
+use Rattle.vd_packed_ring.specs.PackedWords.{IsLawful, IsBuilt, kick_at, call_at, second_word, is_used, put}
+use Rattle.vd_packed_ring.specs.PackedSignals.{StoresBell}
 use Rattle.vd_packed_ring.specs.PackedPositions.{opos, cpos}
 use Rattle.vd_packed_ring.specs.PackedDriver.{Begins, Publishes, DriverNextAt, DriverNext}
 use Rattle.vd_packed_ring.specs.PackedDevice.{Returns, DeviceNextAt, DeviceNext}
 use Rattle.vd_packed_ring.specs.PackedDriverLaws.{StoresAhead}
 use Rattle.vd_packed_ring.specs.PackedLaws.{Counts, Agree, LooksShow, GivesBehind}
-use Rattle.vd_packed_ring.specs.PackedRing.{Ring}
-use Rattle.vd_packed_ring.proofs.Areas.{places_differ}
+use Rattle.vd_packed_ring.specs.PackedRing.{Ring, puts_of}
+use Rattle.vd_packed_ring.proofs.Areas.{areas, places_differ}
 use Rattle.vd_packed_ring.proofs.Plans.{IsStored}
 use Rattle.vd_packed_ring.proofs.Positions.{needs_some, order, taken_chain, device_span, gives_below}
 use Rattle.vd_packed_ring.proofs.Clear.{stored_all, room_pieces}
@@ -69,17 +70,16 @@ agree ws d e r =
 not_both : (b : Bool) → b ≡ false → b ≡ true → ⊥
 not_both b off on = let e : false ≡ true = sym off ∙ on in absurd cc
 
-driver_shows : (ws : List ℕ) (d : DriverView) (e : DeviceView) (now : DriverNow) → now ≡ driver.Idle → Ring ws (record d { doing = now }) e
+driver_shows : (ws : List ℕ) (d : DriverView) (e : DeviceView) → puts_of d.doing ≡ [] → Ring ws d e
     → (is_used d.frame.size (cpos d.frame d.done) (slice_index ws (second_word d.frame.size (cpos d.frame d.done))) ≡ true) ↔ (length (collects d.done) < length (gives e.done))
-driver_shows ws d e now idle r0 =
-    let r = subst (λ (x : DriverNow). Ring ws (record d { doing = x }) e) idle r0 in (
-      λ on. elim (cases_lt (length (collects d.done)) (length (gives e.done))) [ inl h ↦ h | inr h ↦ absurd (not_both _ (shows_none ws d e r h) on) ],
-      λ more. (found ws d e r more).shows,
-    )
+driver_shows ws d e clear r = (
+  λ on. elim (cases_lt (length (collects d.done)) (length (gives e.done))) [ inl h ↦ h | inr h ↦ absurd (not_both _ (shows_none ws d e clear r h) on) ],
+  λ more. (found ws d e clear r more).shows,
+)
 
 pub looks_show : (ws : List ℕ) (d : DriverView) (e : DeviceView) → Ring ws d e → LooksShow ws d e
 looks_show ws d e r = record {
-  driver = λ idle. driver_shows ws d e d.doing idle r;
+  driver = λ clear. driver_shows ws d e clear r;
   device = (
     λ on. elim (cases_lt (length (takes e.done)) (length (offers d.done))) [ inl h ↦ h | inr h ↦ absurd (not_both _ (none_shows ws d e r h).1 on) ],
     λ more. shows_next ws d e r more,
@@ -88,7 +88,7 @@ looks_show ws d e r = record {
 
 -- ---- where each side stores, from its own view
 
-stored_last : (f : Frame) (o : List DriverDone) (puts : List Put) (p x : ℕ) → IsLawful f → IsBuilt f → Begins f o (puts ++ put p x ∷ []) → StoresAhead f o p
+pub stored_last : (f : Frame) (o : List DriverDone) (puts : List Put) (p x : ℕ) → IsLawful f → IsBuilt f → Begins f o (puts ++ put p x ∷ []) → StoresAhead f o p
 stored_last f o puts p x l b n =
     let all : List Put = puts ++ put p x ∷ [] in
     let at : (slice_index_or all (length puts) (put 0 0)).place ≡ p = ap (λ (s : Put). s.place) (get_or_push puts (put p x) (put 0 0) (length puts) refl) in
@@ -100,7 +100,7 @@ stored_last f o puts p x l b n =
       most = omega (arith, w.most, room_pieces f o n.chain b n.can);
     }
 
-last_ahead : (f : Frame) (o : List DriverDone) (puts : List Put) (p x : ℕ) → IsBuilt f → Publishes f o puts p x → StoresAhead f o p
+pub last_ahead : (f : Frame) (o : List DriverDone) (puts : List Put) (p x : ℕ) → IsBuilt f → Publishes f o puts p x → StoresAhead f o p
 last_ahead f o puts p x b n = record {
   position = opos f o;
   place = inr (ap (λ (s : Put). s.place) n.last);
@@ -108,29 +108,31 @@ last_ahead f o puts p x b n = record {
   most = omega (arith, room_pieces f o n.chain b n.can, n.can.fits.chain.0);
 }
 
-ahead_at : (d : DriverView) (now : DriverNow) (p x : ℕ) → IsLawful d.frame → IsBuilt d.frame → DriverNextAt now (record d { doing = now }) op.Offer (Store p x) → StoresAhead d.frame d.done p
-ahead_at d driver.Idle p x l b h = stored_last d.frame d.done [] p x l b h.1
-ahead_at d (driver.Offering puts) p x l b (inl h) = stored_last d.frame d.done puts p x l b h
-ahead_at d (driver.Offering puts) p x l b (inr h) = last_ahead d.frame d.done puts p x b h
-ahead_at d _ p x l b h = absurd h
+ahead_at : (d : DriverView) (now : DriverNow) (p x : ℕ) → IsLawful d.frame → IsBuilt d.frame → DriverNextAt now (record d { doing = now }) op.Offer (Store p x) → p < 2 * d.frame.size → StoresAhead d.frame d.done p
+ahead_at d driver.Idle p x l b h low = stored_last d.frame d.done [] p x l b h.1
+ahead_at d (driver.Offering puts) p x l b (inl h) low = stored_last d.frame d.done puts p x l b h
+ahead_at d (driver.Offering puts) p x l b (inr h) low = last_ahead d.frame d.done puts p x b h
+ahead_at d (driver.Ringing old new) p x l b h low = let n : StoresBell (kick_at d.frame) d.bells p x = h in absurd (omega (arith, n.place, areas d.frame))
+ahead_at d _ p x l b h low = absurd h
 
--- the driver stores at positions from its own on, below that of what it collected and the size
-pub stores_ahead : (d : DriverView) (p x : ℕ) → IsLawful d.frame → IsBuilt d.frame → DriverNext d op.Offer (Store p x) → StoresAhead d.frame d.done p
-stores_ahead d p x l b h = ahead_at d d.doing p x l b h
+-- the driver stores descriptors at positions from its own on, below that of what it collected and the size
+pub stores_ahead : (d : DriverView) (p x : ℕ) → IsLawful d.frame → IsBuilt d.frame → DriverNext d op.Offer (Store p x) → p < 2 * d.frame.size → StoresAhead d.frame d.done p
+stores_ahead d p x l b h low = ahead_at d d.doing p x l b h low
 
-behind_at : (e : DeviceView) (now : DeviceNow) (p x : ℕ) → Counts e.frame e.done → DeviceNextAt now (record e { doing = now }) op.Give (Store p x) → GivesBehind e.frame e.done p
-behind_at e device.Idle p x c h =
+behind_at : (e : DeviceView) (now : DeviceNow) (p x : ℕ) → Counts e.frame e.done → DeviceNextAt now (record e { doing = now }) op.Give (Store p x) → p < 2 * e.frame.size → GivesBehind e.frame e.done p
+behind_at e device.Idle p x c h low =
     let n : Returns e.frame e.done p x = h.1 in record {
       place = n.place;
       below = gives_below e.frame e.done n.number (device_span e.frame e.done c.once) (occurs_from n.number (running e.done) n.runs) (c.some n.number n.runs);
     }
-behind_at e (device.Taking []) p x c h = absurd h
-behind_at e (device.Taking (w ∷ ws)) p x c h = absurd h
-behind_at e _ p x c h = absurd h
+behind_at e (device.Taking []) p x c h low = absurd h
+behind_at e (device.Taking (w ∷ ws)) p x c h low = absurd h
+behind_at e (device.Ringing old new) p x c h low = let n : StoresBell (call_at e.frame) e.bells p x = h in absurd (omega (arith, n.place, areas e.frame))
+behind_at e _ p x c h low = absurd h
 
--- the device gives at its own position, which is below that of what it took
-pub gives_behind : (e : DeviceView) (p x : ℕ) → Counts e.frame e.done → DeviceNext e op.Give (Store p x) → GivesBehind e.frame e.done p
-gives_behind e p x c h = behind_at e e.doing p x c h
+-- the device stores descriptors at its own position, which is below that of what it took
+pub gives_behind : (e : DeviceView) (p x : ℕ) → Counts e.frame e.done → DeviceNext e op.Give (Store p x) → p < 2 * e.frame.size → GivesBehind e.frame e.done p
+gives_behind e p x c h low = behind_at e e.doing p x c h low
 
 -- of the positions that the driver stores, none is past a position from what it collected on with the same place
 pub greatest : (n low u p : ℕ) → 0 < n → low ≤ u → p < low + n → p % n ≡ u % n → p ≤ u

@@ -1,5 +1,4 @@
 -- The chain that a device takes next, and the words of it that are loaded.
-use Rattle.vd_ring.specs.Control.{IsControlChain}
 use Rattle.std.proofs.Common.{◌≡◌, ℕ, ◌+◌, ◌*◌, ◌<◌, ◌≤◌, true, false, List, [], ◌∷◌, length, take, slice_index, slice_index_or, sym, ap, ◌∙◌, subst, arith, inl, inr}
 use Rattle.std.specs.List.{All, sum_by}
 use Rattle.std.proofs.lemmas.Bool.{cases_lt}
@@ -17,15 +16,15 @@ use Rattle.vd_ring.specs.History.{offers, takes, running, head, chain}
 use Rattle.vd_ring.proofs.Counts.{occurs_from}
 use Rattle.vd_ring.proofs.HeldPlaces.{chain_fits, head_inside, same_head}
 use Rattle.vd_ring.proofs.DeviceLists.{next_taken_open, running_below, running_open, running_head, room_left}
-use Rattle.vd_packed_ring.specs.PackedWords.{IsBuilt, second_word, words_of, id_of, is_available, Stand, ack_word, command_word}
-use Rattle.vd_packed_ring.specs.PackedChains.{Descriptor, blank, avail_word, direct, loaded, reading, ends, pieces_in, loaded_head, is_whole, chain_of}
+use Rattle.vd_packed_ring.specs.PackedWords.{IsBuilt, second_word, words_of, is_available, Stand}
+use Rattle.vd_packed_ring.specs.PackedChains.{Descriptor, blank, avail_word, direct, loaded, reading, ends, pieces_in, last_id, loaded_head, is_whole, chain_of}
 use Rattle.vd_packed_ring.specs.PackedPositions.{start, opos, tpos, second_at}
 use Rattle.vd_packed_ring.specs.PackedDevice.{BeginsChain}
 use Rattle.vd_packed_ring.specs.PackedRing.{puts_of, Ring}
-use Rattle.vd_packed_ring.proofs.WordFacts.{avail_shows, avail_id, zero_unavailable}
+use Rattle.vd_packed_ring.proofs.WordFacts.{avail_shows, zero_unavailable}
 use Rattle.vd_packed_ring.proofs.WordFacts.{Fits as FitsWord}
 use Rattle.vd_packed_ring.proofs.Rows.{row_ahead}
-use Rattle.vd_packed_ring.proofs.Spelled.{needs_pieces, reading_is, whole_is, chain_is, length_direct, direct_fits, length_loaded, not_whole, whole, loaded_back, loaded_stand}
+use Rattle.vd_packed_ring.proofs.Spelled.{needs_pieces, reading_is, whole_is, chain_is, head_is, last_back, length_direct, direct_fits, length_loaded, not_whole, whole, loaded_back, loaded_stand}
 use Rattle.vd_packed_ring.proofs.Positions.{order, tpos_is, takes_below}
 use Rattle.vd_packed_ring.proofs.Clear.{doing_ahead}
 use Rattle.vd_packed_ring.proofs.Spelling.{words_stand}
@@ -80,62 +79,59 @@ none_shows ws d e r none =
 
 -- ---- words loaded so far
 
--- the first of them has the chain's id
-pub first_word : (n q id : ℕ) (c : List Piece) (ws : List ℕ) → id < 65536 → All IsPiece c → 0 < length c → 1 ≤ length ws → ws ≡ words_of (take (length ws) (loaded n q (direct id c))) → (loaded_head ws ≡ id) × (is_available n q (slice_index ws 0) ≡ true)
+-- the first of them shows as available
+pub first_word : (n q id : ℕ) (c : List Piece) (ws : List ℕ) → id < 65536 → All IsPiece c → 0 < length c → 1 ≤ length ws → ws ≡ words_of (take (length ws) (loaded n q (direct id c))) → is_available n q (slice_index ws 0) ≡ true
 first_word n q id [] ws low ok h some is = absurd (omega arith)
 first_word n q id (x ∷ c) [] low ok h some is = absurd (omega arith)
 first_word n q id (x ∷ c) (w ∷ ws) low ok h some is =
     let d : Descriptor = slice_index_or (direct id (x ∷ c)) 0 blank in
     let fits : FitsWord d = direct_fits id (x ∷ c) low ok 0 blank (omega arith) in
     let word : w ≡ avail_word n q d = ap (λ (l : List ℕ). slice_index l 0) is in
-    (ap id_of word ∙ avail_id n q d fits, ap (is_available n q) word ∙ avail_shows n q d fits)
+    ap (is_available n q) word ∙ avail_shows n q d fits
 
 pub whole_less : (f : Frame) (q id : ℕ) (c : List Piece) (ws : List ℕ) → IsBuilt f → id < 65536 → All IsPiece c → ws ≡ words_of (take (length ws) (loaded f.size q (direct id c))) → length ws < 2 * length c → is_whole f ws ≡ false
 whole_less f q id c ws b low ok is less = whole_is f ws b ∙ (ap ends is ∙ not_whole f.size q id c (length ws) low ok less)
 
 pub whole_all : (f : Frame) (q id : ℕ) (c : List Piece) (ws : List ℕ) → IsBuilt f → id < 65536 → All IsPiece c → 0 < length c → ws ≡ words_of (take (length ws) (loaded f.size q (direct id c))) → length (loaded f.size q (direct id c)) ≤ length ws
-    → (is_whole f ws ≡ true) × (chain_of f ws ≡ c)
+    → (is_whole f ws ≡ true) × (chain_of f ws ≡ c) × (loaded_head f ws ≡ id)
 whole_all f q id c ws b low ok some is all =
     let l : List Put = loaded f.size q (direct id c) in
     let e : ws ≡ words_of l = is ∙ ap words_of (take_all (length ws) l all) in
-    (whole_is f ws b ∙ (ap ends e ∙ whole f.size q id c low ok some), chain_is f ws b ∙ (ap pieces_in e ∙ loaded_back f.size q id c low ok))
+    (whole_is f ws b ∙ (ap ends e ∙ whole f.size q id c low ok some), chain_is f ws b ∙ (ap pieces_in e ∙ loaded_back f.size q id c low ok), head_is f ws b ∙ (ap last_id e ∙ last_back f.size q id c low ok some))
 
 pub begins : (us : List ℕ) (d : DriverView) (e : DeviceView) (ws : List ℕ) → Ring us d e → length (takes e.done) < length (offers d.done) → 1 ≤ length ws → ws ≡ words_of (take (length ws) (next_words d.frame d.done e.done)) → length ws ≤ length (next_words d.frame d.done e.done)
-    → BeginsChain d.frame e.done ws × (loaded_head ws ≡ head d.frame d.done (length (takes e.done)))
+    → BeginsChain d.frame e.done ws
 begins us d e ws r more some is most =
     let f : Frame = d.frame in let o : List DriverDone = d.done in let s : List DeviceDone = e.done in
     let k : ℕ = length (takes s) in let c : List Piece = chain o k in let h : ℕ = head f o k in let q : ℕ = tpos f s in
     let a = ahead us d e r more in
     let ok : All IsPiece c = a.fits.chain.3 in
     let full : 0 < length c = a.fits.chain.0 in
-    let is_head : loaded_head ws ≡ h = (first_word f.size q h c ws a.small ok full some is).0 in
     let is_open = next_taken_open f o s r.places r.lists more in
     let read : reading f q h c ≡ next_words f o s = reading_is f q h c r.built in
-    let read2 : reading f q (loaded_head ws) c ≡ next_words f o s = ap (λ (i : ℕ). reading f q i c) is_head ∙ read in
-    let count : length (reading f q (loaded_head ws) c) ≡ length (next_words f o s) = ap (λ (l : List Put). length l) read2 in
-    let ord = order f o s r.places r.lists in (
-      record {
-        head = record {
-          inside = subst (λ (i : ℕ). i < f.size) (sym is_head) a.inside;
-          apart = λ j runs e2.
-              let occ = occurs_from j (running s) runs in
-              let hd = running_head f o s j r.places r.lists occ in
-              let same : j ≡ k = same_head f o j k r.places (running_open f o s j r.places r.lists occ) is_open (sym hd.0 ∙ (e2 ∙ is_head)) in
-              omega (arith, (running_below f o s j r.lists occ).0);
-        };
-        chain = c;
-        fits = a.fits;
-        control = λ on. subst (λ (i : ℕ). IsControlChain (command_word f i) (ack_word f i) c) (sym is_head) (r.commands.chains on k more);
-        words = is ∙ ap (λ (l : List Put). words_of (take (length ws) l)) (sym read2);
-        left = λ off. elim (cases_lt (length ws) (length (next_words f o s))) [
-          | inl less ↦ omega (arith, count)
-          | inr all ↦ absurd (let x : false ≡ true = sym off ∙ (whole_all f q h c ws r.built a.small ok full is all).0 in cc)
-        ];
-        complete = λ on. elim (cases_lt (length ws) (length (next_words f o s))) [
-          | inl less ↦ absurd (let x : false ≡ true = sym (whole_less f q h c ws r.built a.small ok is (omega (arith, a.long))) ∙ on in cc)
-          | inr all ↦ (omega (arith, count), (whole_all f q h c ws r.built a.small ok full is all).1)
-        ];
-        room = omega (arith, room_left f o s r.lists r.places more, ord.open_span, r.room);
-      },
-      is_head,
-    )
+    let count : length (reading f q h c) ≡ length (next_words f o s) = ap (λ (l : List Put). length l) read in
+    let ord = order f o s r.places r.lists in
+    record {
+      head = h;
+      is_new = record {
+        inside = a.inside;
+        apart = λ j runs e2.
+            let occ = occurs_from j (running s) runs in
+            let hd = running_head f o s j r.places r.lists occ in
+            let same : j ≡ k = same_head f o j k r.places (running_open f o s j r.places r.lists occ) is_open (sym hd.0 ∙ e2) in
+            omega (arith, (running_below f o s j r.lists occ).0);
+      };
+      chain = c;
+      fits = a.fits;
+      control = λ on. r.commands.chains on k more;
+      words = is ∙ ap (λ (l : List Put). words_of (take (length ws) l)) (sym read);
+      left = λ off. elim (cases_lt (length ws) (length (next_words f o s))) [
+        | inl less ↦ omega (arith, count)
+        | inr all ↦ absurd (let x : false ≡ true = sym off ∙ (whole_all f q h c ws r.built a.small ok full is all).0 in cc)
+      ];
+      complete = λ on. elim (cases_lt (length ws) (length (next_words f o s))) [
+        | inl less ↦ absurd (let x : false ≡ true = sym (whole_less f q h c ws r.built a.small ok is (omega (arith, a.long))) ∙ on in cc)
+        | inr all ↦ (let w = whole_all f q h c ws r.built a.small ok full is all in (omega (arith, count), w.1, w.2))
+      ];
+      room = omega (arith, room_left f o s r.lists r.places more, ord.open_span, r.room);
+    }

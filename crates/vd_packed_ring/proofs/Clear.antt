@@ -15,7 +15,7 @@ use Rattle.vd_packed_ring.specs.PackedWords.{IsLawful, IsBuilt, second_word}
 use Rattle.vd_packed_ring.specs.PackedChains.{Descriptor, direct, staged}
 use Rattle.vd_packed_ring.specs.PackedPositions.{opos, cpos}
 use Rattle.vd_packed_ring.specs.PackedDriver.{CanOffer, Begins, plan}
-use Rattle.vd_packed_ring.specs.PackedRing.{Words, IsClear, Signals, puts_of, Stages, DriverDoing}
+use Rattle.vd_packed_ring.specs.PackedRing.{Words, IsClear, SideSignals, puts_of, Stages, DriverDoing}
 use Rattle.vd_packed_ring.proofs.Areas.{driver_stores, driver_second, second_low, window_differ}
 use Rattle.vd_packed_ring.proofs.Plans.{stand_other, IsStored, all_take, all_are, staged_stored, within_from, within_apart}
 use Rattle.vd_packed_ring.proofs.Rows.{nothing_staged}
@@ -45,9 +45,10 @@ begins_clear f o puts r half l b n two low high =
     (stored_all f o n.chain puts b n.first)
 
 pub doing_clear : (now : DriverNow) (f : Frame) (o : List DriverDone) (ws : List ℕ) (r half : ℕ) → IsLawful f → IsBuilt f → DriverDoing now f o ws → half < 2 → cpos f o ≤ r → r < opos f o → IsClear (puts_of now) (2 * (r % f.size) + half)
-doing_clear driver.Idle f o ws r half l b h two low high = nothing_staged (2 * (r % f.size) + half)
 doing_clear (driver.Offering puts) f o ws r half l b h two low high = let h2 : Stages f o ws puts = h in begins_clear f o puts r half l b h2.begins two low high
-doing_clear _ f o ws r half l b h two low high = absurd h
+doing_clear (driver.Entered ps) f o ws r half l b h two low high = absurd h
+doing_clear (driver.Collecting us) f o ws r half l b h two low high = absurd h
+doing_clear _ f o ws r half l b h two low high = nothing_staged (2 * (r % f.size) + half)
 
 -- clear in the second word at the position where the next chain begins
 stored_ahead : (n low q d p : ℕ) → 0 < n → low ≤ q → q + d ≤ low + n → IsStored n q d p → p ≢ second_word n q
@@ -63,27 +64,30 @@ begins_ahead f o puts l b le n =
     (stored_all f o n.chain puts b n.first)
 
 pub doing_ahead : (now : DriverNow) (f : Frame) (o : List DriverDone) (ws : List ℕ) → IsLawful f → IsBuilt f → cpos f o ≤ opos f o → DriverDoing now f o ws → IsClear (puts_of now) (second_word f.size (opos f o))
-doing_ahead driver.Idle f o ws l b le h = nothing_staged (second_word f.size (opos f o))
 doing_ahead (driver.Offering puts) f o ws l b le h = let h2 : Stages f o ws puts = h in begins_ahead f o puts l b le h2.begins
-doing_ahead _ f o ws l b le h = absurd h
+doing_ahead (driver.Entered ps) f o ws l b le h = absurd h
+doing_ahead (driver.Collecting us) f o ws l b le h = absurd h
+doing_ahead _ f o ws l b le h = nothing_staged (second_word f.size (opos f o))
 
 -- what is staged stands after a store where it is clear
 pub doing_other : (now : DriverNow) (f : Frame) (o : List DriverDone) (ws : List ℕ) (p x : ℕ) → IsClear (puts_of now) p → DriverDoing now f o ws → DriverDoing now f o (slice_set ws p x)
-doing_other driver.Idle f o ws p x clear h = tt
 doing_other (driver.Offering puts) f o ws p x clear h =
     let h2 : Stages f o ws puts = h in record { begins = h2.begins; stand = stand_other ws puts p x h2.stand clear }
-doing_other _ f o ws p x clear h = absurd h
+doing_other (driver.Entered ps) f o ws p x clear h = absurd h
+doing_other (driver.Collecting us) f o ws p x clear h = absurd h
+doing_other _ f o ws p x clear h = tt
 
 -- clear at each word past the descriptors
 pub doing_past : (now : DriverNow) (f : Frame) (o : List DriverDone) (ws : List ℕ) (p : ℕ) → IsLawful f → IsBuilt f → DriverDoing now f o ws → 2 * f.size ≤ p → IsClear (puts_of now) p
-doing_past driver.Idle f o ws p l b h past = nothing_staged p
 doing_past (driver.Offering puts) f o ws p l b h past =
     let h2 : Stages f o ws puts = h in let n : Begins f o puts = h2.begins in
     all_are (λ s. IsStored f.size (opos f o) (length n.chain) s.place) (λ s. s.place ≢ p) puts (λ s w. stored_low f.size (opos f o) (length n.chain) s.place p (omega (arith, l.least)) past w) (stored_all f o n.chain puts b n.first)
   where
     stored_low : (n q d i p : ℕ) → 0 < n → 2 * n ≤ p → IsStored n q d i → i ≢ p
     stored_low n q d i p pos past w = λ e. elim w.place [ inl h ↦ omega (arith, h, mod_below w.position n pos) | inr h ↦ omega (arith, h.0, mod_below w.position n pos) ]
-doing_past _ f o ws p l b h past = absurd h
+doing_past (driver.Entered ps) f o ws p l b h past = absurd h
+doing_past (driver.Collecting us) f o ws p l b h past = absurd h
+doing_past _ f o ws p l b h past = nothing_staged p
 
 -- ---- the words after a store of an offer
 
@@ -101,9 +105,9 @@ stored_words f ws driven served q d p x pos w h = elim w.place [
 ]
 
 -- signals after a store elsewhere
-pub signals_elsewhere : (f : Frame) (event_at bell_at : ℕ) (armed : Option ℕ) (bells : ℕ) (stored : List ℕ) (p x : ℕ) → event_at ≢ p → bell_at ≢ p → Signals f event_at bell_at armed bells stored → Signals f event_at bell_at armed bells (slice_set stored p x)
+pub signals_elsewhere : (f : Frame) (event_at bell_at : ℕ) (armed : Option ℕ) (bells : ℕ) (stored : List ℕ) (p x : ℕ) → event_at ≢ p → bell_at ≢ p → SideSignals f event_at bell_at armed bells stored → SideSignals f event_at bell_at armed bells (slice_set stored p x)
 signals_elsewhere f event_at bell_at armed bells stored p x a b s = record {
-  flags = λ off. omega (arith, s.flags off, get_or-set_other stored p event_at x 0 a);
+  flags = λ off. elim (s.flags off) [ inl h ↦ inl (get_or-set_other stored p event_at x 0 a ∙ h) | inr h ↦ inr (get_or-set_other stored p event_at x 0 a ∙ h) ];
   names = λ on. elim (s.names on) [ inl h ↦ inl (get_or-set_other stored p event_at x 0 a ∙ h) | inr h ↦ inr (h.0, get_or-set_other stored p event_at x 0 a ∙ h.1) ];
   enable = λ q h off. get_or-set_other stored p event_at x 0 a ∙ s.enable q h off;
   event = λ q h on. get_or-set_other stored p event_at x 0 a ∙ s.event q h on;

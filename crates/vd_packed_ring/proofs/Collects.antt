@@ -5,6 +5,7 @@ use Rattle.std.proofs.lemmas.Bool.{cases_lt}
 use Rattle.std.proofs.lemmas.List.{take_all}
 use Rattle.vd_model.specs.Chains.{needs}
 use Rattle.vd_ring.specs.declared.frame.Frame.{Frame}
+use Rattle.vd_ring.specs.declared.frame.Put.{Put}
 use Rattle.vd_ring.specs.declared.frame.Used.{Used}
 use Rattle.vd_ring.specs.declared.driver.DriverDone.{DriverDone}
 use Rattle.vd_ring.specs.declared.driver.DriverDone.TheVariants.{Collect}
@@ -16,6 +17,7 @@ use Rattle.vd_ring.specs.declared.device.DeviceNow.TheVariants as device
 use Rattle.vd_ring.specs.declared.device.DeviceView.{DeviceView}
 use Rattle.vd_ring.specs.History.{entry, open_size, offers, collects, takes, gives, open_at, head, chain, occurs, used_at, collected, with_head}
 use Rattle.vd_ring.specs.Places.{Places}
+use Rattle.vd_ring.specs.Signals.{moves}
 use Rattle.vd_ring.specs.Lists.{Lists}
 use Rattle.vd_ring.proofs.Counts.{sum_one, Contains_from, with_head_is}
 use Rattle.vd_ring.proofs.HeldPlaces.{open_below, chain_fits, collect_places, same_head}
@@ -25,8 +27,8 @@ use Rattle.vd_ring.proofs.ControlSteps.{commands_collected, acks_collected}
 use Rattle.vd_packed_ring.specs.PackedWords.{IsLawful, IsBuilt, command_word, ack_word, second_word, len_of, id_of, is_used, is_available, used_word}
 use Rattle.vd_packed_ring.specs.PackedChains.{Descriptor}
 use Rattle.vd_packed_ring.specs.PackedPositions.{opos, cpos, tpos, upos, made_at, mark_at, stands, second_at, later}
-use Rattle.vd_packed_ring.specs.PackedDriver.{NamesOpen, driver_looks, driver_collects}
-use Rattle.vd_packed_ring.specs.PackedRing.{Ring, Loads, DeviceDoing}
+use Rattle.vd_packed_ring.specs.PackedDriver.{NamesOpen, ShowsGives, driver_looks, driver_collects}
+use Rattle.vd_packed_ring.specs.PackedRing.{Ring, Row, Loads, DeviceDoing, puts_of, entries_out, entries_in}
 use Rattle.vd_packed_ring.proofs.WordFacts.{Fits, avail_unused, avail_unused_next, avail_next, used_shows, used_next, used_unavailable, zero_unused, used_id, used_len}
 use Rattle.vd_packed_ring.proofs.Rows.{nothing_staged, row_same, row_ahead}
 use Rattle.vd_packed_ring.proofs.Spelled.{table_stands}
@@ -58,12 +60,16 @@ old_unavailable f o s q l b p li short = stands_unavailable f o q (made_at f o q
 -- ---- the word at the position of the driver's next collect
 
 -- all that was given is collected
-all_collected : (f : Frame) (o : List DriverDone) (s : List DeviceDone) → Lists f o s → length (gives s) ≤ length (collects o) → cpos f o ≡ upos f s
+pub all_collected : (f : Frame) (o : List DriverDone) (s : List DeviceDone) → Lists f o s → length (gives s) ≤ length (collects o) → cpos f o ≡ upos f s
 all_collected f o s l none = cpos_is f o s l ∙ (ap (sum_by (λ (u : Used). needs f.features (chain o u.number))) (take_all (length (collects o)) (gives s) none) ∙ sym (upos_is f o s l))
 
-pub shows_none : (ws : List ℕ) (d : DriverView) (e : DeviceView) → Ring ws (record d { doing = Idle }) e → length (gives e.done) ≤ length (collects d.done)
+-- where nothing is staged
+seconds_clear : (ws : List ℕ) (d : DriverView) (e : DeviceView) → puts_of d.doing ≡ [] → Ring ws d e → Row d.frame.size 1 ws (opos d.frame d.done) [] (second_at d.frame d.done e.done)
+seconds_clear ws d e clear r = subst (λ (l : List Put). Row d.frame.size 1 ws (opos d.frame d.done) l (second_at d.frame d.done e.done)) clear r.seconds
+
+pub shows_none : (ws : List ℕ) (d : DriverView) (e : DeviceView) → puts_of d.doing ≡ [] → Ring ws d e → length (gives e.done) ≤ length (collects d.done)
     → is_used d.frame.size (cpos d.frame d.done) (slice_index ws (second_word d.frame.size (cpos d.frame d.done))) ≡ false
-shows_none ws d e r none =
+shows_none ws d e clear r none =
     let f : Frame = d.frame in let o : List DriverDone = d.done in let s : List DeviceDone = e.done in
     let n : ℕ = f.size in let c : ℕ = cpos f o in
     let pos : 0 < n = omega (arith, r.lawful.least) in
@@ -71,7 +77,7 @@ shows_none ws d e r none =
     let ord = order f o s r.places r.lists in
     elim (cases_lt c (opos f o)) [
       | inl low ↦ (
-          let word : slice_index ws (second_word n c) ≡ second_at f o s c = r.seconds.kept c low r.room (nothing_staged (second_word n c)) in
+          let word : slice_index ws (second_word n c) ≡ second_at f o s c = (seconds_clear ws d e clear r).kept c low r.room (nothing_staged (second_word n c)) in
           let unmarked : mark_at f o s c ≡ None = mark_past (λ k. needs f.features (chain o k)) s c (omega (arith, same, upos_is f o s r.lists)) in
           ap (is_used n c) (word ∙ ap (λ (m : Option Used). stands f o c (made_at f o c) m) unmarked) ∙ avail_unused n c (made_at f o c) (at_fits f o c r.lawful r.built r.places.fits)
           )
@@ -79,7 +85,7 @@ shows_none ws d e r none =
           let top : opos f o ≡ c = omega (arith, ord.open_span, ord.given, ord.taken, same) in
           subst (λ (t : ℕ). is_used n t (slice_index ws (second_word n t)) ≡ false) top
           (row_ahead n 1 ws (opos f o) [] (second_at f o s) (λ x. is_used n (opos f o) x ≡ false) pos (nothing_staged (second_word n (opos f o))) (λ a. zero_unused n (opos f o) a)
-          (λ q h. subst (λ (t : ℕ). is_used n t (second_at f o s q) ≡ false) h (old_unused f o s q r.lawful r.built r.places r.lists r.short)) r.seconds)
+          (λ q h. subst (λ (t : ℕ). is_used n t (second_at f o s q) ≡ false) h (old_unused f o s q r.lawful r.built r.places r.lists r.short)) (seconds_clear ws d e clear r))
           )
     ]
 
@@ -89,8 +95,8 @@ pub record Found (f : Frame) (o : List DriverDone) (s : List DeviceDone) (w : �
   pub here : 1 ≤ occurs (used_at (gives s) (length (collects o))).number (open_at o)
   pub is_id : id_of w ≡ head f o (used_at (gives s) (length (collects o))).number
 
-pub found : (ws : List ℕ) (d : DriverView) (e : DeviceView) → Ring ws (record d { doing = Idle }) e → length (collects d.done) < length (gives e.done) → Found d.frame d.done e.done (slice_index ws (second_word d.frame.size (cpos d.frame d.done)))
-found ws d e r more =
+pub found : (ws : List ℕ) (d : DriverView) (e : DeviceView) → puts_of d.doing ≡ [] → Ring ws d e → length (collects d.done) < length (gives e.done) → Found d.frame d.done e.done (slice_index ws (second_word d.frame.size (cpos d.frame d.done)))
+found ws d e clear r more =
     let f : Frame = d.frame in let o : List DriverDone = d.done in let s : List DeviceDone = e.done in
     let n : ℕ = f.size in let c : ℕ = cpos f o in let m : ℕ = length (collects o) in
     let u : Used = used_at (gives s) m in
@@ -103,7 +109,7 @@ found ws d e r more =
     ∙ mark_entry f (λ k. needs f.features (chain o k)) s m u r.lists.entries (cut.1 ∙ ap Some (sym same)) some in
     let ord = order f o s r.places r.lists in
     let held : 1 ≤ open_size f o = omega (arith, sum_one (λ k. needs f.features (chain o k)) u.number (open_at o) here) in
-    let word : slice_index ws (second_word n c) ≡ used_word n c (head f o u.number) u.len = r.seconds.kept c (omega (arith, ord.open_span)) r.room (nothing_staged (second_word n c)) ∙ ap (λ (x : Option Used). stands f o c (made_at f o c) x) marked in
+    let word : slice_index ws (second_word n c) ≡ used_word n c (head f o u.number) u.len = (seconds_clear ws d e clear r).kept c (omega (arith, ord.open_span)) r.room (nothing_staged (second_word n c)) ∙ ap (λ (x : Option Used). stands f o c (made_at f o c) x) marked in
     let short : u.len < 4294967296 = r.short m (entry 0 0) more in
     let low = low_head f o u.number r.lawful in
     let w : ℕ = slice_index ws (second_word n c) in
@@ -117,6 +123,15 @@ found ws d e r more =
       is_id = id;
     }
 
+-- an entry given and not collected takes a descriptor at least
+pub entry_before : (f : Frame) (o : List DriverDone) (s : List DeviceDone) → Places f o → Lists f o s → length (collects o) < length (gives s) → cpos f o < upos f s
+entry_before f o s p l more =
+    let m : ℕ = length (collects o) in let u : Used = used_at (gives s) m in
+    let below : u.number < length (offers o) = open_below f o u.number p (next_open f o s p l more) in
+    let lists2 = lists_collected f o s l more in
+    let ord = order f (Collect (u ∷ []) ∷ o) s (collect_places f o u p (next_open f o s p l more)) lists2 in
+    omega (arith, cpos_collected f o u, ord.collected, needs_some f (chain o u.number) (chain_fits f o u.number p below))
+
 -- ---- the collect
 
 -- acts that offer nothing leave what stands at each position
@@ -128,13 +143,14 @@ loads_collected : (f : Frame) (o : List DriverDone) (us : List Used) (k q : ℕ)
 loads_collected f o us k q ws l = record { more = l.more; words = l.words; left = l.left }
 
 doing_collected : (now : DeviceNow) (f : Frame) (o : List DriverDone) (us : List Used) (s : List DeviceDone) → DeviceDoing now f o s → DeviceDoing now f (Collect us ∷ o) s
-doing_collected device.Idle f o us s h = tt
 doing_collected (device.Taking (w ∷ ws)) f o us s h = loads_collected f o us (length (takes s)) (tpos f s) (w ∷ ws) h
 doing_collected (device.Taking []) f o us s h = absurd h
-doing_collected _ f o us s h = absurd h
+doing_collected (device.Giving ws) f o us s h = absurd h
+doing_collected device.Resting f o us s h = h
+doing_collected _ f o us s h = tt
 
-collects_entry : (ws : List ℕ) (d : DriverView) (e : DeviceView) (w : ℕ) → Ring ws (record d { doing = Idle }) e → length (collects d.done) < length (gives e.done) → Found d.frame d.done e.done w → Ring ws (driver_collects (record d { doing = Idle }) w) e
-collects_entry ws d e w r more n =
+collects_entry : (ws : List ℕ) (d : DriverView) (e : DeviceView) (w : ℕ) → Ring ws (record d { doing = Idle }) e → d.armed ≡ None → length (collects d.done) < length (gives e.done) → Found d.frame d.done e.done w → Ring ws (driver_collects (record d { doing = Idle }) w) e
+collects_entry ws d e w r unarmed more n =
     let f : Frame = d.frame in let o : List DriverDone = d.done in let s : List DeviceDone = e.done in
     let u : Used = used_at (gives s) (length (collects o)) in
     let o2 : List DriverDone = Collect (u ∷ []) ∷ o in
@@ -159,6 +175,10 @@ collects_entry ws d e w r more n =
       acks = acks_collected f (ack_word f) o s e.stored more r.acks;
       driver_doing = tt;
       device_doing = doing_collected e.doing f o (u ∷ []) s r.device_doing;
+      kicks = r.kicks;
+      calls = moves (entries_out e) (entries_in (record d { doing = Idle })) (cpos f o2) true unarmed r.calls;
+      driver_armed = tt;
+      device_armed = r.device_armed;
       driver_seen = later_within _ _ _ r.driver_seen ord.collected;
       device_seen = r.device_seen;
       driver_shown = λ h. absurd cc;
@@ -185,6 +205,10 @@ finds_none ws d e r = record {
   acks = r.acks;
   driver_doing = tt;
   device_doing = r.device_doing;
+  kicks = r.kicks;
+  calls = r.calls;
+  driver_armed = tt;
+  device_armed = r.device_armed;
   driver_seen = later_within _ _ _ r.driver_seen (order d.frame d.done e.done r.places r.lists).collected;
   device_seen = r.device_seen;
   driver_shown = λ h. absurd cc;
@@ -197,27 +221,29 @@ names_open f o s w l more n =
     let u : Used = used_at (gives s) (length (collects o)) in
     record { number = u.number; is_open = Contains_from u.number (open_at o) n.here; is_head = sym n.is_id; next = may_return f (chain o) (length (collects o)) u.number (λ on. l.in_order on (length (collects o)) more) }
 
-abbrev pub Tells : DriverView → ℕ → Type 0
-Tells d w = (is_used d.frame.size (cpos d.frame d.done) w ≡ true → NamesOpen d.frame d.done (id_of w)) × (d.shown ≡ true → is_used d.frame.size (cpos d.frame d.done) w ≡ true) × (cpos d.frame d.done < d.seen → is_used d.frame.size (cpos d.frame d.done) w ≡ true)
-
-pub looks : (ws : List ℕ) (d : DriverView) (e : DeviceView) (w : ℕ) → Ring ws (record d { doing = Idle }) e → w ≡ slice_index ws (second_word d.frame.size (cpos d.frame d.done)) → Ring ws (driver_looks (record d { doing = Idle }) w) e × Tells d w
-looks ws d e w r is =
+-- what a look tells, where nothing is staged
+pub look_tells : (ws : List ℕ) (d : DriverView) (e : DeviceView) (w : ℕ) → puts_of d.doing ≡ [] → Ring ws d e → w ≡ slice_index ws (second_word d.frame.size (cpos d.frame d.done)) → ShowsGives d w
+look_tells ws d e w clear r is =
     let f : Frame = d.frame in let o : List DriverDone = d.done in let s : List DeviceDone = e.done in
     elim (cases_lt (length (collects o)) (length (gives s))) [
       | inl more ↦ (
-          let n : Found f o s w = subst (Found f o s) (sym is) (found ws d e r more) in (
-            subst (λ (b : Bool). Ring ws (if b then driver_collects (record d { doing = Idle }) w else record d { doing = Idle; seen = later d.seen (cpos f o); shown = false }) e) (sym n.shows) (collects_entry ws d e w r more n),
-            (λ on. names_open f o s w r.lists more n, λ h. n.shows, λ h. n.shows),
-          )
+          let n : Found f o s w = subst (Found f o s) (sym is) (found ws d e clear r more) in (λ on. names_open f o s w r.lists more n, λ h. n.shows, λ h. n.shows)
           )
       | inr none ↦ (
-          let off : is_used f.size (cpos f o) w ≡ false = ap (is_used f.size (cpos f o)) is ∙ shows_none ws d e r none in (
-            subst (λ (b : Bool). Ring ws (if b then driver_collects (record d { doing = Idle }) w else record d { doing = Idle; seen = later d.seen (cpos f o); shown = false }) e) (sym off) (finds_none ws d e r),
-            (
-              λ on. absurd (let x : false ≡ true = sym off ∙ on in cc),
-              λ h. absurd (omega (arith, r.driver_shown h, r.driver_seen, all_collected f o s r.lists none)),
-              λ h. absurd (omega (arith, r.driver_seen, all_collected f o s r.lists none)),
-            ),
+          let off : is_used f.size (cpos f o) w ≡ false = ap (is_used f.size (cpos f o)) is ∙ shows_none ws d e clear r none in (
+            λ on. absurd (let x : false ≡ true = sym off ∙ on in cc),
+            λ h. absurd (omega (arith, r.driver_shown h, r.driver_seen, all_collected f o s r.lists none)),
+            λ h. absurd (omega (arith, r.driver_seen, all_collected f o s r.lists none)),
           )
           )
+    ]
+
+pub looks : (ws : List ℕ) (d : DriverView) (e : DeviceView) (w : ℕ) → Ring ws (record d { doing = Idle }) e → d.armed ≡ None → w ≡ slice_index ws (second_word d.frame.size (cpos d.frame d.done)) → Ring ws (driver_looks (record d { doing = Idle }) w) e
+looks ws d e w r unarmed is =
+    let f : Frame = d.frame in let o : List DriverDone = d.done in let s : List DeviceDone = e.done in
+    let D : DriverView = record d { doing = Idle } in
+    let after : Bool → Type 0 = λ b. Ring ws (if b then driver_collects D w else record d { doing = Idle; seen = later d.seen (cpos f o); shown = false }) e in
+    elim (cases_lt (length (collects o)) (length (gives s))) [
+      | inl more ↦ (let n : Found f o s w = subst (Found f o s) (sym is) (found ws D e refl r more) in subst after (sym n.shows) (collects_entry ws d e w r unarmed more n))
+      | inr none ↦ subst after (sym (ap (is_used f.size (cpos f o)) is ∙ shows_none ws D e refl r none)) (finds_none ws d e r)
     ]

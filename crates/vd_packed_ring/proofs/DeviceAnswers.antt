@@ -1,5 +1,5 @@
 -- What each answer of the device means: the chain taken, the used descriptor given, when nothing is left, and a rest.
-use Rattle.std.proofs.Common.{◌≡◌, ℕ, ◌+◌, ◌<◌, Bool, true, false, List, [], ◌∷◌, ◌++◌, length, if◌then◌else◌, slice_index, slice_set, refl, sym, ap, ◌∙◌, subst, arith, inl, inr}
+use Rattle.std.proofs.Common.{◌≡◌, ℕ, ◌+◌, ◌<◌, ◌==◌, Bool, true, false, List, [], ◌∷◌, ◌++◌, length, if◌then◌else◌, slice_index, slice_set, refl, sym, ap, ◌∙◌, subst, arith, inl, inr}
 use Rattle.std.specs.List.{Contains}
 use Rattle.std.proofs.lemmas.Bool.{cases_lt}
 use Rattle.std.proofs.lemmas.List.{length_push, take_all, get_or_push, get_or-take, get_or-set_same}
@@ -18,7 +18,7 @@ use Rattle.vd_ring.specs.declared.driver.DriverView.{DriverView}
 use Rattle.vd_ring.specs.declared.device.DeviceDone.{DeviceDone}
 use Rattle.vd_ring.specs.declared.device.DeviceDone.TheVariants.{Take, Rest}
 use Rattle.vd_ring.specs.declared.device.DeviceNow.{DeviceNow}
-use Rattle.vd_ring.specs.declared.device.DeviceNow.TheVariants.{Idle, Taking}
+use Rattle.vd_ring.specs.declared.device.DeviceNow.TheVariants.{Idle, Taking, Checking, Ringing, Arming, Disarming, Resting}
 use Rattle.vd_ring.specs.declared.device.DeviceView.{DeviceView}
 use Rattle.vd_ring.specs.DeviceSteps.{Did}
 use Rattle.vd_ring.specs.Batches.{IsEntry}
@@ -66,6 +66,16 @@ take_no_give : (c : Bool) (j k : ℕ) (ch : List Piece) → (if c then act.Taken
 take_no_give true j k ch e = cc
 take_no_give false j k ch e = cc
 
+wakes_no_give : (quiet : DeviceAct) (b c : Bool) (k : ℕ) → (quiet ≡ act.Given k → ⊥) → (if b then (if c then act.Awake else act.Moved) else quiet) ≡ act.Given k → ⊥
+wakes_no_give quiet true true k never e = cc
+wakes_no_give quiet true false k never e = cc
+wakes_no_give quiet false c k never e = never e
+
+hears_no_give : (b c : Bool) (k : ℕ) → (if b then act.Asleep else (if c then act.Awake else act.Moved)) ≡ act.Given k → ⊥
+hears_no_give true c k e = cc
+hears_no_give false true k e = cc
+hears_no_give false false k e = cc
+
 gives_at : (ws : List ℕ) (d : DriverView) (e : DeviceView) (p x k : ℕ) → Ring ws d (record e { frame = d.frame; doing = Idle }) → Returns d.frame e.done p x → (last_used (given d.frame e.done (id_of x) (len_of x))).number ≡ k
     → IsGiven ws d (record e { frame = d.frame; doing = Idle }) op.Give (Store p x) k
 gives_at ws d e p x k r n is =
@@ -94,7 +104,18 @@ given_at ws d e Idle op.Take (Load p) k r h is = absurd (no_give (is_available d
 given_at ws d e (Taking (w ∷ us)) op.Take (Load p) k r h is =
     let vs : List ℕ = w ∷ us ++ slice_index ws p ∷ [] in absurd (take_no_give (is_whole d.frame vs) (length (takes e.done)) k (chain_of d.frame vs) is)
 given_at ws d e Idle op.Give (Store p x) k r h is = gives_at ws d e p x k r h.1 (let number : (last_used (given d.frame e.done (id_of x) (len_of x))).number ≡ k = cc in number)
+given_at ws d e (Checking old new) op.Give (Load p) k r h is = absurd cc
+given_at ws d e (Ringing old new) op.Give (Store p x) k r h is = absurd cc
+given_at ws d e Idle op.Arm (Store p x) k r h is = absurd cc
+given_at ws d e Arming op.Arm (Load p) k r h is = absurd (wakes_no_give act.Armed (is_available d.frame.size (tpos d.frame e.done) (slice_index ws p)) d.frame.features.event_idx k (λ is. cc) is)
+given_at ws d e (Disarming j) op.Arm (Store p x) k r h is = absurd cc
+given_at ws d e (Disarming j) op.Hear (Store p x) k r h is = absurd cc
+given_at ws d e Idle op.Hear (Load p) k r h is = absurd (hears_no_give (slice_index ws p == e.heard) d.frame.features.event_idx k is)
+given_at ws d e Idle op.Disarm (Store p x) k r h is = absurd cc
+given_at ws d e Idle op.Disarm (Load p) k r h is = absurd cc
+given_at ws d e Idle op.Rest (Store p x) k r h is = absurd cc
 given_at ws d e Idle op.Rest (Load p) k r h is = absurd cc
+given_at ws d e Resting op.Rest (Load p) k r h is = absurd cc
 given_at ws d e Idle op.Control (Load p) k r h is = absurd cc
 given_at ws d e Idle op.Control (Store p x) k r h is = absurd cc
 given_at ws d e _ _ _ k r h is = absurd h
@@ -119,6 +140,16 @@ take_not_nothing : (c : Bool) (j : ℕ) (ch : List Piece) → (if c then act.Tak
 take_not_nothing true j ch is = cc
 take_not_nothing false j ch is = cc
 
+wakes_not_nothing : (quiet : DeviceAct) (b c : Bool) → (quiet ≡ act.Nothing → ⊥) → (if b then (if c then act.Awake else act.Moved) else quiet) ≡ act.Nothing → ⊥
+wakes_not_nothing quiet true true never is = cc
+wakes_not_nothing quiet true false never is = cc
+wakes_not_nothing quiet false c never is = never is
+
+hears_not_nothing : (b c : Bool) → (if b then act.Asleep else (if c then act.Awake else act.Moved)) ≡ act.Nothing → ⊥
+hears_not_nothing true c is = cc
+hears_not_nothing false true is = cc
+hears_not_nothing false false is = cc
+
 not_both : (c : Bool) → c ≡ false → c ≡ true → ⊥
 not_both c off on = let e : false ≡ true = sym off ∙ on in absurd cc
 
@@ -142,7 +173,18 @@ nothing_at ws d e (Taking (w ∷ us)) op.Take (Load p) r h =
     let vs : List ℕ = w ∷ us ++ slice_index ws p ∷ [] in
     other_answer ws d (record e { frame = d.frame; doing = Taking (w ∷ us) }) op.Take (Load p) (λ is. take_not_nothing (is_whole d.frame vs) (length (takes e.done)) (chain_of d.frame vs) is) (λ idle take. cc)
 nothing_at ws d e Idle op.Give (Store p x) r h = other_answer ws d (record e { frame = d.frame; doing = Idle }) op.Give (Store p x) (λ is. cc) (λ idle take. cc)
+nothing_at ws d e (Checking old new) op.Give (Load p) r h = other_answer ws d (record e { frame = d.frame; doing = Checking old new }) op.Give (Load p) (λ is. cc) (λ idle take. cc)
+nothing_at ws d e (Ringing old new) op.Give (Store p x) r h = other_answer ws d (record e { frame = d.frame; doing = Ringing old new }) op.Give (Store p x) (λ is. cc) (λ idle take. cc)
+nothing_at ws d e Idle op.Arm (Store p x) r h = other_answer ws d (record e { frame = d.frame; doing = Idle }) op.Arm (Store p x) (λ is. cc) (λ idle take. cc)
+nothing_at ws d e Arming op.Arm (Load p) r h = other_answer ws d (record e { frame = d.frame; doing = Arming }) op.Arm (Load p) (λ is. wakes_not_nothing act.Armed (is_available d.frame.size (tpos d.frame e.done) (slice_index ws p)) d.frame.features.event_idx (λ is. cc) is) (λ idle take. cc)
+nothing_at ws d e (Disarming j) op.Arm (Store p x) r h = other_answer ws d (record e { frame = d.frame; doing = Disarming j }) op.Arm (Store p x) (λ is. cc) (λ idle take. cc)
+nothing_at ws d e (Disarming j) op.Hear (Store p x) r h = other_answer ws d (record e { frame = d.frame; doing = Disarming j }) op.Hear (Store p x) (λ is. cc) (λ idle take. cc)
+nothing_at ws d e Idle op.Hear (Load p) r h = other_answer ws d (record e { frame = d.frame; doing = Idle }) op.Hear (Load p) (λ is. hears_not_nothing (slice_index ws p == e.heard) d.frame.features.event_idx is) (λ idle take. cc)
+nothing_at ws d e Idle op.Disarm (Store p x) r h = other_answer ws d (record e { frame = d.frame; doing = Idle }) op.Disarm (Store p x) (λ is. cc) (λ idle take. cc)
+nothing_at ws d e Idle op.Disarm (Load p) r h = other_answer ws d (record e { frame = d.frame; doing = Idle }) op.Disarm (Load p) (λ is. cc) (λ idle take. cc)
+nothing_at ws d e Idle op.Rest (Store p x) r h = other_answer ws d (record e { frame = d.frame; doing = Idle }) op.Rest (Store p x) (λ is. cc) (λ idle take. cc)
 nothing_at ws d e Idle op.Rest (Load p) r h = other_answer ws d (record e { frame = d.frame; doing = Idle }) op.Rest (Load p) (λ is. cc) (λ idle take. cc)
+nothing_at ws d e Resting op.Rest (Load p) r h = other_answer ws d (record e { frame = d.frame; doing = Resting }) op.Rest (Load p) (λ is. cc) (λ idle take. cc)
 nothing_at ws d e Idle op.Control (Load p) r h = other_answer ws d (record e { frame = d.frame; doing = Idle }) op.Control (Load p) (λ is. cc) (λ idle take. cc)
 nothing_at ws d e Idle op.Control (Store p x) r h = other_answer ws d (record e { frame = d.frame; doing = Idle }) op.Control (Store p x) (λ is. cc) (λ idle take. cc)
 nothing_at ws d e _ _ _ r h = absurd h

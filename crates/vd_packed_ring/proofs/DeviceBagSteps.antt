@@ -1,5 +1,5 @@
 -- What each answer of the device does to the bag of the ring's chains.
-use Rattle.std.proofs.Common.{◌≡◌, ℕ, Bool, true, false, List, [], ◌∷◌, ◌++◌, length, if◌then◌else◌, slice_index, refl, sym, ◌∙◌, subst}
+use Rattle.std.proofs.Common.{◌≡◌, ℕ, ◌==◌, Bool, true, false, List, [], ◌∷◌, ◌++◌, length, if◌then◌else◌, slice_index, refl, sym, ◌∙◌, subst}
 use Rattle.vd_model.specs.declared.chain.Piece.{Piece}
 use Rattle.vd_words.specs.declared.access.Access.{Access}
 use Rattle.vd_words.specs.declared.access.Access.TheVariants.{Load, Store}
@@ -14,10 +14,10 @@ use Rattle.vd_ring.specs.declared.driver.DriverView.{DriverView}
 use Rattle.vd_ring.specs.declared.device.DeviceDone.{DeviceDone}
 use Rattle.vd_ring.specs.declared.device.DeviceDone.TheVariants.{Give}
 use Rattle.vd_ring.specs.declared.device.DeviceNow.{DeviceNow}
-use Rattle.vd_ring.specs.declared.device.DeviceNow.TheVariants.{Idle, Taking}
+use Rattle.vd_ring.specs.declared.device.DeviceNow.TheVariants.{Idle, Taking, Checking, Ringing, Arming, Disarming, Resting}
 use Rattle.vd_ring.specs.declared.device.DeviceView.{DeviceView}
 use Rattle.vd_ring.specs.Bag.{State, Stands}
-use Rattle.vd_ring.specs.History.{offers, takes, gives, running, given, entry, last_used}
+use Rattle.vd_ring.specs.History.{offers, takes, gives, running, given, entry, last_used, IsWhole}
 use Rattle.vd_ring.specs.Steps.{StandsFor, DeviceBagStep}
 use Rattle.vd_ring.proofs.Counts.{occurs_from}
 use Rattle.vd_ring.proofs.DeviceBag.{begin_step, end_step, take_back_step}
@@ -25,11 +25,11 @@ use Rattle.vd_ring.proofs.DeviceLists.{lists_rested}
 use Rattle.vd_packed_ring.specs.PackedWords.{len_of, id_of, is_available}
 use Rattle.vd_packed_ring.specs.PackedChains.{loaded_head, is_whole, chain_of}
 use Rattle.vd_packed_ring.specs.PackedPositions.{tpos}
-use Rattle.vd_packed_ring.specs.PackedDevice.{DeviceNextAt, DeviceNext, device_takes, Returns, BeginsRest}
+use Rattle.vd_packed_ring.specs.PackedDevice.{DeviceNextAt, DeviceNext, device_takes, Returns}
 use Rattle.vd_packed_ring.specs.PackedDeviceLaws.{device_answer, device_done, DeviceBags}
 use Rattle.vd_packed_ring.specs.PackedRing.{Ring, Loads}
 use Rattle.vd_packed_ring.proofs.Gives.{given_is}
-use Rattle.vd_packed_ring.proofs.DeviceViews.{saw, saw_none}
+use Rattle.vd_packed_ring.proofs.DeviceViews.{saw, saw_none, saw_again, sleeps, heard}
 
 -- a bag after a step, from the acts alone
 record Moves (answer : DeviceAct) (in_order : Bool) (o : List DriverDone) (s t : List DeviceDone) (b : List State) : Type 0 where
@@ -47,7 +47,7 @@ looks_bag in_order o s v w b false is also st = record { entries = []; gave = λ
 loads_bag : (ws : List ℕ) (d : DriverView) (e : DeviceView) (us : List ℕ) (b : List State) (c : Bool) → Ring ws d e → Loads d.frame d.done (length (takes e.done)) (tpos d.frame e.done) us → (vs : List ℕ) → StandsFor d.done e.done b
     → Moves (if c then act.Taken (length (takes e.done)) (chain_of e.frame vs) else act.Moved) d.frame.features.in_order d.done e.done (if c then device_takes e vs else record e { doing = Taking vs }).done b
 loads_bag ws d e us b true r l vs st =
-    let begun = begin_step d.frame d.done e.done (chain_of e.frame vs) (loaded_head vs) b r.lists l.more st in
+    let begun = begin_step d.frame d.done e.done (chain_of e.frame vs) (loaded_head e.frame vs) b r.lists l.more st in
     record { entries = []; gave = λ k is. absurd cc; bag = begun.0; step = begun.1; stands = begun.2 }
 loads_bag ws d e us b false r l vs st = record { entries = []; gave = λ k is. absurd cc; bag = b; step = refl; stands = st }
 
@@ -70,6 +70,28 @@ still ws d e o a b same also is st = record {
   stands = subst (λ (us : List Used). Stands (length (offers d.done)) (length (takes (device_done ws e o a))) us b) (sym same) (subst (λ (cs : List (List Piece)). Stands (length (offers d.done)) (length cs) (gives e.done) b) (sym also) st);
 }
 
+-- an access that wakes
+awake : (ws : List ℕ) (d : DriverView) (e : DeviceView) (o : Op) (a : Access) (b : List State) → gives (device_done ws e o a) ≡ gives e.done → takes (device_done ws e o a) ≡ takes e.done → device_answer ws e o a ≡ act.Awake → StandsFor d.done e.done b → DeviceBags ws d e o a b
+awake ws d e o a b same also is st = record {
+  entries = [];
+  gave = λ k give. absurd (let both : act.Awake ≡ act.Given k = sym is ∙ give in cc);
+  bag = b;
+  step = subst (λ (x : DeviceAct). DeviceBagStep d.frame.features.in_order [] x b b) (sym is) refl;
+  stands = subst (λ (us : List Used). Stands (length (offers d.done)) (length (takes (device_done ws e o a))) us b) (sym same) (subst (λ (cs : List (List Piece)). Stands (length (offers d.done)) (length cs) (gives e.done) b) (sym also) st);
+}
+
+-- a look of an arming, and a hearing
+wakes_bag : (in_order : Bool) (o : List DriverDone) (s : List DeviceDone) (v w : DeviceView) (quiet : DeviceAct) (b : List State) (t c : Bool) → ((k : ℕ) → quiet ≡ act.Given k → ⊥) → DeviceBagStep in_order [] quiet b b → v.done ≡ s → w.done ≡ s → StandsFor o s b
+    → Moves (if t then (if c then act.Awake else act.Moved) else quiet) in_order o s (if t then v else w).done b
+wakes_bag in_order o s v w quiet b true true never step is also st = record { entries = []; gave = λ k e. absurd cc; bag = b; step = refl; stands = subst (λ (t : List DeviceDone). StandsFor o t b) (sym is) st }
+wakes_bag in_order o s v w quiet b true false never step is also st = record { entries = []; gave = λ k e. absurd cc; bag = b; step = refl; stands = subst (λ (t : List DeviceDone). StandsFor o t b) (sym is) st }
+wakes_bag in_order o s v w quiet b false c never step is also st = record { entries = []; gave = λ k e. absurd (never k e); bag = b; step = step; stands = subst (λ (t : List DeviceDone). StandsFor o t b) (sym also) st }
+
+hears_bag : (in_order : Bool) (o : List DriverDone) (s : List DeviceDone) (v w : DeviceView) (b : List State) (t c : Bool) → v.done ≡ s → w.done ≡ s → StandsFor o s b → Moves (if t then act.Asleep else (if c then act.Awake else act.Moved)) in_order o s (if t then v else w).done b
+hears_bag in_order o s v w b true c is also st = record { entries = []; gave = λ k e. absurd cc; bag = b; step = refl; stands = subst (λ (t : List DeviceDone). StandsFor o t b) (sym is) st }
+hears_bag in_order o s v w b false true is also st = record { entries = []; gave = λ k e. absurd cc; bag = b; step = refl; stands = subst (λ (t : List DeviceDone). StandsFor o t b) (sym also) st }
+hears_bag in_order o s v w b false false is also st = record { entries = []; gave = λ k e. absurd cc; bag = b; step = refl; stands = subst (λ (t : List DeviceDone). StandsFor o t b) (sym also) st }
+
 bag_at : (ws : List ℕ) (d : DriverView) (e : DeviceView) (doing : DeviceNow) (o : Op) (a : Access) (b : List State) → Ring ws d (record e { frame = d.frame; doing = doing }) → DeviceNextAt doing (record e { frame = d.frame; doing = doing }) o a
     → StandsFor d.done e.done b → DeviceBags ws d (record e { frame = d.frame; doing = doing }) o a b
 bag_at ws d e Idle op.Take (Load p) b r h st =
@@ -83,9 +105,27 @@ bag_at ws d e (Taking (w ∷ us)) op.Take (Load p) b r h st =
     record { entries = m.entries; gave = m.gave; bag = m.bag; step = m.step; stands = m.stands }
 bag_at ws d e Idle op.Give (Store p x) b r h st =
     let m = gives_bag ws d (record e { frame = d.frame; doing = Idle }) p x b r h.1 st in record { entries = m.entries; gave = m.gave; bag = m.bag; step = m.step; stands = m.stands }
-bag_at ws d e Idle op.Rest (Load p) b r h st =
-    let n : BeginsRest d.frame e.done p = h in
-    let back = take_back_step d.frame d.done e.done b r.lists (lists_rested d.frame d.done e.done r.lists n.whole) n.whole st in
+bag_at ws d e (Checking old new) op.Give (Load p) b r h st = still ws d (record e { frame = d.frame; doing = Checking old new }) op.Give (Load p) b refl refl refl st
+bag_at ws d e (Ringing old new) op.Give (Store p x) b r h st = still ws d (record e { frame = d.frame; doing = Ringing old new }) op.Give (Store p x) b refl refl refl st
+bag_at ws d e Idle op.Arm (Store p x) b r h st = still ws d (record e { frame = d.frame; doing = Idle }) op.Arm (Store p x) b refl refl refl st
+bag_at ws d e Arming op.Arm (Load p) b r h st =
+    let E : DeviceView = record e { frame = d.frame; doing = Arming } in
+    let m = wakes_bag d.frame.features.in_order d.done e.done (saw_again E) (sleeps E) act.Armed b (is_available d.frame.size (tpos d.frame e.done) (slice_index ws p)) d.frame.features.event_idx (λ k is. absurd cc) refl refl refl st in
+    record { entries = m.entries; gave = m.gave; bag = m.bag; step = m.step; stands = m.stands }
+bag_at ws d e (Disarming k) op.Arm (Store p x) b r h st = awake ws d (record e { frame = d.frame; doing = Disarming k }) op.Arm (Store p x) b refl refl refl st
+bag_at ws d e (Disarming k) op.Hear (Store p x) b r h st = awake ws d (record e { frame = d.frame; doing = Disarming k }) op.Hear (Store p x) b refl refl refl st
+bag_at ws d e Idle op.Hear (Load p) b r h st =
+    let g : ℕ = slice_index ws p in
+    let E : DeviceView = record e { frame = d.frame; doing = Idle } in
+    let m = hears_bag d.frame.features.in_order d.done e.done E (heard E g) b (g == e.heard) d.frame.features.event_idx refl refl st in
+    record { entries = m.entries; gave = m.gave; bag = m.bag; step = m.step; stands = m.stands }
+bag_at ws d e Idle op.Disarm (Store p x) b r h st = awake ws d (record e { frame = d.frame; doing = Idle }) op.Disarm (Store p x) b refl refl refl st
+bag_at ws d e Idle op.Disarm (Load p) b r h st = awake ws d (record e { frame = d.frame; doing = Idle }) op.Disarm (Load p) b refl refl refl st
+bag_at ws d e Idle op.Rest (Store p x) b r h st = still ws d (record e { frame = d.frame; doing = Idle }) op.Rest (Store p x) b refl refl refl st
+bag_at ws d e Idle op.Rest (Load p) b r h st = still ws d (record e { frame = d.frame; doing = Idle }) op.Rest (Load p) b refl refl refl st
+bag_at ws d e Resting op.Rest (Load p) b r h st =
+    let whole : IsWhole e.done = r.device_doing in
+    let back = take_back_step d.frame d.done e.done b r.lists (lists_rested d.frame d.done e.done r.lists whole) whole st in
     record { entries = []; gave = λ k is. absurd cc; bag = back.0; step = back.1; stands = back.2 }
 bag_at ws d e Idle op.Control (Load p) b r h st = still ws d (record e { frame = d.frame; doing = Idle }) op.Control (Load p) b refl refl refl st
 bag_at ws d e Idle op.Control (Store p x) b r h st = still ws d (record e { frame = d.frame; doing = Idle }) op.Control (Store p x) b refl refl refl st

@@ -10,10 +10,11 @@ use Rattle.vd_ring.specs.declared.device.DeviceView.{DeviceView}
 use Rattle.vd_ring.specs.History.{gives}
 use Rattle.vd_ring.specs.Control.{Acks}
 use Rattle.vd_ring.specs.Lists.{Lists, Rested}
+use Rattle.vd_ring.specs.Signals.{Signals}
 use Rattle.vd_packed_ring.specs.PackedWords.{IsDevices, ack_word, device_event, call_at}
 use Rattle.vd_packed_ring.specs.PackedPositions.{opos, tpos, upos, second_at}
 use Rattle.vd_packed_ring.specs.PackedDevice.{DeviceKnows}
-use Rattle.vd_packed_ring.specs.PackedRing.{Ring, Words, Row, Signals, puts_of, DriverDoing, DeviceDoing}
+use Rattle.vd_packed_ring.specs.PackedRing.{Ring, Words, Row, SideSignals, puts_of, DriverDoing, DeviceDoing, DeviceArmed, chains_out, chains_in, entries_out, entries_in}
 
 pub record Parts (ws : List ℕ) (d : DriverView) (e : DeviceView) : Type 0 where
   pub same : e.frame ≡ d.frame
@@ -21,10 +22,13 @@ pub record Parts (ws : List ℕ) (d : DriverView) (e : DeviceView) : Type 0 wher
   pub seconds : Row d.frame.size 1 ws (opos d.frame d.done) (puts_of d.doing) (second_at d.frame d.done e.done)
   pub lists : Lists d.frame d.done e.done
   pub short : All (λ u. u.len < 4294967296) (gives e.done)
-  pub signals : Signals d.frame (device_event d.frame) (call_at d.frame) e.armed e.bells e.stored
+  pub signals : SideSignals d.frame (device_event d.frame) (call_at d.frame) e.armed e.bells e.stored
   pub acks : Acks d.frame (ack_word d.frame) d.done e.done e.stored
   pub driver_doing : DriverDoing d.doing d.frame d.done ws
   pub device_doing : DeviceDoing e.doing d.frame d.done e.done
+  pub kicks : Signals (chains_out d) (chains_in e)
+  pub calls : Signals (entries_out e) (entries_in d)
+  pub armed : DeviceArmed e.doing d.frame e.armed (tpos d.frame e.done) e.heard
   pub driver_seen : d.seen ≤ upos d.frame e.done
   pub device_seen : e.seen ≤ opos d.frame d.done
   pub device_shown : e.shown ≡ true → tpos d.frame e.done < e.seen
@@ -49,6 +53,10 @@ ring_with ws us d e e2 r p = record {
   acks = p.acks;
   driver_doing = p.driver_doing;
   device_doing = p.device_doing;
+  kicks = p.kicks;
+  calls = p.calls;
+  driver_armed = r.driver_armed;
+  device_armed = p.armed;
   driver_seen = p.driver_seen;
   device_seen = p.device_seen;
   driver_shown = r.driver_shown;

@@ -73,16 +73,18 @@ loads_loaded : (f : Frame) (o : List DriverDone) (h x k q : ℕ) (ws : List ℕ)
 loads_loaded f o h x k q ws l = record { more = l.more; words = l.words; left = l.left }
 
 doing_stored : (now : DeviceNow) (f : Frame) (o : List DriverDone) (h i x : ℕ) (s : List DeviceDone) → DeviceDoing now f o s → DeviceDoing now f (StoreCommand h i x ∷ o) s
-doing_stored device.Idle f o h i x s a = tt
 doing_stored (device.Taking (w ∷ ws)) f o h i x s a = loads_stored f o h i x (length (takes s)) (tpos f s) (w ∷ ws) a
 doing_stored (device.Taking []) f o h i x s a = absurd a
-doing_stored _ f o h i x s a = absurd a
+doing_stored (device.Giving ws) f o h i x s a = absurd a
+doing_stored device.Resting f o h i x s a = a
+doing_stored _ f o h i x s a = tt
 
 doing_loaded : (now : DeviceNow) (f : Frame) (o : List DriverDone) (k x : ℕ) (s : List DeviceDone) → DeviceDoing now f o s → DeviceDoing now f (LoadAck k x ∷ o) s
-doing_loaded device.Idle f o k x s a = tt
 doing_loaded (device.Taking (w ∷ ws)) f o k x s a = loads_loaded f o k x (length (takes s)) (tpos f s) (w ∷ ws) a
 doing_loaded (device.Taking []) f o k x s a = absurd a
-doing_loaded _ f o k x s a = absurd a
+doing_loaded (device.Giving ws) f o k x s a = absurd a
+doing_loaded device.Resting f o k x s a = a
+doing_loaded _ f o k x s a = tt
 
 -- ---- the store of a command word
 
@@ -126,6 +128,10 @@ stores_command ws d e p x r n =
         acks = acks_stored f (ack_word f) o h i x s e.stored r.acks;
         driver_doing = tt;
         device_doing = doing_stored e.doing f o h i x s r.device_doing;
+        kicks = r.kicks;
+        calls = r.calls;
+        driver_armed = tt;
+        device_armed = r.device_armed;
         driver_seen = r.driver_seen;
         device_seen = r.device_seen;
         driver_shown = r.driver_shown;
@@ -160,6 +166,10 @@ loads_ack ws d e y r k on last is =
       acks = acks_loaded f (ack_word f) o k y s e.stored r.lists on last is r.acks;
       driver_doing = tt;
       device_doing = doing_loaded e.doing f o k y s r.device_doing;
+      kicks = r.kicks;
+      calls = r.calls;
+      driver_armed = tt;
+      device_armed = r.device_armed;
       driver_seen = r.driver_seen;
       device_seen = r.device_seen;
       driver_shown = r.driver_shown;

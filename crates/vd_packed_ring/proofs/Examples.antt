@@ -1,13 +1,16 @@
 -- The definitions on worked rings: each number is one that the standard's layout gives by hand.
 use Rattle.std.proofs.Common.{◌≡◌, ℕ, Bool, true, false, List, [], ◌∷◌, take, refl}
-use Rattle.std.specs.Prelude.{None}
+use Rattle.std.specs.Prelude.{Some, None}
 use Rattle.vd_model.specs.declared.chain.Piece.{Piece}
+use Rattle.vd_event.specs.Words.{arm_word, off_word}
+use Rattle.vd_event.specs.declared.rule.EventRule.TheVariants.{Packed}
 use Rattle.vd_ring.specs.declared.driver.DriverDone.TheVariants.{Offer, Collect}
 use Rattle.vd_ring.specs.declared.device.DeviceDone.TheVariants.{Take, Give}
 use Rattle.vd_ring.specs.declared.frame.Frame.{Frame}
 use Rattle.vd_ring.specs.History.{entry, head, given, collected}
 use Rattle.vd_packed_ring.specs.PackedWords.{width, table_of, put, words_of, used_word, event_word, base_at, is_base, is_used, is_available, id_of, len_of}
-use Rattle.vd_packed_ring.specs.PackedChains.{descriptors, described, spelling, publishing, reading, is_whole, chain_of, cursor, staged_chain}
+use Rattle.vd_packed_ring.specs.PackedChains.{descriptors, described, spelling, publishing, reading, is_whole, chain_of, cursor, loaded_head, staged_chain}
+use Rattle.vd_packed_ring.specs.PackedSignals.{disabled, asks}
 use Rattle.vd_packed_ring.specs.PackedPositions.{opos, upos}
 
 abbrev ring : ℕ → Bool → Frame
@@ -90,10 +93,44 @@ event_at_one = refl
 event_at_four : event_word 3 4 ≡ 131073
 event_at_four = refl
 
+-- they are those of vd_event's rule, and so is the word that wants no signal, 0x10000
+rule_at_one : arm_word (Packed 3) 1 ≡ event_word 3 1
+rule_at_one = refl
+
+rule_at_four : arm_word (Packed 3) 4 ≡ event_word 3 4
+rule_at_four = refl
+
+rule_off : off_word (Packed 3) ≡ Some disabled
+rule_off = refl
+
+-- positions 3 and 4 have the places and wraps of 4, and not those of 1; the upper half of a loaded word says nothing
+asks_four : asks (ring 3 false) 3 5 131073 ≡ true
+asks_four = refl
+
+asks_four_above : asks (ring 3 false) 3 5 4295098369 ≡ true
+asks_four_above = refl
+
+not_one : asks (ring 3 false) 3 5 163841 ≡ false
+not_one = refl
+
+-- ENABLE asks for each signal, DISABLE for none, and the reserved flags 3 for none
+asks_enabled : asks (ring 3 false) 3 5 0 ≡ true
+asks_enabled = refl
+
+not_disabled : asks (ring 3 false) 3 5 disabled ≡ false
+not_disabled = refl
+
+not_reserved : asks (ring 3 false) 3 5 196609 ≡ false
+not_reserved = refl
+
 -- ---- reading and giving
 
 reads_two : chain_of (ring 3 false) (words_of (reading (ring 3 false) 2 1 two)) ≡ two
 reads_two = refl
+
+-- the id is that of the last descriptor: 0x008100000000000a, 0x1000, 0x0082000100000040, 0x2000 have the id 1 there alone
+last_has_the_id : loaded_head (ring 3 false) (36310271995674634 ∷ 4096 ∷ 36591751267352640 ∷ 8192 ∷ []) ≡ 1
+last_has_the_id = refl
 
 not_yet : is_whole (ring 3 false) (words_of (take 3 (reading (ring 3 false) 2 1 two))) ≡ false
 not_yet = refl
@@ -127,6 +164,10 @@ tabled_whole = refl
 
 tabled_cursor : cursor (ring 4 true) 5 (words_of (take 2 (reading (ring 4 true) 5 3 two))) ≡ table_of (ring 4 true) 3
 tabled_cursor = refl
+
+-- the words of its table have no id
+tabled_head : loaded_head (ring 4 true) (words_of (reading (ring 4 true) 5 3 two)) ≡ 3
+tabled_head = refl
 
 tabled_staged : staged_chain (ring 4 true) (words_of (spelling (ring 4 true) 5 3 two)) 9224497949646520352 ≡ two
 tabled_staged = refl

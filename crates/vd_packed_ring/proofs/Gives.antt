@@ -1,6 +1,6 @@
 -- The device's give and rest keep the ring invariant.
 use Rattle.std.proofs.lemmas.Bool.{cases_lt}
-use Rattle.std.proofs.Common.{inl, inr, ◌+◌, if◌then◌else◌, Bool, true, slice_index, slice_index_or, ◌≡◌, ◌≢◌, ℕ, ◌*◌, ◌<◌, ◌≤◌, List, [], ◌∷◌, length, take, slice_set, Option, None, refl, sym, ap, ◌∙◌, subst, arith}
+use Rattle.std.proofs.Common.{inl, inr, ◌+◌, if◌then◌else◌, Bool, true, false, slice_index, slice_index_or, ◌≡◌, ◌≢◌, ℕ, ◌*◌, ◌<◌, ◌≤◌, List, [], ◌∷◌, length, take, slice_set, Option, None, refl, sym, ap, ◌∙◌, subst, arith}
 use Rattle.std.proofs.lemmas.List.{length-take-le}
 use Rattle.std.proofs.lemmas.List.Elements.{All-push}
 use Rattle.vd_model.specs.Chains.{needs}
@@ -10,10 +10,13 @@ use Rattle.vd_ring.specs.declared.driver.DriverDone.{DriverDone}
 use Rattle.vd_ring.specs.declared.driver.DriverView.{DriverView}
 use Rattle.vd_ring.specs.declared.device.DeviceDone.{DeviceDone}
 use Rattle.vd_ring.specs.declared.device.DeviceDone.TheVariants.{Give, Rest}
-use Rattle.vd_ring.specs.declared.device.DeviceNow.TheVariants.{Idle}
+use Rattle.vd_ring.specs.declared.device.DeviceNow.TheVariants.{Idle, Checking, Resting}
 use Rattle.vd_ring.specs.declared.device.DeviceView.{DeviceView}
+use Rattle.vd_ring.specs.Signals.{Signals, nothing, moves}
+use Rattle.vd_ring.specs.Signals.{publishes as publishes_range}
+use Rattle.vd_ring.specs.Sleep.{gives_made}
 use Rattle.vd_ring.specs.History.{offers, takes, gives, running, running_size, taken_head, with_head, head, chain, chain_at, given, batch, entry, IsWhole}
-use Rattle.vd_ring.proofs.Counts.{occurs_from, with_head_is}
+use Rattle.vd_ring.proofs.Counts.{occurs_from, with_head_is, sum_one}
 use Rattle.vd_ring.proofs.HeldPlaces.{chain_fits}
 use Rattle.vd_ring.proofs.ListSteps.{batch_one, returns_next, single_entry}
 use Rattle.vd_ring.proofs.DeviceLists.{running_below, running_head, same_taken_head, lists_given, lists_rested}
@@ -21,7 +24,7 @@ use Rattle.vd_ring.proofs.DeviceAcks.{acks_given, acks_rested, acks_elsewhere}
 use Rattle.vd_packed_ring.specs.PackedWords.{is_available, width, device_event, call_at, ack_word, second_word, len_of, id_of, used_word}
 use Rattle.vd_packed_ring.specs.PackedPositions.{tpos, opos, upos, made_at, marks, stands, second_at, later}
 use Rattle.vd_packed_ring.specs.PackedDevice.{Returns, device_gives, seen_to, device_rests}
-use Rattle.vd_packed_ring.specs.PackedRing.{Ring, puts_of}
+use Rattle.vd_packed_ring.specs.PackedRing.{Ring, puts_of, chains_out, chains_in, entries_out, entries_in}
 use Rattle.vd_packed_ring.proofs.WordFacts.{used_id, used_len}
 use Rattle.vd_packed_ring.proofs.Areas.{areas, second_low, second_inside, device_second}
 use Rattle.vd_packed_ring.proofs.Rows.{row_same, row_over}
@@ -69,8 +72,8 @@ second_here f o s u e some =
     ap (λ (m : Option Used). stands f o (upos f s) (made_at f o (upos f s)) m)
     (ap (λ (q : ℕ). slice_index_or (marks (λ k. needs f.features (chain o k)) (Give (u ∷ []) ∷ s)) q None) e ∙ mark_new (λ k. needs f.features (chain o k)) s u some)
 
-pub returns : (ws : List ℕ) (d : DriverView) (e : DeviceView) (p x : ℕ) → Ring ws d (record e { frame = d.frame; doing = Idle }) → Returns d.frame e.done p x → Ring (slice_set ws p x) d (device_gives (record e { frame = d.frame; doing = Idle }) p x) × (p < width d.frame)
-returns ws d e p x r n =
+pub returns : (ws : List ℕ) (d : DriverView) (e : DeviceView) (p x : ℕ) → Ring ws d (record e { frame = d.frame; doing = Idle }) → e.armed ≡ None → Returns d.frame e.done p x → Ring (slice_set ws p x) d (device_gives (record e { frame = d.frame; doing = Idle }) p x) × (p < width d.frame)
+returns ws d e p x r unarmed n =
     let f : Frame = d.frame in let s : List DeviceDone = e.done in let o : List DriverDone = d.done in
     let E : DeviceView = record e { frame = d.frame; doing = Idle } in
     let pos : 0 < f.size = omega (arith, r.lawful.least) in
@@ -90,10 +93,12 @@ returns ws d e p x r n =
     let at : q0 ≡ length (marks (λ j. needs f.features (chain o j)) s) = upos_is f o s r.lists ∙ sym (length_marks (λ j. needs f.features (chain o j)) s) in
     let word : second_at f o s2 q0 ≡ x = second_here f o s u at g.some ∙ (ap (λ (h : ℕ). used_word f.size q0 h n.len) (sym hd.0) ∙ sym n.word) in
     let lists2 = lists_given f o s u r.lists runs (single_entry f (chain_at (takes s)) (length (gives s)) u (returns_next f (chain_at (takes s)) (length (gives s)) k n.next)) in
-    let keep : List ℕ → Type 0 = λ vs. Ring vs d E in
+    let grows : upos f s2 ≡ q0 + needs f.features (chain_at (takes s) k) = upos_given f s u in
+    let taken_some : 1 ≤ needs f.features (chain_at (takes s) k) = omega (arith, g.some, ap (needs f.features) (taken_chain f o s k r.lists (running_below f o s k r.lists runs).0)) in
+    let within : needs f.features (chain_at (takes s) k) ≤ running_size f s = sum_one (λ j. needs f.features (chain_at (takes s) j)) k (running s) runs in
     subst (λ (i : ℕ). Ring (slice_set ws i x) d (device_gives E i x) × (i < width f)) (sym n.place)
-    (subst (λ (vs : List Used). Ring us d (record E { done = Give vs ∷ s; stored = st; doing = Idle }) × (q < width f)) (sym g.is) (
-      ring_with ws us d E (record E { done = s2; stored = st; doing = Idle }) r record {
+    (subst (λ (vs : List Used). Ring us d (record E { done = Give vs ∷ s; stored = st; doing = Checking q0 (upos f (Give vs ∷ s)) }) × (q < width f)) (sym g.is) (
+      ring_with ws us d E (record E { done = s2; stored = st; doing = Checking q0 (upos f s2) }) r record {
         same = refl;
         words = device_second f ws d.stored e.stored q0 x r.lawful.least r.words;
         seconds = row_over f.size 1 ws (opos f o) (puts_of d.doing) (second_at f o s) (second_at f o s2) q0 x pos (omega arith) g.below (omega (arith, ord.collected, r.room)) word (λ j ne. second_given f o s u j at ne) r.seconds;
@@ -103,7 +108,10 @@ returns ws d e p x r n =
         acks = acks_given f (ack_word f) o s u st r.places r.lists runs (acks_elsewhere f (ack_word f) o s e.stored q x r.places r.lists (λ i b a. omega (arith, areas f)) r.acks);
         driver_doing = doing_other d.doing f o ws q x (doing_clear d.doing f o ws q0 1 r.lawful r.built r.driver_doing (omega arith) ord.collected g.below) r.driver_doing;
         device_doing = tt;
-        driver_seen = omega (arith, r.driver_seen, upos_given f s u);
+        kicks = moves (chains_out d) (chains_in E) (tpos f s) false unarmed r.kicks;
+        calls = publishes_range (entries_out E) (entries_in d) (upos f s2) (omega (arith, grows, taken_some)) refl r.calls;
+        armed = (unarmed, record { some = omega (arith, grows, taken_some); near = omega (arith, grows, within, ord.open_span, ord.running_span, ord.collected, ord.taken, r.room) });
+        driver_seen = omega (arith, r.driver_seen, grows);
         device_seen = r.device_seen;
         device_shown = r.device_shown;
         rested = tt;
@@ -128,10 +136,11 @@ rest_sees ws d e w r is =
           )
     ]
 
-pub rests : (ws : List ℕ) (d : DriverView) (e : DeviceView) (w : ℕ) → Ring ws d (record e { frame = d.frame; doing = Idle }) → IsWhole e.done → w ≡ slice_index ws (second_word d.frame.size (tpos d.frame e.done)) → Ring ws d (device_rests (record e { frame = d.frame; doing = Idle }) w)
-rests ws d e w r whole is =
+pub rests : (ws : List ℕ) (d : DriverView) (e : DeviceView) (w : ℕ) → Ring ws d (record e { frame = d.frame; doing = Resting }) → w ≡ slice_index ws (second_word d.frame.size (tpos d.frame e.done)) → Ring ws d (device_rests (record e { frame = d.frame; doing = Resting }) w)
+rests ws d e w r is =
     let f : Frame = d.frame in let s : List DeviceDone = e.done in let o : List DriverDone = d.done in let g : ℕ = length (gives s) in
-    let E : DeviceView = record e { frame = d.frame; doing = Idle } in
+    let E : DeviceView = record e { frame = d.frame; doing = Resting } in
+    let whole : IsWhole s = r.device_doing in
     let s2 : List DeviceDone = Rest ∷ s in
     let len : length (take g (takes s)) ≡ g = length-take-le g (takes s) (omega (arith, r.lists.count)) in
     let lists2 = lists_rested f o s r.lists whole in
@@ -141,16 +150,19 @@ rests ws d e w r whole is =
     let none : running_size f s2 ≡ 0 = refl in
     let back : tpos f s2 ≤ tpos f s = omega (arith, ord.given, same_upos, ord2.running_span, none) in
     let sees = rest_sees ws d E w r is in
-    ring_with ws ws d E (record E { done = s2; armed = None; seen = later e.seen (seen_to E w) }) r record {
+    ring_with ws ws d E (record E { done = s2; seen = later e.seen (seen_to E w); doing = Idle }) r record {
       same = refl;
       words = r.words;
       seconds = row_same f.size 1 ws (opos f o) (puts_of d.doing) (second_at f o s) (second_at f o s2) (λ q a. refl) r.seconds;
       lists = lists2;
       short = r.short;
-      signals = record { flags = r.device_signals.flags; names = r.device_signals.names; enable = λ q at off. absurd cc; event = λ q at on. absurd cc; bell = r.device_signals.bell };
+      signals = r.device_signals;
       acks = acks_rested f (ack_word f) o s e.stored r.acks;
       driver_doing = r.driver_doing;
       device_doing = tt;
+      kicks = moves (chains_out d) (chains_in E) (tpos f s2) true r.device_armed r.kicks;
+      calls = subst (λ (n : ℕ). Signals (record { published = n; owed = nothing; bells = e.bells; ranges = gives_made s }) (entries_in d)) (sym same_upos) r.calls;
+      armed = tt;
       driver_seen = omega (arith, r.driver_seen, same_upos);
       device_seen = later_within _ _ _ r.device_seen sees.0;
       device_shown = λ h. omega (arith, sees.1 h, back, later_second e.seen (seen_to E w));

@@ -6,15 +6,18 @@ pub mod Spelled
 pub mod Tables
 pub mod Positions
 pub mod Made
+pub mod Bells
 pub mod Clear
 pub mod Offers
 pub mod Collects
+pub mod DriverBells
 pub mod DriverControls
 pub mod DriverKeeps
 pub mod DeviceParts
 pub mod Ahead
 pub mod Takes
 pub mod Gives
+pub mod DeviceBells
 pub mod DeviceControls
 pub mod DeviceKeeping
 pub mod Opens
@@ -26,7 +29,11 @@ pub mod Spelling
 pub mod DriverAnswers
 pub mod DeviceAnswers
 pub mod DeviceBagSteps
+pub mod DeviceSleeping
 pub mod Seen
 pub mod Signalling
+pub mod Sleeping
+pub mod DriverLooking
+pub mod DeviceLooking
 mod Examples
 pub mod ControlFacts

@@ -1,5 +1,5 @@
 -- The stores of an offer keep the ring invariant.
-use Rattle.std.proofs.Common.{mod-eq_of_lt, ◌≡◌, ◌≢◌, ℕ, ◌+◌, ◌*◌, ◌%◌, ◌<◌, ◌≤◌, List, [], ◌∷◌, ◌++◌, length, take, slice_index, slice_index_or, slice_set, Option, Some, None, refl, sym, ap, ◌∙◌, subst, arith, inl, inr}
+use Rattle.std.proofs.Common.{false, mod-eq_of_lt, ◌≡◌, ◌≢◌, ℕ, ◌+◌, ◌*◌, ◌%◌, ◌<◌, ◌≤◌, List, [], ◌∷◌, ◌++◌, length, take, slice_index, slice_index_or, slice_set, Option, Some, None, refl, sym, ap, ◌∙◌, subst, arith, inl, inr}
 use Rattle.std.proofs.lemmas.Nat.{mod_below}
 use Rattle.std.specs.List.{All}
 use Rattle.std.proofs.lemmas.List.{length_push, get_or-set_same, get_or_default}
@@ -12,7 +12,7 @@ use Rattle.vd_ring.specs.declared.frame.Used.{Used}
 use Rattle.vd_ring.specs.declared.driver.DriverDone.{DriverDone}
 use Rattle.vd_ring.specs.declared.driver.DriverDone.TheVariants.{Offer}
 use Rattle.vd_ring.specs.declared.driver.DriverNow.{DriverNow}
-use Rattle.vd_ring.specs.declared.driver.DriverNow.TheVariants.{Idle, Offering}
+use Rattle.vd_ring.specs.declared.driver.DriverNow.TheVariants.{Idle, Offering, Checking}
 use Rattle.vd_ring.specs.declared.driver.DriverView.{DriverView}
 use Rattle.vd_ring.specs.declared.device.DeviceDone.{DeviceDone}
 use Rattle.vd_ring.specs.declared.device.DeviceNow.{DeviceNow}
@@ -22,6 +22,7 @@ use Rattle.vd_ring.specs.Frames.{lent}
 use Rattle.vd_ring.specs.History.{offers, takes, gives, free, head, next_head, chain, used_at, entry}
 use Rattle.vd_ring.specs.Places.{Places}
 use Rattle.vd_ring.specs.Lists.{Lists}
+use Rattle.vd_ring.specs.Signals.{Signals, check, moves, publishes as publishes_range}
 use Rattle.vd_ring.proofs.HeldPlaces.{offer_places, chain_before}
 use Rattle.vd_ring.proofs.HeldInside.{next_low}
 use Rattle.vd_ring.proofs.ListSteps.{lists_offered, given_below}
@@ -30,20 +31,20 @@ use Rattle.vd_packed_ring.specs.PackedWords.{used_word, IsLawful, IsBuilt, width
 use Rattle.vd_packed_ring.specs.PackedChains.{staged_pieces, Descriptor, blank, avail_word, direct, described, staged, publishing, reading, staged_chain}
 use Rattle.vd_packed_ring.specs.PackedPositions.{opos, cpos, tpos, upos, made_at, mark_at, stands, second_at, marks}
 use Rattle.vd_packed_ring.specs.PackedDriver.{CanOffer, Begins, Publishes, plan, stores, driver_offers}
-use Rattle.vd_packed_ring.specs.PackedRing.{Words, Ring, Row, IsClear, Stages, puts_of, Loads, DeviceDoing}
+use Rattle.vd_packed_ring.specs.PackedRing.{Words, Ring, Row, IsClear, Stages, puts_of, Loads, DeviceDoing, chains_out, chains_in, entries_out, entries_in}
 use Rattle.vd_packed_ring.proofs.Areas.{areas, second_low, driver_second}
 use Rattle.vd_packed_ring.proofs.Plans.{IsStored, IsWithin, IsNext, is_next, Stands, all_are, staged_stored, staged_before, stand_other, described_stand, staged_all, within_from, within_apart, publishing_within, publishing_apart}
 use Rattle.vd_packed_ring.proofs.Rows.{turned, row_staged, row_published}
 use Rattle.vd_packed_ring.proofs.Spelled.{needs_pieces, lent_one, table_stands, publishing_is, staged_is, length_direct, staged_back}
-use Rattle.vd_packed_ring.proofs.Positions.{order, free_some, opos_offered, cpos_offered, upos_is}
+use Rattle.vd_packed_ring.proofs.Positions.{needs_some, order, free_some, opos_offered, cpos_offered, upos_is}
 use Rattle.vd_packed_ring.proofs.Made.{made_before, made_new, IsMark, marks_are, marks_same, mark_past}
 use Rattle.vd_packed_ring.proofs.Clear.{plan_is, room_pieces, stored_words, signals_elsewhere}
 
 -- ---- a store before the last
 
-pub describes : (ws : List ℕ) (d : DriverView) (e : DeviceView) (now : DriverNow) (puts : List Put) (p x : ℕ) → Ring ws (record d { doing = now }) e → puts_of now ≡ puts → Stand ws puts → Begins d.frame d.done (puts ++ put p x ∷ [])
+pub describes : (ws : List ℕ) (d : DriverView) (e : DeviceView) (now : DriverNow) (puts : List Put) (p x : ℕ) → Ring ws (record d { doing = now }) e → puts_of now ≡ puts → d.armed ≡ None → Signals (chains_out (record d { doing = Idle })) (chains_in e) → Stand ws puts → Begins d.frame d.done (puts ++ put p x ∷ [])
     → Ring (slice_set ws p x) (stores d p x (Offering (puts ++ put p x ∷ []))) e × (p < 2 * d.frame.size) × (p ≢ second_word d.frame.size (opos d.frame d.done))
-describes ws d e now puts p x r are stand n =
+describes ws d e now puts p x r are unarmed kicks stand n =
     let f : Frame = d.frame in let o : List DriverDone = d.done in let c : List Piece = n.chain in let k : ℕ = length puts in
     let ds : List Descriptor = direct (next_head f o) c in
     let pl : List Put = staged f.size (opos f o) ds in
@@ -82,6 +83,10 @@ describes ws d e now puts p x r are stand n =
           stand = All-append (Stands us) puts (put p x ∷ []) (stand_other ws puts p x stand apart) (All-cons (Stands us) (put p x) [] (get_or-set_same ws p x 0 (omega (arith, areas f))) (All-nil (Stands us)));
         };
         device_doing = r.device_doing;
+        kicks = kicks;
+        calls = moves (entries_out e) (entries_in (record d { doing = now })) (cpos f o) false unarmed r.calls;
+        driver_armed = unarmed;
+        device_armed = r.device_armed;
         driver_seen = r.driver_seen;
         device_seen = r.device_seen;
         driver_shown = r.driver_shown;
@@ -131,10 +136,11 @@ loads_offered f o c k q ws pl l =
     }
 
 doing_offered : (now : DeviceNow) (f : Frame) (o : List DriverDone) (c : List Piece) (s : List DeviceDone) → Places f o → DeviceDoing now f o s → DeviceDoing now f (Offer c ∷ o) s
-doing_offered device.Idle f o c s pl h = tt
 doing_offered (device.Taking (w ∷ ws)) f o c s pl h = loads_offered f o c (length (takes s)) (tpos f s) (w ∷ ws) pl h
 doing_offered (device.Taking []) f o c s pl h = absurd h
-doing_offered _ f o c s pl h = absurd h
+doing_offered (device.Giving ws) f o c s pl h = absurd h
+doing_offered device.Resting f o c s pl h = h
+doing_offered _ f o c s pl h = tt
 
 -- what was staged is the chain
 pub staged_is_chain : (f : Frame) (o : List DriverDone) (c : List Piece) (puts : List Put) (x : ℕ) → IsLawful f → IsBuilt f → CanOffer f o c → puts ≡ plan f o c → x ≡ (publishing f.size (opos f o) (direct (next_head f o) c)).word → staged_chain f (words_of puts) x ≡ c
@@ -206,6 +212,8 @@ publishes ws d e puts p x r h =
     let words : Words f us st e.stored = subst (λ (i : ℕ). Words f (slice_set ws i x) (slice_set d.stored i x) e.stored) (sym place) (driver_second f ws d.stored e.stored q0 x r.lawful.least r.words) in
     let each = λ (j : ℕ) (a : j < length c). described_stand us n q0 ds j (let y : j < length ds = omega arith in y) there in
     let fits = h.can.fits in
+    let some : 1 ≤ needs f.features c = needs_some f c fits in
+    let grown : opos f (Offer c ∷ o) ≡ q0 + needs f.features c = opos_offered f o c in
     let lent_le : lent f c ≤ length (free f o) = omega (arith, lent_one f c r.lawful, free_some f o c r.lawful r.places fits h.can.room) in
     let lists2 = lists_offered f o c s r.places r.lists in
     let is_chain : staged_chain f (words_of puts) x ≡ c = staged_is_chain f o c puts x r.lawful r.built h.can h.whole word in
@@ -218,7 +226,7 @@ publishes ws d e puts p x r h =
     (λ q a. second_offered f o c s q r.built r.places r.lists a)
     (λ j a. (each j a).1 ∙ sym (second_new f o c s j r.built lists2 (omega (arith, ord.given, ord.taken))))
     (subst (λ (l : List Put). Row n 1 us q0 l (second_at f o s)) all (row_staged n 1 ws q0 puts (second_at f o s) p x r.seconds)) in (
-      subst (λ (cs : List Piece). Ring us (record d { done = Offer cs ∷ o; stored = st; doing = Idle }) e) (sym is_chain) record {
+      subst (λ (cs : List Piece). Ring us (record d { done = Offer cs ∷ o; stored = st; doing = Checking q0 (opos f (Offer cs ∷ o)) }) e) (sym is_chain) record {
         same = r.same;
         lawful = r.lawful;
         built = r.built;
@@ -237,6 +245,11 @@ publishes ws d e puts p x r h =
         acks = acks_offered f (ack_word f) o c s e.stored r.places r.lists r.acks;
         driver_doing = tt;
         device_doing = doing_offered e.doing f o c s r.places r.device_doing;
+        kicks = subst (λ (n : ℕ). Signals (record { published = opos f (Offer c ∷ o); owed = check q0 (opos f (Offer c ∷ o)); bells = d.bells; ranges = n }) (chains_in e)) (sym (length_push (offers o) c))
+            (publishes_range (chains_out (record d { doing = Offering puts })) (chains_in e) (opos f (Offer c ∷ o)) (omega (arith, grown, some)) refl r.kicks);
+        calls = moves (entries_out e) (entries_in (record d { doing = Offering puts })) (cpos f (Offer c ∷ o)) false r.driver_armed r.calls;
+        driver_armed = (r.driver_armed, record { some = omega (arith, grown, some); near = omega (arith, grown, fits.size) });
+        device_armed = r.device_armed;
         driver_seen = r.driver_seen;
         device_seen = omega (arith, r.device_seen, opos_offered f o c);
         driver_shown = λ a. omega (arith, r.driver_shown a, cpos_offered f o c r.places);

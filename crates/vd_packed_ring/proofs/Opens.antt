@@ -4,6 +4,7 @@ use Rattle.std.proofs.lemmas.List.{length-replicate, get_or-replicate}
 use Rattle.std.proofs.lemmas.List.Elements.{All-nil}
 use Rattle.vd_ring.specs.declared.frame.Frame.{Frame}
 use Rattle.vd_ring.specs.Frames.{Fits}
+use Rattle.vd_ring.specs.Signals.{opens as signals_open}
 use Rattle.vd_ring.proofs.Counts.{one_above, length_upto, occurs_upto}
 use Rattle.vd_packed_ring.specs.PackedWords.{IsLawful, IsBuilt, width, kick_at, call_at, command_word, ack_word, driver_event, device_event}
 use Rattle.vd_packed_ring.specs.PackedLaws.{IsFresh}
@@ -50,8 +51,8 @@ opens f l b =
         in_order = λ on j a. absurd (omega arith);
       };
       short = All-nil (λ u. u.len < 4294967296);
-      driver_signals = record { flags = λ off. omega (arith, zeros n (driver_event f) (omega (arith, areas f))); names = λ on. inl (zeros n (driver_event f) (omega (arith, areas f))); enable = λ s a off. absurd cc; event = λ s a on. absurd cc; bell = zeros n (kick_at f) (omega arith) };
-      device_signals = record { flags = λ off. omega (arith, zeros n (device_event f) (omega (arith, areas f))); names = λ on. inl (zeros n (device_event f) (omega (arith, areas f))); enable = λ s a off. absurd cc; event = λ s a on. absurd cc; bell = zeros n (call_at f) (omega arith) };
+      driver_signals = record { flags = λ off. inl (zeros n (driver_event f) (omega (arith, areas f))); names = λ on. inl (zeros n (driver_event f) (omega (arith, areas f))); enable = λ s a off. absurd cc; event = λ s a on. absurd cc; bell = zeros n (kick_at f) (omega arith) };
+      device_signals = record { flags = λ off. inl (zeros n (device_event f) (omega (arith, areas f))); names = λ on. inl (zeros n (device_event f) (omega (arith, areas f))); enable = λ s a off. absurd cc; event = λ s a on. absurd cc; bell = zeros n (call_at f) (omega arith) };
       commands = record {
         chains = λ on k a. absurd (omega arith);
         last = λ on h i low two. zeros n (command_word f h + i) (drivers_inside f (command_word f h + i) (command_drivers f h i on low two));
@@ -66,6 +67,10 @@ opens f l b =
       };
       driver_doing = tt;
       device_doing = tt;
+      kicks = signals_open;
+      calls = signals_open;
+      driver_armed = tt;
+      device_armed = tt;
       driver_seen = omega arith;
       device_seen = omega arith;
       driver_shown = λ h. absurd cc;

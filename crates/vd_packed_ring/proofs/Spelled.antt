@@ -9,8 +9,8 @@ use Rattle.vd_ring.specs.declared.frame.Frame.{Frame}
 use Rattle.vd_ring.specs.declared.frame.Put.{Put}
 use Rattle.vd_ring.specs.Frames.{lent}
 use Rattle.vd_packed_ring.specs.PackedWords.{table_of, IsLawful, IsBuilt, addr_word, second_word, put, words_of, goes_on, is_write, names_table, Stand}
-use Rattle.vd_packed_ring.specs.PackedChains.{Descriptor, blank, avail_word, more, flags, direct, is_tabled, pointer, descriptors, tabled, table, staged, described, publishing, loaded, spelling, reading, piece_of, pieces_of, pieces_in, ends, following, has_table, table_words, loaded_head, is_whole, chain_of, cursor, staged_pieces, staged_chain}
-use Rattle.vd_packed_ring.proofs.WordFacts.{Fits, bit, write_bit, avail_len, avail_flags}
+use Rattle.vd_packed_ring.specs.PackedChains.{Descriptor, blank, avail_word, more, flags, direct, is_tabled, pointer, descriptors, tabled, table, staged, described, publishing, loaded, spelling, reading, piece_of, pieces_of, pieces_in, ends, following, has_table, table_words, first_id, last_id, loaded_head, is_whole, chain_of, cursor, staged_pieces, staged_chain}
+use Rattle.vd_packed_ring.proofs.WordFacts.{Fits, bit, write_bit, avail_len, avail_flags, avail_id}
 use Rattle.vd_packed_ring.proofs.Plans.{Stands}
 
 -- ---- without INDIRECT_DESC
@@ -55,7 +55,10 @@ pub chain_is : (f : Frame) (ws : List ℕ) → IsBuilt f → chain_of f ws ≡ p
 chain_is f ws b = ap (λ (i : Bool). if i then pieces_of (drop 2 ws) else pieces_in ws) (no_table f ws b)
 
 pub cursor_is : (f : Frame) (q : ℕ) (ws : List ℕ) → IsBuilt f → cursor f q ws ≡ following f.size q ws
-cursor_is f q ws b = ap (λ (i : Bool). if i then table_of f (loaded_head ws) + (length ws - 2) else following f.size q ws) (no_table f ws b)
+cursor_is f q ws b = ap (λ (i : Bool). if i then table_of f (first_id ws) + (length ws - 2) else following f.size q ws) (no_table f ws b)
+
+pub head_is : (f : Frame) (ws : List ℕ) → IsBuilt f → loaded_head f ws ≡ last_id ws
+head_is f ws b = ap (λ (i : Bool). if i then first_id ws else last_id ws) (no_table f ws b)
 
 pub staged_is : (f : Frame) (ws : List ℕ) (w : ℕ) → IsBuilt f → staged_chain f ws w ≡ staged_pieces ws w
 staged_is f ws w b = ap (λ (i : Bool). if i && names_table w then pieces_of (take (length ws - 1) ws) else staged_pieces ws w) b.direct
@@ -144,6 +147,12 @@ pub whole : (n q id : ℕ) (c : List Piece) → id < 65536 → All IsPiece c →
 whole n q id [] low is h = absurd (omega arith)
 whole n q id (x ∷ []) low is h = ap not (reads n q id x [] low (All-head IsPiece x [] is)).0
 whole n q id (x ∷ y ∷ c) low is h = whole n (q + 1) id (y ∷ c) low (All-tail IsPiece x (y ∷ c) is) (omega arith)
+
+-- the last second word has the chain's id
+pub last_back : (n q id : ℕ) (c : List Piece) → id < 65536 → All IsPiece c → 0 < length c → last_id (words_of (loaded n q (direct id c))) ≡ id
+last_back n q id [] low is h = absurd (omega arith)
+last_back n q id (x ∷ []) low is h = avail_id n q (one id x []) (one_fits id x [] low (All-head IsPiece x [] is))
+last_back n q id (x ∷ y ∷ c) low is h = last_back n (q + 1) id (y ∷ c) low (All-tail IsPiece x (y ∷ c) is) (omega arith)
 
 -- the words loaded so far tell where the next stands
 pub following_at : (n q : ℕ) (ds : List Descriptor) (k : ℕ) → k < length (loaded n q ds) → following n q (words_of (take k (loaded n q ds))) ≡ (slice_index_or (loaded n q ds) k (put 0 0)).place

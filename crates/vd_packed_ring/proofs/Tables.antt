@@ -10,9 +10,9 @@ use Rattle.vd_model.specs.Chains.{IsPiece, needs}
 use Rattle.vd_ring.specs.declared.frame.Frame.{Frame}
 use Rattle.vd_ring.specs.declared.frame.Put.{Put}
 use Rattle.vd_packed_ring.specs.PackedWords.{wrap_bit, other_bit, table_of, addr_word, second_word, packed_word, put, words_of, len_of, id_of, flags_of, names_table, is_write}
-use Rattle.vd_packed_ring.specs.PackedChains.{Descriptor, blank, avail_word, more, flags, direct, is_tabled, pointer, descriptors, tabled, table, staged, publishing, loaded, spelling, reading, piece_of, pieces_of, pieces_in, ends, following, has_table, table_words, loaded_head, is_whole, chain_of, cursor, staged_pieces, staged_chain}
+use Rattle.vd_packed_ring.specs.PackedChains.{Descriptor, blank, avail_word, more, flags, direct, is_tabled, pointer, descriptors, tabled, table, staged, publishing, loaded, spelling, reading, piece_of, pieces_of, pieces_in, ends, following, has_table, table_words, first_id, last_id, loaded_head, is_whole, chain_of, cursor, staged_pieces, staged_chain}
 use Rattle.vd_packed_ring.proofs.WordFacts.{Fits, len_back, flags_back, avail_len, avail_id}
-use Rattle.vd_packed_ring.proofs.Spelled.{direct_id, length_direct, direct_fits, staged_back, loaded_back, length_loaded, not_whole, whole, following_at}
+use Rattle.vd_packed_ring.proofs.Spelled.{direct_id, length_direct, direct_fits, staged_back, loaded_back, length_loaded, not_whole, whole, following_at, last_back}
 
 -- ---- which chains stand in tables
 
@@ -169,13 +169,15 @@ offer_back f q id c some few low ok = at (kind f c)
         ap₂ (λ (us : List ℕ) (x : ℕ). staged_chain f us x) words last
         ∙ (ap (λ (b : Bool). if b then pieces_of (take (length (words_of (staged f.size q ds)) - 1) (words_of (staged f.size q ds))) else staged_pieces (words_of (staged f.size q ds)) w) off ∙ staged_back f.size q id c some low ok)
 
--- ---- the order of a take: the words loaded so far tell where the next stands, the last completes the chain, and all spell it
+-- ---- the order of a take: the words loaded so far tell where the next stands, the last completes the chain, and all spell it and
+-- have its id
 
 pub record Reads (f : Frame) (q id : ℕ) (c : List Piece) (k : ℕ) : Type 0 where
   pub place : k < length (reading f q id c) → cursor f q (words_of (take k (reading f q id c))) ≡ (slice_index_or (reading f q id c) k (put 0 0)).place
   pub partial : k < length (reading f q id c) → is_whole f (words_of (take k (reading f q id c))) ≡ false
   pub whole : is_whole f (words_of (reading f q id c)) ≡ true
   pub spelled : chain_of f (words_of (reading f q id c)) ≡ c
+  pub is_head : loaded_head f (words_of (reading f q id c)) ≡ id
 
 abbrev has : Frame → List ℕ → Bool → Bool
 has f ws b = if b then length ws == 2 + table_words (slice_index ws 0) else ends ws
@@ -208,12 +210,13 @@ reads_direct f q id c k t h some low ok =
       place = λ left.
           let low2 : k < length R = omega (arith, ap (λ (l : List Put). length l) is) in
           ap (λ (l : List Put). cursor f q (words_of (take k l))) is
-          ∙ (ap (λ (b : Bool). if b then table_of f (loaded_head part) + (length part - 2) else following f.size q part) (no_table f q id c k h low ok) ∙ (following_at f.size q (direct id c) k low2 ∙ ap (λ (l : List Put). (slice_index_or l k (put 0 0)).place) (sym is)));
+          ∙ (ap (λ (b : Bool). if b then table_of f (first_id part) + (length part - 2) else following f.size q part) (no_table f q id c k h low ok) ∙ (following_at f.size q (direct id c) k low2 ∙ ap (λ (l : List Put). (slice_index_or l k (put 0 0)).place) (sym is)));
       partial = λ left.
           let low2 : k < 2 * length c = omega (arith, ap (λ (l : List Put). length l) is) in
           ap (λ (l : List Put). is_whole f (words_of (take k l))) is ∙ (ap (has f part) (no_table f q id c k h low ok) ∙ not_whole f.size q id c k low ok low2);
       whole = ap (λ (l : List Put). is_whole f (words_of l)) is ∙ (ap (has f (words_of R)) none ∙ whole f.size q id c low ok some);
       spelled = ap (λ (l : List Put). chain_of f (words_of l)) is ∙ (ap (λ (b : Bool). if b then pieces_of (drop 2 (words_of R)) else pieces_in (words_of R)) none ∙ loaded_back f.size q id c low ok);
+      is_head = ap (λ (l : List Put). loaded_head f (words_of l)) is ∙ (ap (λ (b : Bool). if b then first_id (words_of R) else last_id (words_of R)) none ∙ last_back f.size q id c low ok some);
     }
 
 -- by a table: the first word names it
@@ -230,7 +233,7 @@ place_at f q id c (suc (suc j)) says h is_id =
     let ws : List ℕ = words_of (take (suc (suc j)) (all_of f q id c)) in
     let T : List Put = tabled (table_of f id) c in
     let count : length (words_of (take j T)) ≡ j = length-map (take j T) (λ (p : Put). p.word) ∙ length-take-le j T (omega arith) in
-    ap (λ (b : Bool). if b then table_of f (loaded_head ws) + (length ws - 2) else following f.size q ws) says
+    ap (λ (b : Bool). if b then table_of f (first_id ws) + (length ws - 2) else following f.size q ws) says
     ∙ (ap (λ (i : ℕ). table_of f i + (length ws - 2)) is_id ∙ omega (arith, count, tabled_place (table_of f id) c j (omega arith)))
 
 partial_at : (f : Frame) (q id : ℕ) (c : List Piece) (k : ℕ) → (f.features.indirect && names_table (first_of f q id c)) ≡ true → table_words (first_of f q id c) ≡ 2 * length c → k < length (all_of f q id c) → is_whole f (words_of (take k (all_of f q id c))) ≡ false
@@ -259,6 +262,7 @@ reads_tabled f q id c k t on few low ok =
       partial = λ left. ap (λ (l : List Put). is_whole f (words_of (take k l))) is ∙ partial_at f q id c k says names.1 (omega (arith, ap (λ (l : List Put). length l) is));
       whole = ap (λ (l : List Put). is_whole f (words_of l)) is ∙ (ap (has f (words_of R)) says ∙ eq-eqb _ _ (omega (arith, names.1)));
       spelled = ap (λ (l : List Put). chain_of f (words_of l)) is ∙ (ap (λ (b : Bool). if b then pieces_of (drop 2 (words_of R)) else pieces_in (words_of R)) says ∙ tabled_back (table_of f id) c ok);
+      is_head = ap (λ (l : List Put). loaded_head f (words_of l)) is ∙ (ap (λ (b : Bool). if b then first_id (words_of R) else last_id (words_of R)) says ∙ avail_id f.size q (pointer f id c) fits);
     }
 
 pub reads : (f : Frame) (q id : ℕ) (c : List Piece) (k : ℕ) → 0 < length c → length c ≤ 16 → id < 65536 → All IsPiece c → Reads f q id c k

@@ -1,5 +1,5 @@
 -- The loads of a take keep the ring invariant, and find the next chain exactly where there is one.
-use Rattle.std.proofs.Common.{◌≡◌, ℕ, ◌+◌, ◌<◌, ◌≤◌, Bool, true, false, List, [], ◌∷◌, ◌++◌, length, take, if◌then◌else◌, slice_index, slice_index_or, refl, sym, ap, ◌∙◌, subst, arith, inl, inr}
+use Rattle.std.proofs.Common.{◌≡◌, ℕ, ◌+◌, ◌<◌, ◌≤◌, Bool, true, false, List, [], ◌∷◌, ◌++◌, length, take, if◌then◌else◌, slice_index, slice_index_or, None, refl, sym, ap, ◌∙◌, subst, arith, inl, inr}
 use Rattle.std.specs.List.{All}
 use Rattle.std.proofs.lemmas.Bool.{cases_lt}
 use Rattle.std.proofs.lemmas.List.{length_push}
@@ -15,14 +15,16 @@ use Rattle.vd_ring.specs.declared.device.DeviceDone.TheVariants.{Take}
 use Rattle.vd_ring.specs.declared.device.DeviceNow.TheVariants.{Idle, Taking}
 use Rattle.vd_ring.specs.declared.device.DeviceView.{DeviceView}
 use Rattle.vd_ring.specs.Frames.{limit}
+use Rattle.vd_ring.specs.Signals.{Signals, nothing, moves}
+use Rattle.vd_ring.specs.Sleep.{gives_made}
 use Rattle.vd_ring.specs.History.{offers, takes, head, chain}
 use Rattle.vd_ring.proofs.DeviceLists.{lists_taken}
 use Rattle.vd_ring.proofs.DeviceAcks.{acks_taken}
 use Rattle.vd_packed_ring.specs.PackedWords.{second_word, put, words_of, is_available, Stand, ack_word}
 use Rattle.vd_packed_ring.specs.PackedChains.{Descriptor, direct, loaded, reading, following, loaded_head, chain_of, cursor}
-use Rattle.vd_packed_ring.specs.PackedPositions.{opos, tpos, second_at, later}
+use Rattle.vd_packed_ring.specs.PackedPositions.{opos, tpos, upos, second_at, later}
 use Rattle.vd_packed_ring.specs.PackedDevice.{ShowsSeen, BeginsChain, device_looks, device_takes, device_loads}
-use Rattle.vd_packed_ring.specs.PackedRing.{puts_of, Ring, Loads}
+use Rattle.vd_packed_ring.specs.PackedRing.{puts_of, Ring, Loads, chains_out, chains_in, entries_in}
 use Rattle.vd_packed_ring.proofs.Rows.{row_same}
 use Rattle.vd_packed_ring.proofs.Spelled.{reading_is, cursor_is, length_direct, following_at, words_more}
 use Rattle.vd_packed_ring.proofs.Positions.{order, upos_is, later_second, later_within}
@@ -53,74 +55,110 @@ pub shows_next : (ws : List ℕ) (d : DriverView) (e : DeviceView) → Ring ws d
 shows_next ws d e r more =
     let f : Frame = d.frame in let k : ℕ = length (takes e.done) in
     let a = ahead ws d e r more in
-    (first_word f.size (tpos f e.done) (head f d.done k) (chain d.done k) (slice_index ws (second_word f.size (tpos f e.done)) ∷ []) a.small a.fits.chain.3 a.fits.chain.0 (omega arith) (next_word ws d e r more)).1
+    first_word f.size (tpos f e.done) (head f d.done k) (chain d.done k) (slice_index ws (second_word f.size (tpos f e.done)) ∷ []) a.small a.fits.chain.3 a.fits.chain.0 (omega arith) (next_word ws d e r more)
 
 abbrev pub LookTells : DriverView → DeviceView → ℕ → Type 0
 LookTells d e w =
     (is_available d.frame.size (tpos d.frame e.done) w ≡ true → (length (takes e.done) < limit d.frame) × BeginsChain d.frame e.done (w ∷ []))
     × ShowsSeen (record e { frame = d.frame }) w
 
-pub looks : (ws : List ℕ) (d : DriverView) (e : DeviceView) (w : ℕ) → Ring ws d (record e { frame = d.frame; doing = Idle }) → w ≡ slice_index ws (second_word d.frame.size (tpos d.frame e.done)) → Ring ws d (device_looks (record e { frame = d.frame; doing = Idle }) w) × LookTells d e w
-looks ws d e w r is =
+-- what a look tells, in whatever operation
+pub look_tells : (ws : List ℕ) (d : DriverView) (e : DeviceView) (w : ℕ) → Ring ws d (record e { frame = d.frame }) → w ≡ slice_index ws (second_word d.frame.size (tpos d.frame e.done)) → LookTells d e w
+look_tells ws d e w r is =
     let f : Frame = d.frame in let o : List DriverDone = d.done in let s : List DeviceDone = e.done in
-    let E : DeviceView = record e { frame = d.frame; doing = Idle } in
-    let saw : DeviceView = record E { seen = later e.seen (tpos f s + 1); shown = true; doing = Taking (w ∷ []) } in
-    let not_saw : DeviceView = record E { seen = later e.seen (tpos f s); shown = false } in
-    let ord = order f o s r.places r.lists in
+    let E : DeviceView = record e { frame = d.frame } in
     elim (cases_lt (length (takes s)) (length (offers o))) [
       | inl more ↦ (
           let a = ahead ws d E r more in
           let one : w ∷ [] ≡ words_of (take 1 (next_words f o s)) = ap (λ (x : ℕ). x ∷ []) is ∙ next_word ws d E r more in
           let shows : is_available f.size (tpos f s) w ≡ true = ap (is_available f.size (tpos f s)) is ∙ shows_next ws d E r more in
-          let read : reading f (tpos f s) (head f o (length (takes s))) (chain o (length (takes s))) ≡ next_words f o s = reading_is f (tpos f s) (head f o (length (takes s))) (chain o (length (takes s))) r.built in
-          let b = begins ws d E (w ∷ []) r more (omega arith) one (omega (arith, a.long)) in (
-            subst (λ (t : Bool). Ring ws d (if t then saw else not_saw)) (sym shows) (ring_with ws ws d E saw r record {
-              same = refl;
-              words = r.words;
-              seconds = r.seconds;
-              lists = r.lists;
-              short = r.short;
-              signals = r.device_signals;
-              acks = r.acks;
-              driver_doing = r.driver_doing;
-              device_doing = record {
-                more = more;
-                words = one ∙ ap (λ (l : List Put). words_of (take 1 l)) (sym read);
-                left = omega (arith, a.long, ap (λ (l : List Put). length l) read);
-              };
-              driver_seen = r.driver_seen;
-              device_seen = later_within _ _ _ r.device_seen a.fewer;
-              device_shown = λ h. omega (arith, later_second e.seen (tpos f s + 1));
-              rested = r.rested;
-            }),
-            (λ on. (omega (arith, r.places.limited), b.0), (λ h. shows, λ h. shows)),
-          )
+          (λ on. (omega (arith, r.places.limited), begins ws d E (w ∷ []) r more (omega arith) one (omega (arith, a.long))), (λ h. shows, λ h. shows))
           )
       | inr none ↦ (
           let no = none_shows ws d E r none in
           let off : is_available f.size (tpos f s) w ≡ false = ap (is_available f.size (tpos f s)) is ∙ no.1 in (
-            subst (λ (t : Bool). Ring ws d (if t then saw else not_saw)) (sym off) (ring_with ws ws d E not_saw r record {
-              same = refl;
-              words = r.words;
-              seconds = r.seconds;
-              lists = r.lists;
-              short = r.short;
-              signals = r.device_signals;
-              acks = r.acks;
-              driver_doing = r.driver_doing;
-              device_doing = tt;
-              driver_seen = r.driver_seen;
-              device_seen = later_within _ _ _ r.device_seen ord.taken;
-              device_shown = λ h. absurd cc;
-              rested = r.rested;
-            }),
-            (
-              λ on. absurd (let x : false ≡ true = sym off ∙ on in cc),
-              (λ h. absurd (omega (arith, r.device_shown h, r.device_seen, no.0)), λ h. absurd (omega (arith, r.device_seen, no.0))),
-            ),
+            λ on. absurd (let x : false ≡ true = sym off ∙ on in cc),
+            (λ h. absurd (omega (arith, r.device_shown h, r.device_seen, no.0)), λ h. absurd (omega (arith, r.device_seen, no.0))),
           )
           )
     ]
+
+-- a look shows a chain exactly where one offered is not taken
+pub record Finds (d : DriverView) (e : DeviceView) (w : ℕ) : Type 0 where
+  pub some : is_available d.frame.size (tpos d.frame e.done) w ≡ true → (length (takes e.done) < length (offers d.done)) × (tpos d.frame e.done + 1 ≤ opos d.frame d.done)
+  pub none : is_available d.frame.size (tpos d.frame e.done) w ≡ false → tpos d.frame e.done ≡ opos d.frame d.done
+
+pub finds : (ws : List ℕ) (d : DriverView) (e : DeviceView) (w : ℕ) → Ring ws d (record e { frame = d.frame }) → w ≡ slice_index ws (second_word d.frame.size (tpos d.frame e.done)) → Finds d e w
+finds ws d e w r is =
+    let f : Frame = d.frame in let E : DeviceView = record e { frame = d.frame } in
+    elim (cases_lt (length (takes e.done)) (length (offers d.done))) [
+      | inl more ↦ (
+          let shows : is_available f.size (tpos f e.done) w ≡ true = ap (is_available f.size (tpos f e.done)) is ∙ shows_next ws d E r more in
+          record { some = λ on. (more, (ahead ws d E r more).fewer); none = λ off. absurd (let x : false ≡ true = sym off ∙ shows in cc) }
+          )
+      | inr none ↦ (
+          let no = none_shows ws d E r none in
+          let hides : is_available f.size (tpos f e.done) w ≡ false = ap (is_available f.size (tpos f e.done)) is ∙ no.1 in
+          record { some = λ on. absurd (let x : false ≡ true = sym hides ∙ on in cc); none = λ off. no.0 }
+          )
+    ]
+
+looks_at : (ws : List ℕ) (d : DriverView) (e : DeviceView) (w : ℕ) (b : Bool) → Ring ws d (record e { frame = d.frame; doing = Idle }) → e.armed ≡ None → w ≡ slice_index ws (second_word d.frame.size (tpos d.frame e.done)) → is_available d.frame.size (tpos d.frame e.done) w ≡ b
+    → Ring ws d (if b then record e { frame = d.frame; seen = later e.seen (tpos d.frame e.done + 1); shown = true; doing = Taking (w ∷ []) } else record e { frame = d.frame; seen = later e.seen (tpos d.frame e.done); shown = false; doing = Idle })
+looks_at ws d e w true r unarmed is on =
+    let f : Frame = d.frame in let o : List DriverDone = d.done in let s : List DeviceDone = e.done in
+    let E : DeviceView = record e { frame = d.frame; doing = Idle } in
+    let more = ((finds ws d E w r is).some on).0 in
+    let a = ahead ws d E r more in
+    let one : w ∷ [] ≡ words_of (take 1 (next_words f o s)) = ap (λ (x : ℕ). x ∷ []) is ∙ next_word ws d E r more in
+    let read : reading f (tpos f s) (head f o (length (takes s))) (chain o (length (takes s))) ≡ next_words f o s = reading_is f (tpos f s) (head f o (length (takes s))) (chain o (length (takes s))) r.built in
+    ring_with ws ws d E (record E { seen = later e.seen (tpos f s + 1); shown = true; doing = Taking (w ∷ []) }) r record {
+      same = refl;
+      words = r.words;
+      seconds = r.seconds;
+      lists = r.lists;
+      short = r.short;
+      signals = r.device_signals;
+      acks = r.acks;
+      driver_doing = r.driver_doing;
+      device_doing = record {
+        more = more;
+        words = one ∙ ap (λ (l : List Put). words_of (take 1 l)) (sym read);
+        left = omega (arith, a.long, ap (λ (l : List Put). length l) read);
+      };
+      kicks = moves (chains_out d) (chains_in E) (tpos f s) false unarmed r.kicks;
+      calls = r.calls;
+      armed = unarmed;
+      driver_seen = r.driver_seen;
+      device_seen = later_within _ _ _ r.device_seen a.fewer;
+      device_shown = λ h. omega (arith, later_second e.seen (tpos f s + 1));
+      rested = r.rested;
+    }
+looks_at ws d e w false r unarmed is off =
+    let f : Frame = d.frame in let s : List DeviceDone = e.done in
+    let E : DeviceView = record e { frame = d.frame; doing = Idle } in
+    let ord = order f d.done s r.places r.lists in
+    ring_with ws ws d E (record E { seen = later e.seen (tpos f s); shown = false }) r record {
+      same = refl;
+      words = r.words;
+      seconds = r.seconds;
+      lists = r.lists;
+      short = r.short;
+      signals = r.device_signals;
+      acks = r.acks;
+      driver_doing = r.driver_doing;
+      device_doing = tt;
+      kicks = r.kicks;
+      calls = r.calls;
+      armed = tt;
+      driver_seen = r.driver_seen;
+      device_seen = later_within _ _ _ r.device_seen ord.taken;
+      device_shown = λ h. absurd cc;
+      rested = r.rested;
+    }
+
+pub looks : (ws : List ℕ) (d : DriverView) (e : DeviceView) (w : ℕ) → Ring ws d (record e { frame = d.frame; doing = Idle }) → e.armed ≡ None → w ≡ slice_index ws (second_word d.frame.size (tpos d.frame e.done)) → Ring ws d (device_looks (record e { frame = d.frame; doing = Idle }) w)
+looks ws d e w r unarmed is = looks_at ws d e w (is_available d.frame.size (tpos d.frame e.done) w) r unarmed is refl
 
 -- ---- a further load
 
@@ -154,14 +192,15 @@ tpos_taken f s c h = sum_by_push (needs f.features) (takes s) c
 
 -- the last one
 takes_last : (ws : List ℕ) (d : DriverView) (e : DeviceView) (us us2 : List ℕ) → Ring ws d (record e { frame = d.frame; doing = Taking us }) → length (takes e.done) < length (offers d.done) → chain_of d.frame us2 ≡ chain d.done (length (takes e.done))
-    → loaded_head us2 ≡ head d.frame d.done (length (takes e.done)) → Ring ws d (device_takes (record e { frame = d.frame; doing = Taking us }) us2)
+    → loaded_head d.frame us2 ≡ head d.frame d.done (length (takes e.done)) → Ring ws d (device_takes (record e { frame = d.frame; doing = Taking us }) us2)
 takes_last ws d e us us2 r more is_chain is_head =
     let f : Frame = d.frame in let o : List DriverDone = d.done in let s : List DeviceDone = e.done in
     let k : ℕ = length (takes s) in let c : List Piece = chain o k in let h : ℕ = head f o k in
     let E : DeviceView = record e { frame = d.frame; doing = Taking us } in
     let s2 : List DeviceDone = Take c h ∷ s in
     let lists2 = lists_taken f o s h r.lists more refl in
-    subst (λ (cs : List Piece). Ring ws d (record E { done = Take cs (loaded_head us2) ∷ s; shown = false; doing = Idle })) (sym is_chain)
+    let same_upos : upos f s ≡ upos f s2 = upos_is f o s r.lists ∙ sym (upos_is f o s2 lists2) in
+    subst (λ (cs : List Piece). Ring ws d (record E { done = Take cs (loaded_head f us2) ∷ s; shown = false; doing = Idle })) (sym is_chain)
     (subst (λ (i : ℕ). Ring ws d (record E { done = Take c i ∷ s; shown = false; doing = Idle })) (sym is_head) (ring_with ws ws d E (record E { done = s2; shown = false; doing = Idle }) r record {
       same = refl;
       words = r.words;
@@ -172,7 +211,10 @@ takes_last ws d e us us2 r more is_chain is_head =
       acks = acks_taken f (ack_word f) o s c h e.stored r.acks;
       driver_doing = r.driver_doing;
       device_doing = tt;
-      driver_seen = omega (arith, r.driver_seen, upos_is f o s r.lists, upos_is f o s2 lists2);
+      kicks = moves (chains_out d) (chains_in E) (tpos f s2) true r.device_armed r.kicks;
+      calls = subst (λ (n : ℕ). Signals (record { published = n; owed = nothing; bells = e.bells; ranges = gives_made s }) (entries_in d)) same_upos r.calls;
+      armed = tt;
+      driver_seen = omega (arith, r.driver_seen, same_upos);
       device_seen = r.device_seen;
       device_shown = λ a. absurd cc;
       rested = tt;
@@ -208,6 +250,9 @@ loads ws d e w us p r at =
                 words = n.words ∙ ap (λ (m : List Put). words_of (take (length vs) m)) (sym read);
                 left = omega (arith, ap (λ (m : List Put). length m) read);
               };
+              kicks = r.kicks;
+              calls = r.calls;
+              armed = r.device_armed;
               driver_seen = r.driver_seen;
               device_seen = r.device_seen;
               device_shown = r.device_shown;
@@ -215,8 +260,8 @@ loads ws d e w us p r at =
             })
         | inr all ↦ (
             let done = whole_all f q h c vs r.built a.small ok a.fits.chain.0 n.words all in
-            subst (λ (t : Bool). Ring ws d (if t then device_takes E vs else record E { doing = Taking vs })) (sym done.0) (takes_last ws d e (w ∷ us) vs r l.more done.1 b.1)
+            subst (λ (t : Bool). Ring ws d (if t then device_takes E vs else record E { doing = Taking vs })) (sym done.0) (takes_last ws d e (w ∷ us) vs r l.more done.1 done.2)
             )
       ],
-      b.0,
+      b,
     )

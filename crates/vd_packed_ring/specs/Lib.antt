@@ -1,5 +1,6 @@
 pub mod PackedWords
 pub mod PackedChains
+pub mod PackedSignals
 pub mod PackedPositions
 pub mod PackedDriver
 pub mod PackedDevice

@@ -132,9 +132,20 @@ has_table f (w ∷ a ∷ ws) = f.features.indirect && names_table w
 abbrev pub table_words : ℕ → ℕ
 table_words w = 2 * (len_of w / 16)
 
--- the id in the first word of a take
-abbrev pub loaded_head : List ℕ → ℕ
-loaded_head ws = id_of (slice_index ws 0)
+-- the id in the first word of a take: that of a table's pointer
+abbrev pub first_id : List ℕ → ℕ
+first_id ws = id_of (slice_index ws 0)
+
+-- the id in the last second word
+abbrev pub last_id : List ℕ → ℕ
+last_id [] = 0
+last_id (w ∷ []) = id_of w
+last_id (w ∷ a ∷ []) = id_of w
+last_id (w ∷ a ∷ v ∷ ws) = last_id (v ∷ ws)
+
+-- the id of the chain that these words, in the order of a take, are: that of its last descriptor on the ring (VIRTIO 1.2, 2.8.6)
+abbrev pub loaded_head : Frame → List ℕ → ℕ
+loaded_head f ws = if has_table f ws then first_id ws else last_id ws
 
 -- these words, in the order of a take, are a whole chain's
 abbrev pub is_whole : Frame → List ℕ → Bool
@@ -146,7 +157,7 @@ chain_of f ws = if has_table f ws then pieces_of (drop 2 ws) else pieces_in ws
 
 -- where the word after these stands, of a chain at position q
 abbrev pub cursor : Frame → ℕ → List ℕ → ℕ
-cursor f q ws = if has_table f ws then table_of f (loaded_head ws) + (length ws - 2) else following f.size q ws
+cursor f q ws = if has_table f ws then table_of f (first_id ws) + (length ws - 2) else following f.size q ws
 
 -- the pieces of words in the order of an offer, of which the first second word is w
 abbrev pub staged_pieces : List ℕ → ℕ → List Piece

@@ -1,6 +1,6 @@
 -- The accesses of a packed ring's device: which may be made next, the view after one, what its answer tells, and what the end's step
 -- answers.
-use Rattle.std.specs.Prelude.{◌≡◌, ◌≢◌, ℕ, ◌+◌, ◌-◌, ◌/◌, ◌%◌, ◌<◌, ◌≤◌, true, false, List, [], ◌∷◌, ◌++◌, length, take, None, if◌then◌else◌, slice_index, slice_set}
+use Rattle.std.specs.Prelude.{◌≡◌, ◌≢◌, ℕ, ◌+◌, ◌-◌, ◌/◌, ◌%◌, ◌<◌, ◌≤◌, Bool, true, false, List, [], ◌∷◌, ◌++◌, length, take, None, Some, if◌then◌else◌, ◌==◌, slice_index, slice_set}
 use Rattle.std.specs.List.{Contains}
 use Rattle.vd_model.specs.declared.chain.Piece.{Piece}
 use Rattle.vd_model.specs.Chains.{needs}
@@ -15,14 +15,15 @@ use Rattle.vd_ring.specs.declared.frame.Frame.{Frame}
 use Rattle.vd_ring.specs.declared.device.DeviceDone.{DeviceDone}
 use Rattle.vd_ring.specs.declared.device.DeviceDone.TheVariants.{Take, Give, Rest, StoreAck, LoadCommand}
 use Rattle.vd_ring.specs.declared.device.DeviceNow.{DeviceNow}
-use Rattle.vd_ring.specs.declared.device.DeviceNow.TheVariants.{Idle, Taking}
+use Rattle.vd_ring.specs.declared.device.DeviceNow.TheVariants.{Idle, Taking, Checking, Ringing, Arming, Disarming, Resting}
 use Rattle.vd_ring.specs.declared.device.DeviceView.{DeviceView}
 use Rattle.vd_ring.specs.Frames.{Fits, limit}
 use Rattle.vd_ring.specs.Batches.{MayReturn}
 use Rattle.vd_ring.specs.History.{takes, gives, running, running_size, taken_head, with_head, given, last_used, IsWhole, chain_at}
 use Rattle.vd_ring.specs.Control.{IsControlChain, LoadsCommand, StoresAck}
-use Rattle.vd_packed_ring.specs.PackedWords.{IsDevices, IsDescriptors, commands_from, acks_from, command_word, ack_word, second_word, len_of, id_of, is_available, used_word, words_of}
+use Rattle.vd_packed_ring.specs.PackedWords.{IsDevices, IsDescriptors, driver_event, device_event, commands_from, acks_from, kick_at, call_at, command_word, ack_word, second_word, len_of, id_of, is_available, used_word, words_of}
 use Rattle.vd_packed_ring.specs.PackedChains.{reading, loaded_head, is_whole, chain_of, cursor}
+use Rattle.vd_packed_ring.specs.PackedSignals.{asks, IsArmed, StoresEvent, StoresDisable, StoresBell, LoadsBell}
 use Rattle.vd_packed_ring.specs.PackedPositions.{tpos, upos, later}
 
 -- ---- the conditions
@@ -42,18 +43,24 @@ pub record Returns (f : Frame) (s : List DeviceDone) (p x : ℕ) : Type 0 where
   pub place : p ≡ second_word f.size (upos f s)
   pub word : x ≡ used_word f.size (upos f s) (taken_head s number) len
 
--- the first access of a rest: no event word is stored yet, so it is its one look
-pub record BeginsRest (f : Frame) (s : List DeviceDone) (p : ℕ) : Type 0 where
-  pub whole : IsWhole s
-  pub place : p ≡ second_word f.size (tpos f s)
-
 -- ---- next
 
 abbrev pub DeviceNextAt : DeviceNow → DeviceView → Op → Access → Type 0
 DeviceNextAt Idle v op.Take (Load p) = (v.armed ≡ None) × (p ≡ second_word v.frame.size (tpos v.frame v.done))
 DeviceNextAt (Taking (w ∷ ws)) v op.Take (Load p) = LoadsChain v.frame (tpos v.frame v.done) (w ∷ ws) p
 DeviceNextAt Idle v op.Give (Store p x) = (v.armed ≡ None) × Returns v.frame v.done p x
-DeviceNextAt Idle v op.Rest (Load p) = BeginsRest v.frame v.done p
+DeviceNextAt (Checking old new) v op.Give (Load p) = p ≡ driver_event v.frame
+DeviceNextAt (Ringing old new) v op.Give (Store p x) = StoresBell (call_at v.frame) v.bells p x
+DeviceNextAt Idle v op.Arm (Store p x) = (v.armed ≡ None) × StoresEvent v.frame (device_event v.frame) (tpos v.frame v.done) p x
+DeviceNextAt Arming v op.Arm (Load p) = p ≡ second_word v.frame.size (tpos v.frame v.done)
+DeviceNextAt (Disarming o) v op.Arm (Store p x) = (o ≡ op.Arm) × StoresDisable v.frame (device_event v.frame) p x
+DeviceNextAt Idle v op.Hear (Load p) = IsArmed v.armed × (p ≡ kick_at v.frame)
+DeviceNextAt (Disarming o) v op.Hear (Store p x) = (o ≡ op.Hear) × StoresDisable v.frame (device_event v.frame) p x
+DeviceNextAt Idle v op.Disarm (Store p x) = IsArmed v.armed × StoresDisable v.frame (device_event v.frame) p x
+DeviceNextAt Idle v op.Disarm (Load p) = IsArmed v.armed × LoadsBell v.frame (kick_at v.frame) p
+DeviceNextAt Idle v op.Rest (Store p x) = IsWhole v.done × StoresDisable v.frame (device_event v.frame) p x
+DeviceNextAt Idle v op.Rest (Load p) = IsWhole v.done × LoadsBell v.frame (kick_at v.frame) p
+DeviceNextAt Resting v op.Rest (Load p) = p ≡ second_word v.frame.size (tpos v.frame v.done)
 DeviceNextAt Idle v op.Control (Load p) = LoadsCommand v.frame (command_word v.frame) v.done p
 DeviceNextAt Idle v op.Control (Store p x) = StoresAck v.frame (ack_word v.frame) v.done p
 DeviceNextAt _ _ _ _ = ⊥
@@ -64,9 +71,9 @@ DeviceNext v op a = DeviceNextAt v.doing v op a
 
 -- ---- after
 
--- the operation after the publishing store: no event word is loaded yet
+-- the operation after the publishing store of these positions: the event word is loaded next
 abbrev pub device_published : ℕ → ℕ → DeviceNow
-device_published old new = Idle
+device_published old new = Checking old new
 
 -- a chain that is seen has a descriptor at least. A position seen never goes back: after a rest a look is at an earlier one
 abbrev pub device_looks : DeviceView → ℕ → DeviceView
@@ -76,7 +83,7 @@ device_looks v r =
     else record v { seen = later v.seen (tpos v.frame v.done); shown = false }
 
 abbrev pub device_takes : DeviceView → List ℕ → DeviceView
-device_takes v ws = record v { done = Take (chain_of v.frame ws) (loaded_head ws) ∷ v.done; shown = false; doing = Idle }
+device_takes v ws = record v { done = Take (chain_of v.frame ws) (loaded_head v.frame ws) ∷ v.done; shown = false; doing = Idle }
 
 abbrev pub device_loads : DeviceView → List ℕ → DeviceView
 device_loads v ws = if is_whole v.frame ws then device_takes v ws else record v { doing = Taking ws }
@@ -87,13 +94,41 @@ device_gives v p x =
     let s : List DeviceDone = Give (given v.frame v.done (id_of x) (len_of x)) ∷ v.done in
     record v { done = s; stored = slice_set v.stored p x; doing = device_published (upos v.frame v.done) (upos v.frame s) }
 
+-- r is the word with the driver's event word
+abbrev pub device_checks : DeviceView → ℕ → ℕ → ℕ → DeviceView
+device_checks v old new r = record v { doing = if asks v.frame old new r then Ringing old new else Idle }
+
+abbrev pub device_stores : DeviceView → ℕ → ℕ → DeviceNow → DeviceView
+device_stores v p x doing = record v { stored = slice_set v.stored p x; doing = doing }
+
+abbrev pub device_rings : DeviceView → ℕ → ℕ → DeviceView
+device_rings v p x = record v { stored = slice_set v.stored p x; bells = v.bells + 1; doing = Idle }
+
+abbrev pub device_arms : DeviceView → ℕ → ℕ → DeviceView
+device_arms v p x = record v { stored = slice_set v.stored p x; armed = Some (tpos v.frame v.done); doing = Arming }
+
+-- the operation of a side that is no longer armed: without EVENT_IDX the disarming store is next
+abbrev pub device_wakes : Frame → Op → DeviceNow
+device_wakes f o = if f.features.event_idx then Idle else Disarming o
+
+-- the second look of an arming
+abbrev pub device_looks_again : DeviceView → ℕ → DeviceView
+device_looks_again v r =
+    if is_available v.frame.size (tpos v.frame v.done) r
+    then record v { seen = later v.seen (tpos v.frame v.done + 1); shown = true; armed = None; doing = device_wakes v.frame op.Arm }
+    else record v { seen = later v.seen (tpos v.frame v.done); shown = false; doing = Idle }
+
+-- r is the bell loaded
+abbrev pub device_hears : DeviceView → ℕ → DeviceView
+device_hears v r = if r == v.heard then v else record v { heard = r; armed = None; doing = device_wakes v.frame op.Hear }
+
 -- up to which position a look shows chains
 abbrev pub seen_to : DeviceView → ℕ → ℕ
 seen_to v r = if is_available v.frame.size (tpos v.frame v.done) r then tpos v.frame v.done + 1 else tpos v.frame v.done
 
--- its look is no look for a chain: what the last one showed stays
+-- its look is no look for a chain: what the last one showed stays, but no later look is before this one
 abbrev pub device_rests : DeviceView → ℕ → DeviceView
-device_rests v r = record v { done = Rest ∷ v.done; armed = None; seen = later v.seen (seen_to v r) }
+device_rests v r = record v { done = Rest ∷ v.done; seen = later v.seen (seen_to v r); doing = Idle }
 
 abbrev pub device_commands : DeviceView → ℕ → ℕ → DeviceView
 device_commands v p r =
@@ -106,7 +141,18 @@ abbrev pub device_after_at : DeviceNow → DeviceView → Op → Access → ℕ 
 device_after_at Idle v op.Take (Load p) r = device_looks v r
 device_after_at (Taking (w ∷ ws)) v op.Take (Load p) r = device_loads v (w ∷ ws ++ r ∷ [])
 device_after_at Idle v op.Give (Store p x) r = device_gives v p x
-device_after_at Idle v op.Rest (Load p) r = device_rests v r
+device_after_at (Checking old new) v op.Give (Load p) r = device_checks v old new r
+device_after_at (Ringing old new) v op.Give (Store p x) r = device_rings v p x
+device_after_at Idle v op.Arm (Store p x) r = device_arms v p x
+device_after_at Arming v op.Arm (Load p) r = device_looks_again v r
+device_after_at (Disarming o) v op.Arm (Store p x) r = device_stores v p x Idle
+device_after_at Idle v op.Hear (Load p) r = device_hears v r
+device_after_at (Disarming o) v op.Hear (Store p x) r = device_stores v p x Idle
+device_after_at Idle v op.Disarm (Store p x) r = record v { stored = slice_set v.stored p x; armed = None }
+device_after_at Idle v op.Disarm (Load p) r = record v { armed = None }
+device_after_at Idle v op.Rest (Store p x) r = record v { stored = slice_set v.stored p x; armed = None; doing = Resting }
+device_after_at Idle v op.Rest (Load p) r = record v { armed = None; doing = Resting }
+device_after_at Resting v op.Rest (Load p) r = device_rests v r
 device_after_at Idle v op.Control (Load p) r = device_commands v p r
 device_after_at Idle v op.Control (Store p x) r = device_acks v p x
 device_after_at _ v _ _ _ = v
@@ -117,23 +163,24 @@ device_after v op a r = device_after_at v.doing v op a r
 
 -- ---- tells
 
--- a loaded id is below the size, and the head of no chain taken and not given
+-- a loaded chain's id is below the size, and the head of no chain taken and not given
 pub record IsNewHead (f : Frame) (s : List DeviceDone) (h : ℕ) : Type 0 where
   pub inside : h < f.size
   pub apart : (k : ℕ) → Contains (running s) k → taken_head s k ≢ h
 
--- the loaded words are the first words of one chain at the next position, with the id in the first of them
+-- the loaded words are the first words of one chain with the id `head` at the next position
 pub record BeginsChain (f : Frame) (s : List DeviceDone) (ws : List ℕ) : Type 0 where
-  pub head : IsNewHead f s (loaded_head ws)
+  pub head : ℕ
+  pub is_new : IsNewHead f s head
   pub chain : List Piece
   -- it may stand on the ring
   pub fits : Fits f chain
   -- on a control ring it is a control chain of its head
-  pub control : f.control ≡ true → IsControlChain (command_word f (loaded_head ws)) (ack_word f (loaded_head ws)) chain
-  pub words : ws ≡ words_of (take (length ws) (reading f (tpos f s) (loaded_head ws) chain))
-  -- the last load completes it, and no other does
-  pub left : is_whole f ws ≡ false → length ws < length (reading f (tpos f s) (loaded_head ws) chain)
-  pub complete : is_whole f ws ≡ true → (length ws ≡ length (reading f (tpos f s) (loaded_head ws) chain)) × (chain_of f ws ≡ chain)
+  pub control : f.control ≡ true → IsControlChain (command_word f head) (ack_word f head) chain
+  pub words : ws ≡ words_of (take (length ws) (reading f (tpos f s) head chain))
+  -- the last load completes it, and no other does; then the last descriptor loaded has the id
+  pub left : is_whole f ws ≡ false → length ws < length (reading f (tpos f s) head chain)
+  pub complete : is_whole f ws ≡ true → (length ws ≡ length (reading f (tpos f s) head chain)) × (chain_of f ws ≡ chain) × (loaded_head f ws ≡ head)
   -- it and the chains taken and not given are no more descriptors than places
   pub room : running_size f s + needs f.features chain ≤ f.size
 
@@ -143,12 +190,17 @@ ShowsSeen v r =
     (v.shown ≡ true → is_available v.frame.size (tpos v.frame v.done) r ≡ true)
     × (tpos v.frame v.done < v.seen → is_available v.frame.size (tpos v.frame v.done) r ≡ true)
 
-abbrev pub DeviceTellsAt : DeviceNow → DeviceView → Op → Access → ℕ → Type 0
-DeviceTellsAt Idle v op.Take (Load p) r =
+-- a chain that a look shows may be taken
+abbrev pub ShowsChains : DeviceView → ℕ → Type 0
+ShowsChains v r =
     (is_available v.frame.size (tpos v.frame v.done) r ≡ true → (length (takes v.done) < limit v.frame) × BeginsChain v.frame v.done (r ∷ []))
     × ShowsSeen v r
+
+abbrev pub DeviceTellsAt : DeviceNow → DeviceView → Op → Access → ℕ → Type 0
+DeviceTellsAt Idle v op.Take (Load p) r = ShowsChains v r
+DeviceTellsAt Arming v op.Arm (Load p) r = ShowsChains v r
 DeviceTellsAt (Taking (w ∷ ws)) v op.Take (Load p) r = BeginsChain v.frame v.done (w ∷ ws ++ r ∷ [])
-DeviceTellsAt Idle v op.Rest (Load p) r = ShowsSeen v r
+DeviceTellsAt Resting v op.Rest (Load p) r = ShowsSeen v r
 DeviceTellsAt _ _ _ _ _ = Unit {0}
 
 -- a load of a word that only the device stores answers what it stored there last
@@ -162,14 +214,28 @@ DeviceTells v op a r = DeviceKnows v a r × DeviceTellsAt v.doing v op a r
 
 -- ---- the step's answer
 
+-- the word that a look loads shows a chain that is not taken
+abbrev pub device_shows : DeviceView → ℕ → Bool
+device_shows v r = is_available v.frame.size (tpos v.frame v.done) r
+
 abbrev pub take_act : DeviceView → List ℕ → DeviceAct
 take_act v ws = if is_whole v.frame ws then act.Taken (length (takes v.done)) (chain_of v.frame ws) else act.Moved
+
+-- without EVENT_IDX a side wakes with its disarming store
+abbrev pub woken_act : Frame → DeviceAct
+woken_act f = if f.features.event_idx then act.Awake else act.Moved
 
 abbrev pub device_act_at : DeviceNow → DeviceView → Op → Access → ℕ → DeviceAct
 device_act_at Idle v op.Take (Load p) r = if is_available v.frame.size (tpos v.frame v.done) r then act.Moved else act.Nothing
 device_act_at (Taking (w ∷ ws)) v op.Take (Load p) r = take_act v (w ∷ ws ++ r ∷ [])
 device_act_at Idle v op.Give (Store p x) r = act.Given (last_used (given v.frame v.done (id_of x) (len_of x))).number
-device_act_at Idle v op.Rest (Load p) r = act.Rested
+device_act_at Arming v op.Arm (Load p) r = if is_available v.frame.size (tpos v.frame v.done) r then woken_act v.frame else act.Armed
+device_act_at (Disarming o) v op.Arm (Store p x) r = act.Awake
+device_act_at Idle v op.Hear (Load p) r = if r == v.heard then act.Asleep else woken_act v.frame
+device_act_at (Disarming o) v op.Hear (Store p x) r = act.Awake
+device_act_at Idle v op.Disarm (Store p x) r = act.Awake
+device_act_at Idle v op.Disarm (Load p) r = act.Awake
+device_act_at Resting v op.Rest (Load p) r = act.Rested
 device_act_at _ v _ _ _ = act.Moved
 
 -- what the end's step answers, by the view before it

@@ -1,10 +1,9 @@
 -- What always holds of a packed ring whose words and views meet the invariant. Each is the contract of a function in src/laws.rt.
-use Rattle.std.specs.Prelude.{◌≡◌, ◌↔◌, ℕ, ◌+◌, ◌<◌, ◌≤◌, true, List, length, take, slice_index, replicate, nat_lt, if◌then◌else◌}
+use Rattle.std.specs.Prelude.{◌≡◌, ◌↔◌, ℕ, ◌+◌, ◌<◌, ◌≤◌, true, List, [], length, take, slice_index, replicate, nat_lt, if◌then◌else◌}
 use Rattle.std.specs.List.{Contains}
 use Rattle.vd_model.specs.Chains.{needs}
 use Rattle.vd_ring.specs.declared.frame.Frame.{Frame}
 use Rattle.vd_ring.specs.declared.driver.DriverDone.{DriverDone}
-use Rattle.vd_ring.specs.declared.driver.DriverNow.TheVariants.{Idle}
 use Rattle.vd_ring.specs.declared.driver.DriverView.{DriverView}
 use Rattle.vd_ring.specs.declared.device.DeviceDone.{DeviceDone}
 use Rattle.vd_ring.specs.declared.device.DeviceView.{DeviceView}
@@ -13,7 +12,7 @@ use Rattle.vd_ring.specs.Fresh.{fresh_driver, fresh_device}
 use Rattle.vd_ring.specs.History.{offers, collects, takes, gives, running, open_size, chain_at, numbers, occurs, used_at}
 use Rattle.vd_packed_ring.specs.PackedWords.{width, second_word, is_available, is_used}
 use Rattle.vd_packed_ring.specs.PackedPositions.{opos, cpos, tpos, upos}
-use Rattle.vd_packed_ring.specs.PackedRing.{Ring}
+use Rattle.vd_packed_ring.specs.PackedRing.{Ring, puts_of}
 
 -- words of 0 and the views of a fresh ring meet the invariant
 abbrev pub IsFresh : Frame → Type 0
@@ -45,12 +44,12 @@ pub record Agree (f : Frame) (o : List DriverDone) (s : List DeviceDone) : Type 
   pub device_counts : Counts f s
 
 -- the word that a look loads, and what it shows: a further entry exactly where one given is not collected, a further chain exactly
--- where one offered is not taken. A driver looks while no offer is in progress
+-- where one offered is not taken. A driver looks while it has staged nothing
 pub record LooksShow (ws : List ℕ) (d : DriverView) (e : DeviceView) : Type 0 where
-  pub driver : d.doing ≡ Idle → (is_used d.frame.size (cpos d.frame d.done) (slice_index ws (second_word d.frame.size (cpos d.frame d.done))) ≡ true) ↔ (length (collects d.done) < length (gives e.done))
+  pub driver : puts_of d.doing ≡ [] → (is_used d.frame.size (cpos d.frame d.done) (slice_index ws (second_word d.frame.size (cpos d.frame d.done))) ≡ true) ↔ (length (collects d.done) < length (gives e.done))
   pub device : (is_available d.frame.size (tpos d.frame e.done) (slice_index ws (second_word d.frame.size (tpos d.frame e.done))) ≡ true) ↔ (length (takes e.done) < length (offers d.done))
 
--- a used descriptor is stored at the position of what was given before, which is below that of what was taken
+-- a descriptor's word that the device stores is at the position of what was given before, which is below that of what was taken
 pub record GivesBehind (f : Frame) (s : List DeviceDone) (p : ℕ) : Type 0 where
   pub place : p ≡ second_word f.size (upos f s)
   pub below : upos f s < tpos f s

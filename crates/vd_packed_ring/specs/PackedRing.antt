@@ -1,6 +1,8 @@
 -- The ring invariant of a packed ring: what always holds of its words and of what its two sides know.
-use Rattle.std.specs.Prelude.{◌≡◌, ◌≢◌, ◌⊎◌, ℕ, ◌+◌, ◌*◌, ◌%◌, ◌<◌, ◌≤◌, true, false, List, [], ◌∷◌, length, take, Option, Some, slice_index}
+use Rattle.std.specs.Prelude.{◌≡◌, ◌≢◌, ◌⊎◌, ℕ, ◌+◌, ◌*◌, ◌%◌, ◌<◌, ◌≤◌, true, false, List, [], ◌∷◌, length, take, Option, Some, None, slice_index}
 use Rattle.std.specs.List.{All, Contains}
+use Rattle.vd_words.specs.declared.access.Op.{Op}
+use Rattle.vd_words.specs.declared.access.Op.TheVariants as op
 use Rattle.vd_ring.specs.declared.frame.Frame.{Frame}
 use Rattle.vd_ring.specs.declared.frame.Put.{Put}
 use Rattle.vd_ring.specs.declared.driver.DriverDone.{DriverDone}
@@ -11,12 +13,15 @@ use Rattle.vd_ring.specs.declared.device.DeviceDone.{DeviceDone}
 use Rattle.vd_ring.specs.declared.device.DeviceNow.{DeviceNow}
 use Rattle.vd_ring.specs.declared.device.DeviceNow.TheVariants as device
 use Rattle.vd_ring.specs.declared.device.DeviceView.{DeviceView}
-use Rattle.vd_ring.specs.History.{offers, takes, gives, open_at, head, chain}
+use Rattle.vd_ring.specs.History.{offers, takes, gives, open_at, head, chain, IsWhole}
 use Rattle.vd_ring.specs.Control.{Commands, Acks}
 use Rattle.vd_ring.specs.Places.{Places}
 use Rattle.vd_ring.specs.Lists.{Lists, Rested}
+use Rattle.vd_ring.specs.Signals.{Publisher, Listener, Signals}
+use Rattle.vd_ring.specs.Sleep.{driver_owed, device_owed, driver_idle, device_idle, gives_made}
 use Rattle.vd_packed_ring.specs.PackedWords.{IsLawful, IsBuilt, IsDrivers, IsDevices, width, command_word, ack_word, driver_event, device_event, kick_at, call_at, event_word, words_of, Stand}
 use Rattle.vd_packed_ring.specs.PackedChains.{table, reading}
+use Rattle.vd_packed_ring.specs.PackedSignals.{disabled, bell_word, IsRange}
 use Rattle.vd_packed_ring.specs.PackedPositions.{opos, cpos, tpos, upos, made_at, second_at}
 use Rattle.vd_packed_ring.specs.PackedDriver.{Begins}
 
@@ -38,15 +43,15 @@ pub record Row (n half : ℕ) (ws : List ℕ) (top : ℕ) (puts : List Put) (cur
   pub kept : (q : ℕ) → q < top → top ≤ q + n → IsClear puts (2 * (q % n) + half) → slice_index ws (2 * (q % n) + half) ≡ cur q
   pub fresh : (p : ℕ) → p < n → top ≤ p → IsClear puts (2 * p + half) → slice_index ws (2 * p + half) ≡ 0
 
--- a side's event word and bell, armed or not: without EVENT_IDX the word is 0 or DISABLE 1, with it 0 or one that names a position;
--- where the side is armed, it enables or names that position (VIRTIO 1.2, 2.8.10). That a side rings no more often than it publishes
--- is no part of these: it belongs to what holds of sleeping sides
-pub record Signals (f : Frame) (event_at bell_at : ℕ) (armed : Option ℕ) (bells : ℕ) (stored : List ℕ) : Type 0 where
-  pub flags : f.features.event_idx ≡ false → slice_index stored event_at ≤ 1
+-- a side's event word and bell, armed or not: without EVENT_IDX the word is ENABLE 0 or DISABLE, with it 0 or one that names a
+-- position; where the side is armed, it enables or names that position (VIRTIO 1.2, 2.8.10)
+pub record SideSignals (f : Frame) (event_at bell_at : ℕ) (armed : Option ℕ) (bells : ℕ) (stored : List ℕ) : Type 0 where
+  pub flags : f.features.event_idx ≡ false → (slice_index stored event_at ≡ 0) ⊎ (slice_index stored event_at ≡ disabled)
   pub names : f.features.event_idx ≡ true → (slice_index stored event_at ≡ 0) ⊎ ((q : ℕ) × (slice_index stored event_at ≡ event_word f.size q))
   pub enable : (q : ℕ) → armed ≡ Some q → f.features.event_idx ≡ false → slice_index stored event_at ≡ 0
   pub event : (q : ℕ) → armed ≡ Some q → f.features.event_idx ≡ true → slice_index stored event_at ≡ event_word f.size q
-  pub bell : slice_index stored bell_at ≡ bells % 18446744073709551616
+  -- the bell is the number of bells stored
+  pub bell : slice_index stored bell_at ≡ bell_word bells
 
 -- ---- the operations in progress
 
@@ -63,7 +68,9 @@ pub record Stages (f : Frame) (o : List DriverDone) (ws : List ℕ) (puts : List
 abbrev pub DriverDoing : DriverNow → Frame → List DriverDone → List ℕ → Type 0
 DriverDoing driver.Idle f o ws = Unit {0}
 DriverDoing (driver.Offering puts) f o ws = Stages f o ws puts
-DriverDoing _ f o ws = ⊥
+DriverDoing (driver.Entered _) f o ws = ⊥
+DriverDoing (driver.Collecting _) f o ws = ⊥
+DriverDoing _ f o ws = Unit {0}
 
 -- the loaded words are the first of chain number k of what was offered, which stands at position q, and not all
 pub record Loads (f : Frame) (o : List DriverDone) (k q : ℕ) (ws : List ℕ) : Type 0 where
@@ -74,7 +81,48 @@ pub record Loads (f : Frame) (o : List DriverDone) (k q : ℕ) (ws : List ℕ) :
 abbrev pub DeviceDoing : DeviceNow → Frame → List DriverDone → List DeviceDone → Type 0
 DeviceDoing device.Idle f o s = Unit {0}
 DeviceDoing (device.Taking (w ∷ ws)) f o s = Loads f o (length (takes s)) (tpos f s) (w ∷ ws)
-DeviceDoing _ f o s = ⊥
+DeviceDoing (device.Taking _) f o s = ⊥
+DeviceDoing (device.Giving _) f o s = ⊥
+DeviceDoing device.Resting f o s = IsWhole s
+DeviceDoing _ f o s = Unit {0}
+
+-- ---- signals
+
+-- the driver as the one that publishes chains, and as the one that waits for used entries; the device as the one that waits for
+-- chains, and as the one that publishes used entries. Positions count descriptors
+abbrev pub chains_out : DriverView → Publisher
+chains_out d = record { published = opos d.frame d.done; owed = driver_owed d.doing; bells = d.bells; ranges = length (offers d.done) }
+
+abbrev pub chains_in : DeviceView → Listener
+chains_in e = record { at = tpos e.frame e.done; idle = device_idle e.doing; armed = e.armed; heard = e.heard }
+
+abbrev pub entries_out : DeviceView → Publisher
+entries_out e = record { published = upos e.frame e.done; owed = device_owed e.doing; bells = e.bells; ranges = gives_made e.done }
+
+abbrev pub entries_in : DriverView → Listener
+entries_in d = record { at = cpos d.frame d.done; idle = driver_idle d.doing; armed = d.armed; heard = d.heard }
+
+-- a disarming store is next only without EVENT_IDX, after a look of an arming or after a bell that was heard
+abbrev pub Woke : Op → ℕ → Type 0
+Woke op.Arm heard = Unit {0}
+Woke op.Hear heard = 1 ≤ heard
+Woke _ heard = ⊥
+
+-- where a side that has come to position `at` may be armed: while idle; between its arming store and its second look it is, at its
+-- position; in all other operations it isn't
+abbrev pub DriverArmed : DriverNow → Frame → Option ℕ → ℕ → ℕ → Type 0
+DriverArmed driver.Idle f armed at heard = Unit {0}
+DriverArmed driver.Arming f armed at heard = armed ≡ Some at
+DriverArmed (driver.Disarming o) f armed at heard = (armed ≡ None) × (f.features.event_idx ≡ false) × Woke o heard
+DriverArmed (driver.Checking old new) f armed at heard = (armed ≡ None) × IsRange f old new
+DriverArmed _ f armed at heard = armed ≡ None
+
+abbrev pub DeviceArmed : DeviceNow → Frame → Option ℕ → ℕ → ℕ → Type 0
+DeviceArmed device.Idle f armed at heard = Unit {0}
+DeviceArmed device.Arming f armed at heard = armed ≡ Some at
+DeviceArmed (device.Disarming o) f armed at heard = (armed ≡ None) × (f.features.event_idx ≡ false) × Woke o heard
+DeviceArmed (device.Checking old new) f armed at heard = (armed ≡ None) × IsRange f old new
+DeviceArmed _ f armed at heard = armed ≡ None
 
 -- ---- the invariant
 
@@ -100,14 +148,20 @@ pub record Ring (ws : List ℕ) (d : DriverView) (e : DeviceView) : Type 0 where
   -- each length given fits its lane
   pub short : All (λ u. u.len < 4294967296) (gives e.done)
   -- event words and bells are those of where each side is armed and of how many bells it stored
-  pub driver_signals : Signals d.frame (driver_event d.frame) (kick_at d.frame) d.armed d.bells d.stored
-  pub device_signals : Signals d.frame (device_event d.frame) (call_at d.frame) e.armed e.bells e.stored
+  pub driver_signals : SideSignals d.frame (driver_event d.frame) (kick_at d.frame) d.armed d.bells d.stored
+  pub device_signals : SideSignals d.frame (device_event d.frame) (call_at d.frame) e.armed e.bells e.stored
   -- command and ack words are those stored for each chain, and each side loaded what the other stored
   pub commands : Commands d.frame (command_word d.frame) (ack_word d.frame) d.done d.stored
   pub acks : Acks d.frame (ack_word d.frame) d.done e.done e.stored
   -- what the driver has staged stands, and what the device has loaded is what the driver published
   pub driver_doing : DriverDoing d.doing d.frame d.done ws
   pub device_doing : DeviceDoing e.doing d.frame d.done e.done
+  -- a sleeping side without a signal has nothing before it, or the other side owes it one: of the chains, and of the used entries
+  pub kicks : Signals (chains_out d) (chains_in e)
+  pub calls : Signals (entries_out e) (entries_in d)
+  -- in which operations each side is armed
+  pub driver_armed : DriverArmed d.doing d.frame d.armed (cpos d.frame d.done) d.heard
+  pub device_armed : DeviceArmed e.doing d.frame e.armed (tpos d.frame e.done) e.heard
   -- a position that a side has seen was published
   pub driver_seen : d.seen ≤ upos d.frame e.done
   pub device_seen : e.seen ≤ opos d.frame d.done

@@ -10,10 +10,9 @@ pub record IsLawful (f : Frame) : Type 0 where
   pub least : 2 ≤ f.size
   pub most : f.size ≤ 32768
 
--- what is built: INDIRECT_DESC and EVENT_IDX are off
+-- what is built: INDIRECT_DESC is off
 pub record IsBuilt (f : Frame) : Type 0 where
   pub direct : f.features.indirect ≡ false
-  pub flagged : f.features.event_idx ≡ false
 
 -- ---- the areas, one after the other: descriptors from word 0 on, driver area, device area, tables, commands, acks, two bells.
 -- Each name is its area's first word

@@ -1,5 +1,5 @@
 //! What the device's accesses keep and answer. These functions do nothing: their contracts are the laws.
-ghost use Rattle.std.specs.Prelude.{◌≡◌, ℕ, ◌<◌, List, ◌∷◌};
+ghost use Rattle.std.specs.Prelude.{◌≡◌, ℕ, ◌*◌, ◌<◌, List, ◌∷◌};
 ghost use Rattle.vd_model.specs.declared.chain.Piece.{Piece};
 ghost use Rattle.vd_words.specs.declared.access.Access.{Access};
 ghost use Rattle.vd_words.specs.declared.access.Access.TheVariants.{Store};
@@ -26,12 +26,12 @@ pub fn device_law()
 {}
 
 /// From the view alone: an access that is next is to one of the ring's words, none changes the frame, and each answer says what
-/// was done; a device that counts its chains gives at its own position, which is below that of what it took.
+/// was done; a device that counts its chains stores a descriptor's word at its own position, which is below that of what it took.
 pub fn device_alone_law()
     ensures inside { (e : DeviceView) (o : Op) (a : Access) → IsLawful e.frame → DeviceNext e o a → place_of a < width e.frame }
     ensures frame { (e : DeviceView) (o : Op) (a : Access) (r : ℕ) → (device_after e o a r).frame ≡ e.frame }
     ensures did { (e : DeviceView) (o : Op) (a : Access) (r : ℕ) → Did (device_act e o a r) e.done (device_after e o a r).done }
-    ensures behind { (e : DeviceView) (p x : ℕ) → Counts e.frame e.done → DeviceNext e Give (Store p x) → GivesBehind e.frame e.done p }
+    ensures behind { (e : DeviceView) (p x : ℕ) → Counts e.frame e.done → DeviceNext e Give (Store p x) → p < 2 * e.frame.size → GivesBehind e.frame e.done p }
 {}
 
 /// The answer names the one step of the ring's bag.

@@ -1,5 +1,5 @@
 //! What the driver's accesses keep and answer. These functions do nothing: their contracts are the laws.
-ghost use Rattle.std.specs.Prelude.{◌≡◌, ℕ, List};
+ghost use Rattle.std.specs.Prelude.{◌≡◌, ℕ, ◌*◌, ◌<◌, List};
 ghost use Rattle.vd_words.specs.declared.access.Access.{Access};
 ghost use Rattle.vd_words.specs.declared.access.Access.TheVariants.{Store};
 ghost use Rattle.vd_words.specs.declared.access.Op.{Op};
@@ -22,12 +22,12 @@ pub fn driver_law()
 {}
 
 /// From the view alone: an access that is next is to one of the ring's words, none changes the frame, and each answer says what was
-/// done; a store of an offer is at a position from the driver's own on, less than the ring's size past what it collected.
+/// done; a descriptor's word is stored at a position from the driver's own on, less than the ring's size past what it collected.
 pub fn driver_alone_law()
     ensures inside { (d : DriverView) (o : Op) (a : Access) → IsLawful d.frame → IsBuilt d.frame → DriverNext d o a → DriverAlone d o a }
     ensures frame { (d : DriverView) (o : Op) (a : Access) (r : ℕ) → (driver_after d o a r).frame ≡ d.frame }
     ensures did { (d : DriverView) (o : Op) (a : Access) (r : ℕ) → DriverDid (driver_act d o a r) d.done (driver_after d o a r).done }
-    ensures ahead { (d : DriverView) (p x : ℕ) → IsLawful d.frame → IsBuilt d.frame → DriverNext d Offer (Store p x) → StoresAhead d.frame d.done p }
+    ensures ahead { (d : DriverView) (p x : ℕ) → IsLawful d.frame → IsBuilt d.frame → DriverNext d Offer (Store p x) → p < 2 * d.frame.size → StoresAhead d.frame d.done p }
 {}
 
 /// The answer names the one step of the ring's bag.

@@ -17,6 +17,10 @@ pub use driver_laws::{
     driver_offered_law,
 };
 pub use laws::{
-    agreement_law, base_law, fresh_law, looks_law, position_law, seen_law, spelling_law,
+    account_law, agreement_law, base_law, fresh_law, looks_law, position_law, seen_law,
+    spelling_law,
 };
-pub use signal_laws::{signals_law, unarmed_law};
+pub use signal_laws::{
+    answers_law, asleep_law, bells_law, event_words_law, hears_law, signals_law, sleep_law,
+    unarmed_law,
+};

@@ -18,7 +18,7 @@ use Rattle.vd_split_ring.specs.SplitWords.{used_from, width, device_event_word, 
 use Rattle.vd_split_ring.specs.SplitDevice.{DeviceNextAt, DeviceNext, device_after_at, device_after, device_act_at, device_act}
 use Rattle.vd_split_ring.proofs.Areas.{areas}
 use Rattle.vd_split_ring.proofs.Bells.{device_event_inside}
-use Rattle.vd_layout.specs.Begun.{DeviceOp}
+use Rattle.vd_layout.specs.Begun.{IsDeviceOp, DeviceOp}
 use Rattle.vd_layout.specs.Device.{DeviceSays}
 use Rattle.vd_split.specs.declared.device.SplitDevice.{SplitDevice}
 use Rattle.vd_split.specs.declared.device.DeviceStep.{DeviceStep}
@@ -61,6 +61,7 @@ arm_at e v i r x is st here low word =
       next = subst (λ t. DeviceNextAt t v op.Arm (Store p x)) (sym n) (not_armed e v st off, record { place = here; word = word });
       stands = subst (λ w. DeviceStands e' w) (sym is_after) (stands_with e v i x step.LookAgain true now.Arming (Some (length (takes v.done))) st low refl few refl refl);
       is = sym (ap (λ t. device_act_at t v op.Arm (Store p x) r) n);
+      of_it = subst (λ t. IsDeviceOp (device_begun t) op.Arm) (sym is) refl;
       left = subst (λ t. 2 < device_left t (length e.pieces.items)) (sym is) (let z : 2 < 3 = omega arith in z);
       says = subst (λ t. DeviceSays split_words act.Moved (device_begun t) DeviceOp.arm f v.done (device_after v op.Arm (Store p x) r).done) (sym is) (refl, ap (λ (w : DeviceView). w.done) is_after);
       rests = refl;
@@ -100,6 +101,7 @@ wake_at step.WakeArming e v o r x is wakes idx st word =
       next = subst (λ t. DeviceNextAt t v op.Arm (Store p x)) (sym n.0) (refl, record { flagged = n.1; place = (let y : used_from v.frame + 0 ≡ used_from v.frame = omega arith in y); word = word });
       stands = subst (λ w. DeviceStands (record e { area = with_item e.area 0 x; armed = false; doing = step.Idle }) w) (sym is_after) (stands_with e v 0 x step.Idle false now.Idle v.armed st (omega arith) (not_armed e v st off) few tt refl);
       is = sym (ap (λ t. device_act_at t v op.Arm (Store p x) r) n.0);
+      of_it = subst (λ t. IsDeviceOp (device_begun t) op.Arm) (sym is) refl;
       left = subst (λ t. 0 < device_left t (length e.pieces.items)) (sym is) (let z : 0 < 1 = omega arith in z);
       says = subst (λ t. DeviceSays split_words act.Awake (device_begun t) DeviceOp.idle v.frame v.done (device_after v op.Arm (Store p x) r).done) (sym is) (tt, refl, ap (λ (w : DeviceView). w.done) is_after);
       rests = refl;
@@ -114,6 +116,7 @@ wake_at step.WakeHearing e v o r x is wakes idx st word =
       next = subst (λ t. DeviceNextAt t v op.Hear (Store p x)) (sym n.0) (refl, record { flagged = n.1; place = (let y : used_from v.frame + 0 ≡ used_from v.frame = omega arith in y); word = word });
       stands = subst (λ w. DeviceStands (record e { area = with_item e.area 0 x; armed = false; doing = step.Idle }) w) (sym is_after) (stands_with e v 0 x step.Idle false now.Idle v.armed st (omega arith) (not_armed e v st off) few tt refl);
       is = sym (ap (λ t. device_act_at t v op.Hear (Store p x) r) n.0);
+      of_it = subst (λ t. IsDeviceOp (device_begun t) op.Hear) (sym is) refl;
       left = subst (λ t. 0 < device_left t (length e.pieces.items)) (sym is) (let z : 0 < 1 = omega arith in z);
       says = subst (λ t. DeviceSays split_words act.Awake (device_begun t) DeviceOp.idle v.frame v.done (device_after v op.Hear (Store p x) r).done) (sym is) (tt, refl, ap (λ (w : DeviceView). w.done) is_after);
       rests = refl;
@@ -129,6 +132,7 @@ wake_at step.Disarm e v o r x is wakes idx st word =
       next = subst (λ t. DeviceNextAt t v op.Disarm (Store p x)) (sym n) ((length (takes v.done), is_armed e v st on), record { flagged = flagged; place = (let y : used_from v.frame + 0 ≡ used_from v.frame = omega arith in y); word = word });
       stands = subst (λ w. DeviceStands (record e { area = with_item e.area 0 x; armed = false; doing = step.Idle }) w) (sym is_after) (stands_with e v 0 x step.Idle false now.Idle None st (omega arith) refl few tt refl);
       is = sym (ap (λ t. device_act_at t v op.Disarm (Store p x) r) n);
+      of_it = subst (λ t. IsDeviceOp (device_begun t) op.Disarm) (sym is) refl;
       left = subst (λ t. 0 < device_left t (length e.pieces.items)) (sym is) (let z : 0 < 1 = omega arith in z);
       says = subst (λ t. DeviceSays split_words act.Awake (device_begun t) DeviceOp.idle v.frame v.done (device_after v op.Disarm (Store p x) r).done) (sym is) (tt, refl, ap (λ (w : DeviceView). w.done) is_after);
       rests = refl;

@@ -13,7 +13,7 @@ use Rattle.vd_ring.specs.declared.device.DeviceView.{DeviceView}
 use Rattle.vd_ring.specs.Frames.{limit}
 use Rattle.vd_ring.specs.History.{takes, gives, heads, running, taken_head, numbers, occurs, IsWhole}
 use Rattle.vd_split_ring.specs.SplitWords.{kick_at, used_from, width, pieces_of, linked}
-use Rattle.vd_split_ring.specs.SplitDevice.{loaded_head, IsNewHead, device_side, device_act}
+use Rattle.vd_split_ring.specs.SplitDevice.{loaded_head, IsNewHead, device_side, device_act, device_shows}
 use Rattle.vd_layout.specs.Begun.{DeviceOp}
 use Rattle.vd_layout.specs.Device.{DeviceModel}
 use Rattle.vd_split.specs.declared.device.SplitDevice.{SplitDevice}
@@ -201,6 +201,7 @@ abbrev pub split_device : DeviceModel SplitDevice
 split_device = record {
   side = device_side;
   act = device_act;
+  shows = device_shows;
   stands = DeviceStands;
   begun = λ e. device_begun e.doing;
   armed = λ e. e.armed;

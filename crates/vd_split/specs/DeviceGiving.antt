@@ -27,7 +27,7 @@ use Rattle.vd_split_ring.specs.SplitWords.{used_from, lane_word}
 use Rattle.vd_split_ring.specs.SplitDevice.{DeviceNextAt, DeviceNext, device_after_at, device_after, device_act, device_act_at}
 use Rattle.vd_split_ring.proofs.Areas.{areas}
 use Rattle.vd_layout.proofs.OnePair.{were_given}
-use Rattle.vd_layout.specs.Begun.{DeviceOp}
+use Rattle.vd_layout.specs.Begun.{IsDeviceOp, DeviceOp}
 use Rattle.vd_layout.specs.Device.{DeviceSays, IsDeviceStep, is_rested}
 use Rattle.vd_split.specs.declared.device.SplitDevice.{SplitDevice}
 use Rattle.vd_split.specs.declared.device.DeviceStep.TheVariants as step
@@ -39,6 +39,7 @@ use Rattle.vd_split.specs.Plans.{next_mod, copies_set}
 -- what one step of the end owes in a view
 pub record Goes (e e' : SplitDevice) (v : DeviceView) (o : Op) (a : Access) (r : ℕ) (answer : DeviceAct) : Type 0 where
   pub next : DeviceNext v o a
+  pub of_it : IsDeviceOp (device_begun e.doing) o
   pub stands : DeviceStands e' (device_after v o a r)
   pub is : answer ≡ device_act v o a r
   pub left : device_left e'.doing (length e'.pieces.items) < device_left e.doing (length e.pieces.items)
@@ -46,7 +47,7 @@ pub record Goes (e e' : SplitDevice) (v : DeviceView) (o : Op) (a : Access) (r :
   pub rests : is_resting e'.doing ≡ is_rested answer
 
 pub made : {P : Type 0} (port : PortModel P) (p q : P) (e e' : SplitDevice) (v : DeviceView) (o : Op) (a : Access) (r : ℕ) (answer : DeviceAct) → Goes e e' v o a r answer → port.moves p o a r q → IsDeviceStep port split_device p q v e e' answer
-made port p q e e' v o a r answer go moved = record { op = o; access = a; got = r; was_next = go.next; moved = moved; now_stands = go.stands; is_answer = go.is; left = go.left; says = go.says; rests = go.rests }
+made port p q e e' v o a r answer go moved = record { op = o; access = a; got = r; was_next = go.next; moved = moved; now_stands = go.stands; is_answer = go.is; of_it = go.of_it; left = go.left; says = go.says; rests = go.rests }
 
 pub used_below : (e : SplitDevice) (v : DeviceView) → DeviceStands e v → (e.used < e.size) × (e.size ≤ 32768) × (e.used + 1 < length e.area.items) × (0 < e.size)
 used_below e v st =
@@ -81,6 +82,7 @@ name_goes e v r number head len x is small st word =
         doing = (x, refl, ap (λ y. lane32 y 1) word ∙ half_same (slice_index e.area.items i) 1 head small, n.1);
       };
       is = sym (ap (λ t. device_act_at t v op.Give (Store p x) r) n.0);
+      of_it = subst (λ t. IsDeviceOp (device_begun t) op.Give) (sym is) refl;
       left = subst (λ t. 4 < device_left t (length e.pieces.items)) (sym is) (let z : 4 < 5 = omega arith in z);
       says = subst (λ t. DeviceSays split_words act.Moved (device_begun t) (DeviceOp.give number len) f s (device_after v op.Give (Store p x) r).done) (sym is) (refl, ap (λ t. (device_after_at t v op.Give (Store p x) r).done) n.0);
       rests = refl;
@@ -114,6 +116,7 @@ measure_goes e v r number head len x is st word =
         doing = (n.0, x, refl, n.2, ap (λ y. lane32 y 0) word ∙ half_same (slice_index e.area.items i) 0 len n.3.small, n.3);
       };
       is = sym (ap (λ t. device_act_at t v op.Give (Store p x) r) n.1);
+      of_it = subst (λ t. IsDeviceOp (device_begun t) op.Give) (sym is) refl;
       left = subst (λ t. 3 < device_left t (length e.pieces.items)) (sym is) (let z : 3 < 4 = omega arith in z);
       says = subst (λ t. DeviceSays split_words act.Moved (device_begun t) (DeviceOp.give number len) f s (device_after v op.Give (Store p x) r).done) (sym is) (refl, ap (λ t. (device_after_at t v op.Give (Store p x) r).done) n.1);
       rests = refl;
@@ -215,6 +218,7 @@ publish_goes e v r number head len x is st word =
         doing = (ap (λ k. now.Checking k (length (gives s ++ entry number len ∷ []))) (sym st.counts.gives) ∙ ap (now.Checking e.given) (let y : length (gives s ++ entry number len ∷ []) ≡ e.given + 1 = omega (arith, st.counts.gives, longer) in y), omega arith, omega arith);
       };
       is = sym (ap (λ t. device_act_at t v op.Give (Store p x) r) n.2 ∙ ap (λ (ys : List Used). act.Given (last_used ys).number) one);
+      of_it = subst (λ t. IsDeviceOp (device_begun t) op.Give) (sym is) refl;
       left = subst (λ t. 2 < device_left t (length e.pieces.items)) (sym is) (let y : 2 < 3 = omega arith in y);
       says = subst (λ t. DeviceSays split_words (act.Given number) (device_begun t) DeviceOp.signal f s (device_after v op.Give (Store p x) r).done) (sym is)
           (len, entry number len ∷ [], refl, inr refl, ap (λ (w : DeviceView). w.done) is_after, were_given f s number len (Contains_from number (running s) next.runs) next.in_order);
@@ -279,6 +283,7 @@ rest_goes e e2 v r is st long none =
         doing = (refl, refl, n.1);
       };
       is = sym (ap (λ t. device_act_at t v op.Rest (Load p) r) n.0);
+      of_it = subst (λ t. IsDeviceOp (device_begun t) op.Rest) (sym is) refl;
       left = subst (λ t. 0 < device_left t (length e.pieces.items)) (sym is) (let y : 0 < 1 = omega arith in y);
       says = subst (λ t. DeviceSays split_words act.Rested (device_begun t) DeviceOp.idle f s (device_after v op.Rest (Load p) r).done) (sym is) (refl, refl, ap (λ (w : DeviceView). w.done) is_after, n.1);
       rests = refl;

@@ -23,6 +23,8 @@ use Rattle.vd_split_ring.proofs.Areas.{areas}
 use Rattle.vd_split_ring.proofs.ControlFacts.{device_controls}
 use Rattle.vd_split_ring.proofs.DeviceViews.{device_frame}
 use Rattle.vd_layout.proofs.InTable.{runs_in_table}
+use Rattle.vd_split_ring.proofs.Signalling.{device_unarmed}
+use Rattle.vd_split_ring.proofs.DeviceLooking.{device_looks}
 use Rattle.vd_layout.specs.Begun.{DeviceOp}
 use Rattle.vd_layout.specs.Device.{IsStill, IsLawfulDevice}
 use Rattle.vd_split.specs.declared.device.SplitDevice.{SplitDevice}
@@ -329,6 +331,8 @@ device_laws = record {
   unused = λ e v st r. fresh_unused e v st (parts (is_idle e.doing && ((e.taken == 0) && (e.given == 0))) (not e.armed) r).0;
   control = λ e v a r st n. control_at v.doing e v a r st n;
   framed = λ v o a r. device_frame v o a r;
+  stays_unarmed = λ v o a r other none. device_unarmed v o a r other none;
+  looks = device_looks;
   armed = λ e v st on. (length (takes v.done), is_armed e v st on);
   not_armed = λ e v st off. not_armed e v st off;
   unarmed_still = still_unarmed;

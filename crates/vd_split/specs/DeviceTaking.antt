@@ -22,7 +22,7 @@ use Rattle.vd_split_ring.specs.SplitWords.{lane_word, entry_lane, put, described
 use Rattle.vd_split_ring.specs.SplitDevice.{DeviceNextAt, DeviceNext, DeviceTells, DeviceTellsAt, device_after, device_after_at, device_takes, device_act_at, loaded_head, IsNewHead, BeginsChain}
 use Rattle.vd_split_ring.proofs.Descriptors.{IsAt, length-described, described_at, not_whole_odd, whole_last, pieces_last, linked_odd, linked_last, linked_at}
 use Rattle.vd_split_ring.proofs.Direct.{reading_is, whole_is, chain_is, cursor_is, lent_pieces}
-use Rattle.vd_layout.specs.Begun.{DeviceOp}
+use Rattle.vd_layout.specs.Begun.{IsDeviceOp, DeviceOp}
 use Rattle.vd_layout.specs.Device.{DeviceSays, IsTaken}
 use Rattle.vd_split.specs.declared.device.SplitDevice.{SplitDevice}
 use Rattle.vd_split.specs.declared.device.DeviceStep.TheVariants as step
@@ -69,6 +69,7 @@ entry_goes e e2 v r w head is st none found =
               };
             };
             is = sym (ap (λ t. device_act_at t v op.Take (Load p) w) n.0);
+            of_it = subst (λ t. IsDeviceOp (device_begun t) op.Take) (sym is) refl;
             left = subst (λ t. 2 * (16 - length e2.pieces.items) + 2 < device_left t (length e.pieces.items)) (sym is) (omega (arith, ap (λ (l : List Piece). length l) none));
             says = subst (λ t. DeviceSays split_words act.Moved (device_begun t) DeviceOp.take f s (device_after v op.Take (Load p) w).done) (sym is) (refl, ap (λ (y : DeviceView). y.done) is_after);
             rests = refl;
@@ -108,6 +109,7 @@ address_goes e v r h p x is st =
         doing = record { word = w; words = ws; is = refl; loaded = l };
       };
       is = sym (ap (λ t. device_act_at t v op.Take (Load (2 * p)) x) was ∙ acts_on v r w (2 * p) x ws more);
+      of_it = subst (λ t. IsDeviceOp (device_begun t) op.Take) (sym is) refl;
       left = subst (λ t. 2 * (16 - length e.pieces.items) + 1 < device_left t (length e.pieces.items)) (sym is) (omega arith);
       says = subst (λ t. DeviceSays split_words act.Moved (device_begun t) DeviceOp.take f s (device_after v op.Take (Load (2 * p)) x).done) (sym is) (refl, ap (λ (y : DeviceView). y.done) is_after);
       rests = refl;
@@ -214,6 +216,7 @@ second_more e e2 v r h p x l st next on pushed is =
         };
       };
       is = sym (ap (λ t. device_act_at t v op.Take (Load (2 * p + 1)) x) l.was ∙ acts_on v r l.word (2 * p + 1) x (l.words ++ e.addr ∷ []) more);
+      of_it = subst (λ t. IsDeviceOp (device_begun t) op.Take) (sym is) refl;
       left = subst (λ t. 2 * (16 - length e2.pieces.items) + 2 < device_left t (length e.pieces.items)) (sym is) (omega arith);
       says = subst (λ t. DeviceSays split_words act.Moved (device_begun t) DeviceOp.take f v.done (device_after v op.Take (Load (2 * p + 1)) x).done) (sym is) (refl, ap (λ (y : DeviceView). y.done) is_after);
       rests = refl;
@@ -314,6 +317,7 @@ second_last e e2 v r h p x cs l st next off is spelled guesses =
         doing = refl;
       };
       is = ap (λ k. act.Taken k cs) st.counts.takes ∙ ap (act.Taken t) (sym is_chain) ∙ sym (ap (λ u. device_act_at u v op.Take (Load (2 * p + 1)) x) l.was ∙ ap (λ b. if b then act.Taken t (chain_of f ws) else act.Moved) end);
+      of_it = subst (λ u. IsDeviceOp (device_begun u) op.Take) (sym is) refl;
       left = subst (λ u. 0 < device_left u (length e.pieces.items)) (sym is) (omega arith);
       says = subst (λ u. DeviceSays split_words (act.Taken e.taken cs) (device_begun u) DeviceOp.idle f s (device_after v op.Take (Load (2 * p + 1)) x).done) (sym is) (
         h,

@@ -20,7 +20,7 @@ use Rattle.vd_split_ring.specs.SplitWords.{avail_from, used_from, kick_at, call_
 use Rattle.vd_split_ring.specs.SplitDriver.{DriverNextAt, DriverNext, driver_after_at, driver_after, driver_act_at, driver_act, driver_wakes}
 use Rattle.vd_split_ring.proofs.Areas.{areas, lane_inside}
 use Rattle.vd_split_ring.proofs.Bells.{driver_event_low, limit_low}
-use Rattle.vd_layout.specs.Begun.{DriverOp, DriverPublished}
+use Rattle.vd_layout.specs.Begun.{IsDriverOp, DriverOp, DriverPublished}
 use Rattle.vd_layout.specs.Driver.{DriverSays}
 use Rattle.vd_split.specs.declared.driver.SplitDriver.{SplitDriver}
 use Rattle.vd_split.specs.declared.driver.DriverStep.{DriverStep}
@@ -73,6 +73,7 @@ arm_at e v i r x is st here word =
           (stands_with e (record e { area = with_item e.area i x }) v step.LookAgain true e.shown e.heard e.bells (slice_set v.stored p x) now.Arming (Some (length (collects v.done))) v.heard v.bells v.seen v.shown st
           (copies_set (avail_from f) ((f.size + 6) / 4) e.area.items v.stored i x st.area (omega (arith, low, at)) (omega (arith, st.wide, areas f, low, at))) (length-set v.stored p x ∙ st.wide) refl st.signals.hears st.signals.rings st.shown few refl refl);
       is = sym (ap (λ t. driver_act_at t v op.Arm (Store p x) r) n);
+      of_it = subst (λ t. IsDriverOp (driver_begun t e.pieces.items) op.Arm) (sym is) refl;
       left = subst (λ t. 2 < driver_left t e.pieces.items) (sym is) (let z : 2 < 3 = omega arith in z);
       says = subst (λ t. DriverSays act.Moved (driver_begun t e.pieces.items) DriverOp.arm f v.done (driver_after v op.Arm (Store p x) r).done) (sym is) (refl, ap (λ (w : DriverView). w.done) is_after);
     }
@@ -111,6 +112,7 @@ wake_at step.WakeArming e v o r x is wakes idx st word =
           (stands_with e (record e { area = with_item e.area 0 x }) v step.Idle false e.shown e.heard e.bells (slice_set v.stored p x) now.Idle v.armed v.heard v.bells v.seen v.shown st
           (copies_set (avail_from v.frame) ((v.frame.size + 6) / 4) e.area.items v.stored 0 x st.area (omega arith) (omega (arith, st.wide, areas v.frame))) (length-set v.stored p x ∙ st.wide) (not_armed e v st off) st.signals.hears st.signals.rings st.shown few tt refl);
       is = sym (ap (λ t. driver_act_at t v op.Arm (Store p x) r) n.0);
+      of_it = subst (λ t. IsDriverOp (driver_begun t e.pieces.items) op.Arm) (sym is) refl;
       left = subst (λ t. 0 < driver_left t e.pieces.items) (sym is) (let z : 0 < 1 = omega arith in z);
       says = subst (λ t. DriverSays act.Awake (driver_begun t e.pieces.items) DriverOp.idle v.frame v.done (driver_after v op.Arm (Store p x) r).done) (sym is) (tt, refl, ap (λ (w : DriverView). w.done) is_after);
     }
@@ -126,6 +128,7 @@ wake_at step.WakeHearing e v o r x is wakes idx st word =
           (stands_with e (record e { area = with_item e.area 0 x }) v step.Idle false e.shown e.heard e.bells (slice_set v.stored p x) now.Idle v.armed v.heard v.bells v.seen v.shown st
           (copies_set (avail_from v.frame) ((v.frame.size + 6) / 4) e.area.items v.stored 0 x st.area (omega arith) (omega (arith, st.wide, areas v.frame))) (length-set v.stored p x ∙ st.wide) (not_armed e v st off) st.signals.hears st.signals.rings st.shown few tt refl);
       is = sym (ap (λ t. driver_act_at t v op.Hear (Store p x) r) n.0);
+      of_it = subst (λ t. IsDriverOp (driver_begun t e.pieces.items) op.Hear) (sym is) refl;
       left = subst (λ t. 0 < driver_left t e.pieces.items) (sym is) (let z : 0 < 1 = omega arith in z);
       says = subst (λ t. DriverSays act.Awake (driver_begun t e.pieces.items) DriverOp.idle v.frame v.done (driver_after v op.Hear (Store p x) r).done) (sym is) (tt, refl, ap (λ (w : DriverView). w.done) is_after);
     }
@@ -142,6 +145,7 @@ wake_at step.Disarm e v o r x is wakes idx st word =
           (stands_with e (record e { area = with_item e.area 0 x }) v step.Idle false e.shown e.heard e.bells (slice_set v.stored p x) now.Idle None v.heard v.bells v.seen v.shown st
           (copies_set (avail_from v.frame) ((v.frame.size + 6) / 4) e.area.items v.stored 0 x st.area (omega arith) (omega (arith, st.wide, areas v.frame))) (length-set v.stored p x ∙ st.wide) refl st.signals.hears st.signals.rings st.shown few tt refl);
       is = sym (ap (λ t. driver_act_at t v op.Disarm (Store p x) r) n);
+      of_it = subst (λ t. IsDriverOp (driver_begun t e.pieces.items) op.Disarm) (sym is) refl;
       left = subst (λ t. 0 < driver_left t e.pieces.items) (sym is) (let z : 0 < 1 = omega arith in z);
       says = subst (λ t. DriverSays act.Awake (driver_begun t e.pieces.items) DriverOp.idle v.frame v.done (driver_after v op.Disarm (Store p x) r).done) (sym is) (tt, refl, ap (λ (w : DriverView). w.done) is_after);
     }

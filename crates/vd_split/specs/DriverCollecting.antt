@@ -21,7 +21,7 @@ use Rattle.vd_ring.proofs.ListSteps.{batch_one, returns_next}
 use Rattle.vd_split_ring.specs.SplitWords.{used_from, len_word, shows}
 use Rattle.vd_split_ring.specs.SplitDriver.{NamesOpen, DriverNextAt, DriverNext, driver_after, driver_after_at, driver_act_at}
 use Rattle.vd_layout.proofs.OnePair.{were_collected}
-use Rattle.vd_layout.specs.Begun.{DriverOp}
+use Rattle.vd_layout.specs.Begun.{IsDriverOp, DriverOp}
 use Rattle.vd_layout.specs.Driver.{DriverSays}
 use Rattle.vd_split.specs.declared.driver.SplitDriver.{SplitDriver}
 use Rattle.vd_split.specs.declared.driver.Slot.{Slot}
@@ -116,6 +116,7 @@ finish_goes e v r w x e' number is st hit same items capacity =
         doing = refl;
       };
       is = ap (λ j. act.Collected j (lane32 x 0) (lane32 w 1)) same ∙ sym (ap (λ t. driver_act_at t v op.Collect (Load p) x) n.0 ∙ ap (λ (ys : List Used). act.Collected (last_used ys).number (last_used ys).len (lane32 w 1)) one);
+      of_it = subst (λ t. IsDriverOp (driver_begun t e.pieces.items) op.Collect) (sym is) refl;
       left = subst (λ t. 0 < driver_left t e.pieces.items) (sym is) (let z : 0 < 1 = omega arith in z);
       says = subst (λ t. DriverSays (act.Collected number (lane32 x 0) (lane32 w 1)) (driver_begun t e.pieces.items) DriverOp.idle f o (driver_after v op.Collect (Load p) x).done) (sym is)
           (subst (λ j. DriverSays (act.Collected j (lane32 x 0) (lane32 w 1)) DriverOp.collect DriverOp.idle f o (driver_after v op.Collect (Load p) x).done) (sym same)

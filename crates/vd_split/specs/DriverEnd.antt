@@ -15,7 +15,7 @@ use Rattle.vd_ring.specs.declared.driver.DriverView.{DriverView}
 use Rattle.vd_ring.specs.History.{offers, collects, open_at, free, places, head, occurs}
 use Rattle.vd_ring.specs.Places.{Places}
 use Rattle.vd_split_ring.specs.SplitWords.{IsLawful, IsBuilt, avail_from, kick_at, width, command_word, ack_word}
-use Rattle.vd_split_ring.specs.SplitDriver.{CanOffer, NamesOpen, plan, driver_side, driver_act}
+use Rattle.vd_split_ring.specs.SplitDriver.{CanOffer, NamesOpen, plan, driver_side, driver_act, driver_shows}
 use Rattle.vd_layout.specs.Begun.{DriverOp}
 use Rattle.vd_layout.specs.Control.{ControlWords}
 use Rattle.vd_layout.specs.Driver.{DriverModel}
@@ -164,6 +164,7 @@ abbrev pub split_driver : DriverModel SplitDriver
 split_driver = record {
   side = driver_side;
   act = driver_act;
+  shows = driver_shows;
   stands = DriverStands;
   begun = λ e. driver_begun e.doing e.pieces.items;
   armed = λ e. e.armed;

@@ -24,6 +24,8 @@ use Rattle.vd_split_ring.specs.SplitDriver.{CanOffer, DriverNextAt, driver_after
 use Rattle.vd_split_ring.proofs.Areas.{areas}
 use Rattle.vd_split_ring.proofs.ControlFacts.{driver_controls}
 use Rattle.vd_split_ring.proofs.DriverViews.{driver_frame}
+use Rattle.vd_split_ring.proofs.Signalling.{driver_unarmed}
+use Rattle.vd_split_ring.proofs.DriverLooking.{driver_looks}
 use Rattle.vd_split_ring.proofs.Direct.{lent_needs, needs_pieces}
 use Rattle.vd_layout.specs.Begun.{DriverOp}
 use Rattle.vd_layout.specs.Driver.{HasRoom, MayOffer, IsLawfulDriver}
@@ -215,6 +217,8 @@ driver_laws = record {
   ends = λ e none. ends_at e.doing e.pieces.items none;
   control = λ e v a r st n. control_at v.doing e v a r st n;
   framed = λ v o a r. driver_frame v o a r;
+  stays_unarmed = λ v o a r other none. driver_unarmed v o a r other none;
+  looks = driver_looks;
   armed = λ e v st on. (length (collects v.done), is_armed e v st on);
   unarmed = λ e v st off. not_armed e v st off;
   places = λ e v st. st.holds.held;

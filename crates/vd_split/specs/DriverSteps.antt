@@ -30,24 +30,27 @@ use Rattle.vd_split_ring.specs.SplitDriver.{CanOffer, Begins, DriverNextAt, Driv
 use Rattle.vd_split_ring.proofs.Descriptors.{described_at, pieces_back}
 use Rattle.vd_split_ring.proofs.Direct.{lent_pieces, staged_is}
 use Rattle.vd_split_ring.proofs.Areas.{areas}
+use Rattle.vd_layout.specs.Begun.{IsDriverOp}
 use Rattle.vd_layout.specs.Driver.{DriverSays, IsDriverStep}
 use Rattle.vd_split.specs.declared.driver.SplitDriver.{SplitDriver}
 use Rattle.vd_split.specs.declared.driver.Slot.{Slot}
 use Rattle.vd_split.specs.declared.driver.DriverStep.TheVariants as step
 use Rattle.vd_split.specs.DriverEnd.{HoldsPlaces, DriverStands, DriverStepStands, Keeps, offering, driver_begun, driver_left, split_driver, not_armed, DriverStepArmed, driver_owes}
+use Rattle.vd_split.specs.DriverLaws.{room_from}
 use Rattle.vd_split.specs.Parts.{next_place, described_step}
 use Rattle.vd_split.specs.Plans.{plan_is, enough, plan_length, begins_at, next_mod, copies_set, copies_other}
 
 -- what one step of the end owes in a view
 pub record Goes (e e' : SplitDriver) (v : DriverView) (o : Op) (a : Access) (r : ℕ) (answer : DriverAct) : Type 0 where
   pub next : DriverNext v o a
+  pub of_it : IsDriverOp (driver_begun e.doing e.pieces.items) o
   pub stands : DriverStands e' (driver_after v o a r)
   pub is : answer ≡ driver_act v o a r
   pub left : driver_left e'.doing e'.pieces.items < driver_left e.doing e.pieces.items
   pub says : DriverSays answer (driver_begun e.doing e.pieces.items) (driver_begun e'.doing e'.pieces.items) v.frame v.done (driver_after v o a r).done
 
 pub made : {P : Type 0} (port : PortModel P) (p q : P) (e e' : SplitDriver) (v : DriverView) (o : Op) (a : Access) (r : ℕ) (answer : DriverAct) → Goes e e' v o a r answer → port.moves p o a r q → IsDriverStep port split_driver p q v e e' answer
-made port p q e e' v o a r answer go moved = record { op = o; access = a; got = r; was_next = go.next; moved = moved; now_stands = go.stands; is_answer = go.is; left = go.left; says = go.says }
+made port p q e e' v o a r answer go moved = record { op = o; access = a; got = r; was_next = go.next; moved = moved; now_stands = go.stands; is_answer = go.is; of_it = go.of_it; left = go.left; says = go.says }
 
 pub small_places : (queue : List ℕ) (capacity : ℕ) (slots : List Slot) (f : Frame) (o : List DriverDone) → HoldsPlaces queue capacity slots f o → IsLawful f → All (λ p. p < 32768) queue
 small_places queue capacity slots f o h l = λ k d a.
@@ -116,6 +119,7 @@ describe_goes e v at r is st =
         doing = which (nat_lt (at + 1) (2 * length c)) refl can more len;
       };
       is = sym (ap (λ t. driver_act_at t v op.Offer (Store s.place s.word) r) n.2 ∙ act_at v at ps s.place s.word r);
+      of_it = subst (λ t. IsDriverOp (driver_begun t c) op.Offer) (sym is) refl;
       left = subst (λ t. driver_left (described_step at (length c)) c < driver_left t c) (sym is) (shorter (nat_lt (at + 1) (2 * length c)) refl below);
       says = subst (λ t. DriverSays act.Moved (driver_begun t c) (driver_begun (described_step at (length c)) c) f o (driver_after v op.Offer (Store s.place s.word) r).done) (sym is)
           (begun (nat_lt (at + 1) (2 * length c)), ap (λ (w : DriverView). w.done) is_after);
@@ -199,6 +203,7 @@ enter_at e v i r x is st here word =
         doing = (n.0, refl);
       };
       is = sym (ap (λ t. driver_act_at t v op.Offer (Store p x) r) n.1);
+      of_it = subst (λ t. IsDriverOp (driver_begun t c) op.Offer) (sym is) refl;
       left = subst (λ t. 3 < driver_left t c) (sym is) (let z : 3 < 4 = omega arith in z);
       says = subst (λ t. DriverSays act.Moved (driver_begun t c) (Rattle.vd_layout.specs.Begun.DriverOp.offer c) f o (driver_after v op.Offer (Store p x) r).done) (sym is) (refl, ap (λ (w : DriverView). w.done) is_after);
     }
@@ -304,9 +309,10 @@ publish_goes e v r x e' s is st word left capacity number taken =
         doing = (ap (λ k. now.Checking k (k + 1)) (sym st.counts.offers), omega arith, omega arith);
       };
       is = ap act.Offered st.counts.offers ∙ sym (ap (λ t. driver_act_at t v op.Offer (Store p x) r) n.1);
+      of_it = subst (λ t. IsDriverOp (driver_begun t c) op.Offer) (sym is) refl;
       left = subst (λ t. 2 < driver_left t c) (sym is) (let z : 2 < 3 = omega arith in z);
       says = subst (λ t. DriverSays (act.Offered e.offered) (driver_begun t c) Rattle.vd_layout.specs.Begun.DriverOp.signal f o (driver_after v op.Offer (Store p x) r).done) (sym is)
-          (c, refl, inr refl, st.counts.offers, ap (λ (w : DriverView). w.done) is_after);
+          (c, refl, inr refl, st.counts.offers, ap (λ (w : DriverView). w.done) is_after, record { fits = can.fits; room = room_from e v c st (omega (arith, enough f o c b can, ap (λ (fr : List ℕ). length fr) st.holds.queued)); limited = can.limited });
     }
 
 pub publish_head : (e : SplitDriver) (v : DriverView) → e.doing ≡ step.Publish → DriverStands e v → (0 < length e.free.items) × (length e.pieces.items ≤ length e.free.items) × (slice_index e.free.items 0 < length e.slots.items)

@@ -14,3 +14,4 @@ pub mod Rig
 pub mod Tracked
 pub mod DriverBells
 pub mod DeviceBells
+pub mod Telling

@@ -1,7 +1,9 @@
 -- Places that run round a ring, copies of an area, and the order of an offer's stores.
 use Rattle.std.specs.Prelude.{◌≡◌, ℕ, ◌+◌, ◌*◌, ◌/◌, ◌%◌, ◌<◌, ◌==◌, nat_lt, Bool, List, length, if◌then◌else◌, slice_index}
 use Rattle.vd_bits.specs.Lanes.{lane16}
-use Rattle.vd_bits.specs.Event.{need_event}
+use Rattle.vd_event.specs.declared.rule.EventRule.TheVariants as rule
+use Rattle.vd_event.specs.Words.{arm_word}
+use Rattle.vd_event.specs.Rings.{wants}
 use Rattle.vd_split.specs.declared.driver.DriverStep.{DriverStep}
 use Rattle.vd_split.specs.declared.driver.DriverStep.TheVariants as step
 
@@ -23,16 +25,17 @@ acks_area n indirect control = commands_area n indirect + (if control then 2 * n
 abbrev pub all_words : ℕ → Bool → Bool → ℕ
 all_words n indirect control = acks_area n indirect control + (if control then n else 0) + 2
 
--- the place of the device's event word, and whether the word loaded there asks for a signal for a range
+-- the place of the device's event word
 abbrev pub event_place : ℕ → Bool → ℕ
 event_place n event_idx = if event_idx then used_area n + n else used_area n
 
-abbrev pub asks : Bool → ℕ → ℕ → ℕ → Bool
-asks event_idx old new word = if event_idx then need_event (lane16 word 2 % 65536) (new % 65536) (old % 65536) else (lane16 word 0 % 2) == 0
-
--- whether this event word asks for a signal for a range
+-- whether this event word asks for a signal for a range, by the rule of EVENT_IDX or of the flags
 abbrev pub wanted : Bool → ℕ → ℕ → ℕ → Bool
-wanted event_idx old new event = if event_idx then need_event (event % 65536) (new % 65536) (old % 65536) else (event % 2) == 0
+wanted event_idx old new event = if event_idx then wants rule.SplitIndex old new event else wants rule.SplitFlags old new event
+
+-- whether the loaded word with the device's event word does
+abbrev pub asks : Bool → ℕ → ℕ → ℕ → Bool
+asks event_idx old new word = if event_idx then wants rule.SplitIndex old new (lane16 word 2) else wants rule.SplitFlags old new (lane16 word 0)
 
 -- how far behind the device area's first word the device's event word stands
 abbrev pub event_offset : ℕ → Bool → ℕ
@@ -47,7 +50,7 @@ abbrev pub own_lane : ℕ → Bool → ℕ
 own_lane n event_idx = if event_idx then n + 2 else 0
 
 abbrev pub own_value : ℕ → Bool → ℕ
-own_value count event_idx = if event_idx then count % 65536 else 0
+own_value count event_idx = if event_idx then arm_word rule.SplitIndex count else arm_word rule.SplitFlags count
 
 -- these are the n words from place `at` on
 pub record Copies (area : List ℕ) (at n : ℕ) (stored : List ℕ) : Type 0 where

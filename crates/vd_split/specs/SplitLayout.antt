@@ -127,6 +127,7 @@ split_laws = record {
   wide = λ ws v w r. (r.words.wide.0, r.same);
   frames = λ ws v w r. (r.lawful, r.built);
   framed = λ n f c g can with. let m = made_for n f c g can with in (m.lawful, m.built);
+  some_word = λ g h. omega arith;
   driver_low = λ v op a l n. (driver_alone v op a l.0 n).inside;
   device_low = λ w op a l n. device_inside w op a l.0 n;
   places = λ ws v w r. r.places;

@@ -2,6 +2,7 @@
 use arrayvec::ArrayVec;
 use vd_model::{Features, Piece};
 
+mod advance;
 mod end;
 mod give;
 mod make;
@@ -63,4 +64,17 @@ pub struct SplitDevice {
     pub(crate) pieces: ArrayVec<Piece, 16>,
     pub(crate) addr: u64,
     pub(crate) doing: DeviceStep,
+}
+
+/// What a step did. The chain of a take is in the pieces that it has loaded.
+#[derive(Copy, Clone)]
+pub enum Told {
+    Moved,
+    Taken(u32),
+    Given(u32),
+    Nothing,
+    Armed,
+    Awake,
+    Asleep,
+    Rested,
 }

@@ -7,6 +7,7 @@ pub(crate) use make::kick_place;
 pub(crate) use signal::wanted;
 pub(crate) use sleep::{own_lane, own_value};
 
+mod advance;
 mod collect;
 mod end;
 mod make;

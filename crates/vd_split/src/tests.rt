@@ -1,6 +1,8 @@
 //! Both ends over plain words, against worked rows and an independent model of the format.
+mod chains;
 mod format;
 mod rig;
 mod rows;
+mod sleepers;
 mod table;
 mod tracked;

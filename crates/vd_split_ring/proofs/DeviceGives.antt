@@ -13,13 +13,13 @@ use Rattle.vd_ring.specs.declared.device.DeviceDone.{DeviceDone}
 use Rattle.vd_ring.specs.declared.device.DeviceDone.TheVariants.{Give, Rest}
 use Rattle.vd_ring.specs.declared.device.DeviceNow.TheVariants.{Idle, Giving, Checking, Resting}
 use Rattle.vd_ring.specs.declared.device.DeviceView.{DeviceView}
-use Rattle.vd_ring.specs.History.{offers, collects, takes, gives, running, taken_head, head, chain_at, occurs, given, entry, batch, with_head, IsWhole}
+use Rattle.vd_ring.specs.History.{offers, collects, takes, gives, running, taken_head, head, chain_at, occurs, given, entry, batch, with_head, IsWhole, last_used}
 use Rattle.vd_ring.specs.Lists.{entry_at}
 use Rattle.vd_ring.specs.Signals.{moves}
 use Rattle.vd_ring.specs.Signals.{publishes as publishes_range}
 use Rattle.vd_split_ring.specs.SplitWords.{shown_from, IsDevices, width, used_from, id_word, len_word, used_id, used_len, ack_word}
 use Rattle.vd_split_ring.specs.SplitDevice.{Names, Measures, PublishesUsed, device_gives, device_rests}
-use Rattle.vd_split_ring.specs.SplitRing.{Ring, Gives, chains_out, chains_in, entries_out, entries_in}
+use Rattle.vd_split_ring.specs.SplitRing.{Ring, Gives, EndsGive, chains_out, chains_in, entries_out, entries_in}
 use Rattle.vd_ring.proofs.Counts.{occurs_from, with_head_is}
 use Rattle.vd_ring.proofs.ListSteps.{some_same, batch_one, entry_is, returns_next, single_entry}
 use Rattle.vd_ring.proofs.DeviceLists.{give_room, running_head, same_taken_head, entry_new, entry_old, lists_given, lists_rested}
@@ -90,6 +90,7 @@ names ws d e p x r unarmed n =
         calls = r.calls;
         armed = unarmed;
         driver_seen = r.driver_seen;
+        driver_cut = r.driver_cut;
         device_seen = r.device_seen;
         device_shown = r.device_shown;
         rested = r.rested;
@@ -145,6 +146,7 @@ measures ws d e a p x r n =
         calls = r.calls;
         armed = r.device_armed;
         driver_seen = r.driver_seen;
+        driver_cut = r.driver_cut;
         device_seen = r.device_seen;
         device_shown = r.device_shown;
         rested = r.rested;
@@ -165,6 +167,13 @@ given_is ws d e a len r now =
     ap (λ (n : ℕ). batch f (chain_at (takes s)) (length (gives s)) n len) number ∙ batch_one f (chain_at (takes s)) (length (gives s)) k len (returns_next f (chain_at (takes s)) (length (gives s)) k now.next)
 
 -- a give of one entry
+-- what ended where a give ends still does after another give
+cut_given : (s : List DeviceDone) (us : List Used) (n : ℕ) → n ≤ length (gives s) → EndsGive s n → EndsGive (Give us ∷ s) n
+cut_given s us n low cut more = elim (cases_eq (length (gives s)) n) [
+  | inl e ↦ (last_used us, entry_new s us n e)
+  | inr ne ↦ let old = cut (omega (arith, ne)) in (old.0, entry_old s us n ne ∙ old.1)
+]
+
 gives_entry : (ws : List ℕ) (d : DriverView) (e : DeviceView) (a b : ℕ) (us : List Used) (u : Used) → us ≡ u ∷ [] → Ring ws d (record e { frame = d.frame; doing = Giving (a ∷ b ∷ []) }) → (now : Gives d.frame e.done e.stored a) → u ≡ entry now.number (lane32 b 0)
     → used_len d.frame e.stored (length (gives e.done)) ≡ lane32 b 0
     → let q = used_from d.frame in let x = set_lane16 (slice_index e.stored q) 1 (length (gives e.done ++ us) % 65536) in
@@ -209,6 +218,7 @@ gives_entry ws d e a b us u one r now is len =
       calls = publishes_range (entries_out E) (entries_in d) (length (gives s ++ u ∷ [])) (omega (arith, longer)) refl r.calls;
       armed = (r.device_armed, record { some = omega (arith, longer); near = omega (arith, longer, r.lawful.some_place) });
       driver_seen = omega (arith, r.driver_seen);
+      driver_cut = cut_given s (u ∷ []) d.seen r.driver_seen r.driver_cut;
       device_seen = r.device_seen;
       device_shown = r.device_shown;
       rested = tt;
@@ -249,6 +259,7 @@ rests ws d e x r index =
       calls = r.calls;
       armed = tt;
       driver_seen = r.driver_seen;
+      driver_cut = r.driver_cut;
       device_seen = omega (arith, index);
       device_shown = λ h. omega (arith, index, r.device_shown h, r.device_seen, r.lists.count);
       rested = (len, is);

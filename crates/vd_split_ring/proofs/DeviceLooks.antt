@@ -50,6 +50,7 @@ takes_look ws d e g n true lane is r unarmed eq = ring_with ws ws d (record e { 
   calls = r.calls;
   armed = tt;
   driver_seen = r.driver_seen;
+  driver_cut = r.driver_cut;
   device_seen = omega arith;
   device_shown = λ h. absurd cc;
   rested = r.rested;
@@ -69,6 +70,7 @@ takes_look ws d e g n false lane is r unarmed eq =
       armed = unarmed;
       device_doing = record { lane = lane ∙ ap (λ (m : ℕ). m % 65536) (sym is); more = omega arith };
       driver_seen = r.driver_seen;
+      driver_cut = r.driver_cut;
       device_seen = omega arith;
       device_shown = λ h. omega arith;
       rested = r.rested;
@@ -125,6 +127,7 @@ finds_head ws d e g w r is =
         armed = r.device_armed;
         device_doing = (r.device_doing, record { is_head = is_head; words = refl; left = some (is_tabled f (chain o t)) (length (chain o t)) (length (reading f (places f o t) (chain o t))) fits.chain.0 long });
         driver_seen = r.driver_seen;
+        driver_cut = r.driver_cut;
         device_seen = r.device_seen;
         device_shown = r.device_shown;
         rested = r.rested;

@@ -18,7 +18,7 @@ use Rattle.vd_ring.specs.Lists.{Lists, Rested, entry_at}
 use Rattle.vd_ring.specs.Signals.{Signals}
 use Rattle.vd_split_ring.specs.SplitWords.{IsDevices, used_from, call_at, ack_word}
 use Rattle.vd_split_ring.specs.SplitDevice.{DeviceKnows}
-use Rattle.vd_split_ring.specs.SplitRing.{Words, DeviceWords, DeviceSignals, DriverDoing, DeviceDoing, chains_out, chains_in, entries_out, entries_in, DeviceArmed, Ring}
+use Rattle.vd_split_ring.specs.SplitRing.{Words, DeviceWords, DeviceSignals, DriverDoing, DeviceDoing, chains_out, chains_in, entries_out, entries_in, DeviceArmed, Ring, EndsGive}
 use Rattle.vd_split_ring.proofs.Areas.{areas, other_word}
 
 -- the parts that speak of the device
@@ -35,6 +35,7 @@ pub record DeviceSide (ws : List ℕ) (d : DriverView) (e : DeviceView) : Type 0
   pub calls : Signals (entries_out e) (entries_in d)
   pub armed : DeviceArmed e.doing d.frame e.armed (length (takes e.done)) e.heard
   pub driver_seen : d.seen ≤ length (gives e.done)
+  pub driver_cut : EndsGive e.done d.seen
   pub device_seen : e.seen ≤ length (offers d.done)
   pub device_shown : e.shown ≡ true → length (takes e.done) < e.seen
   pub rested : Rested e.done
@@ -61,6 +62,7 @@ ring_with ws us d e v r s = record {
   driver_armed = r.driver_armed;
   device_armed = s.armed;
   driver_seen = s.driver_seen;
+  driver_cut = s.driver_cut;
   device_seen = s.device_seen;
   driver_shown = r.driver_shown;
   device_shown = s.device_shown;

@@ -90,6 +90,7 @@ takes_chain ws d e g w ss us r spelled =
       calls = r.calls;
       armed = tt;
       driver_seen = r.driver_seen;
+      driver_cut = r.driver_cut;
       device_seen = r.device_seen;
       device_shown = λ on. omega (arith, length_push (takes s) c, shows_more g (t + 1) e.seen seen.lane (omega (arith, seen.more)) (not-true (shows g (t + 1)) on));
       rested = tt;
@@ -115,6 +116,7 @@ loads_on ws d e g w ss us r words left =
       armed = r.device_armed;
       device_doing = (r.device_doing.0, record { is_head = r.device_doing.1.is_head; words = words; left = left });
       driver_seen = r.driver_seen;
+      driver_cut = r.driver_cut;
       device_seen = r.device_seen;
       device_shown = r.device_shown;
       rested = r.rested;

@@ -21,7 +21,7 @@ use Rattle.vd_ring.proofs.ControlSteps.{commands_elsewhere}
 use Rattle.vd_ring.proofs.ListSteps.{given_within}
 use Rattle.vd_split_ring.specs.SplitWords.{IsLawful, width, used_from, kick_at, call_at, command_word, ack_word, lane_at, lane_word, with_lane, entry_lane, event_lane, driver_event_lane, device_event_word, device_event_lane, armed_value, wants, bell_word, shows, shown_from}
 use Rattle.vd_split_ring.specs.SplitDriver.{StoresKick, StoresUsedEvent, StoresNoInterrupt, stores, driver_checks, driver_rings, driver_arms, driver_wakes, driver_looks_again, driver_hears}
-use Rattle.vd_split_ring.specs.SplitRing.{Ring, Words, DriverWords, DriverSignals, DriverDoing, chains_out, chains_in, entries_out, entries_in, DriverArmed, IsRange}
+use Rattle.vd_split_ring.specs.SplitRing.{Ring, Words, DriverWords, DriverSignals, DriverDoing, chains_out, chains_in, entries_out, entries_in, DriverArmed, IsRange, EndsGive}
 use Rattle.vd_split_ring.proofs.Areas.{areas, acks_follow, driver_stores, area_no_descriptor, lane_same, lane_other, lane_past, lane_inside, shows_same, shows_more}
 use Rattle.vd_split_ring.proofs.DriverParts.{open_past, driver_words_past, signals_past}
 use Rattle.vd_split_ring.proofs.DriverCollects.{counts_given}
@@ -38,6 +38,7 @@ record DriverSide (ws : List ℕ) (d : DriverView) (e : DeviceView) : Type 0 whe
   calls : Signals (entries_out e) (entries_in d)
   is_armed : DriverArmed d.doing d.frame d.armed (length (collects d.done)) d.heard
   seen : d.seen ≤ length (gives e.done)
+  cut : EndsGive e.done d.seen
   shown : d.shown ≡ true → length (collects d.done) < d.seen
 
 -- the others stay
@@ -63,6 +64,7 @@ ring_after ws us d e st now at h b n x r s = record {
   driver_armed = s.is_armed;
   device_armed = r.device_armed;
   driver_seen = s.seen;
+  driver_cut = s.cut;
   device_seen = r.device_seen;
   driver_shown = s.shown;
   device_shown = r.device_shown;
@@ -155,6 +157,7 @@ checks_at ws d e old new event true r stands is = ring_after ws ws (record d { d
   calls = r.calls;
   is_armed = r.driver_armed.0;
   seen = r.driver_seen;
+  cut = r.driver_cut;
   shown = r.driver_shown;
 }
 checks_at ws d e old new event false r stands is = ring_after ws ws (record d { doing = Checking old new }) e d.stored Idle d.armed d.heard d.bells d.seen d.shown r record {
@@ -168,6 +171,7 @@ checks_at ws d e old new event false r stands is = ring_after ws ws (record d { 
   calls = signal.moves (entries_out e) (entries_in (record d { doing = Checking old new })) (length (collects d.done)) true r.driver_armed.0 r.calls;
   is_armed = tt;
   seen = r.driver_seen;
+  cut = r.driver_cut;
   shown = r.driver_shown;
 }
 
@@ -199,6 +203,7 @@ rings_bell ws d e old new p x r n =
       calls = signal.moves (entries_out e) (entries_in D) (length (collects d.done)) true r.driver_armed r.calls;
       is_armed = tt;
       seen = r.driver_seen;
+      cut = r.driver_cut;
       shown = r.driver_shown;
     }))
 
@@ -233,6 +238,7 @@ arms_at ws d e b r unarmed is =
         calls = signal.arms (entries_out e) (entries_in D) r.calls;
         is_armed = refl;
         seen = r.driver_seen;
+        cut = r.driver_cut;
         shown = r.driver_shown;
       },
       near,
@@ -282,6 +288,7 @@ looks_again_at ws d e g true c lane r eq idx =
       calls = signal.armed (entries_out e) (entries_in D) (omega arith) r.calls;
       is_armed = tt;
       seen = omega arith;
+      cut = λ h. absurd (omega arith);
       shown = λ h. absurd cc;
     }
 looks_again_at ws d e g false c lane r eq idx = woken c idx
@@ -301,6 +308,7 @@ looks_again_at ws d e g false c lane r eq idx = woken c idx
           calls = signal.wakes (entries_out e) (entries_in D) true r.calls;
           is_armed = tt;
           seen = omega arith;
+          cut = λ h. absurd (omega arith);
           shown = λ h. omega arith;
         }
     woken false off =
@@ -317,6 +325,7 @@ looks_again_at ws d e g false c lane r eq idx = woken c idx
           calls = signal.wakes (entries_out e) (entries_in D) false r.calls;
           is_armed = (refl, off, tt);
           seen = omega arith;
+          cut = λ h. absurd (omega arith);
           shown = λ h. omega arith;
         }
 
@@ -343,6 +352,7 @@ hears_at ws d e g false c is r eq idx = woken c idx
           calls = subst (λ n. Signals (entries_out e) (record { at = length (collects d.done); idle = true; armed = None; heard = n })) (sym is) (signal.hears (entries_out e) (entries_in D) true r.calls);
           is_armed = tt;
           seen = r.driver_seen;
+          cut = r.driver_cut;
           shown = r.driver_shown;
         }
     woken false off =
@@ -358,6 +368,7 @@ hears_at ws d e g false c is r eq idx = woken c idx
           calls = subst (λ n. Signals (entries_out e) (record { at = length (collects d.done); idle = false; armed = None; heard = n })) (sym is) (signal.hears (entries_out e) (entries_in D) false r.calls);
           is_armed = (refl, off, some g d.heard other (omega (arith, r.calls.heard)));
           seen = r.driver_seen;
+          cut = r.driver_cut;
           shown = r.driver_shown;
         }
       where
@@ -390,6 +401,7 @@ disarms ws d e now p x r kicks n =
         calls = signal.wakes (entries_out e) (entries_in D) true r.calls;
         is_armed = tt;
         seen = r.driver_seen;
+        cut = r.driver_cut;
         shown = r.driver_shown;
       },
       near,
@@ -409,5 +421,6 @@ disarmed ws d e r =
       calls = signal.wakes (entries_out e) (entries_in D) true r.calls;
       is_armed = tt;
       seen = r.driver_seen;
+      cut = r.driver_cut;
       shown = r.driver_shown;
     }

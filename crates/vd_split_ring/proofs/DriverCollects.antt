@@ -52,6 +52,7 @@ looks_at ws d e g true lane r unarmed eq = record {
   driver_doing = tt;
   device_doing = r.device_doing;
   driver_seen = omega (arith, counts_given ws (record d { doing = Idle }) e g lane r);
+  driver_cut = λ h. absurd (omega (arith, counts_given ws (record d { doing = Idle }) e g lane r));
   device_seen = r.device_seen;
   driver_shown = λ h. absurd cc;
   device_shown = r.device_shown;
@@ -79,6 +80,7 @@ looks_at ws d e g false lane r unarmed eq =
       driver_doing = record { lane = lane ∙ ap (λ n. n % 65536) (sym is); more = omega (arith, is) };
       device_doing = r.device_doing;
       driver_seen = omega (arith, is);
+      driver_cut = λ h. absurd (omega (arith, is));
       device_seen = r.device_seen;
       driver_shown = λ h. omega (arith, is);
       device_shown = r.device_shown;
@@ -135,6 +137,7 @@ finds ws d e g w r is =
         driver_doing = (seen, n);
         device_doing = r.device_doing;
         driver_seen = r.driver_seen;
+        driver_cut = r.driver_cut;
         device_seen = r.device_seen;
         driver_shown = r.driver_shown;
         device_shown = r.device_shown;
@@ -223,6 +226,7 @@ collects_last ws d e g w x r is =
         driver_doing = tt;
         device_doing = doing_collected e.doing f o u s e.stored e.seen r.device_doing;
         driver_seen = r.driver_seen;
+        driver_cut = r.driver_cut;
         device_seen = r.device_seen;
         driver_shown = λ h. shows_more g (length (collects o ++ u ∷ [])) d.seen seen.lane (omega (arith, seen.more)) (not-true (shows g (length (collects o ++ u ∷ []))) h);
         device_shown = r.device_shown;

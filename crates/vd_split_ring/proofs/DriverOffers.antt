@@ -80,6 +80,7 @@ describes ws d e now puts p x r unarmed kicks stand n =
         };
         device_doing = r.device_doing;
         driver_seen = r.driver_seen;
+        driver_cut = r.driver_cut;
         device_seen = r.device_seen;
         driver_shown = r.driver_shown;
         device_shown = r.device_shown;
@@ -135,6 +136,7 @@ enters ws d e puts p x r n =
         driver_doing = record { chain = c; can = n.can; whole = n.whole; stand = stood; entry = lane_same f d.stored j h small (omega arith) };
         device_doing = r.device_doing;
         driver_seen = r.driver_seen;
+        driver_cut = r.driver_cut;
         device_seen = r.device_seen;
         driver_shown = r.driver_shown;
         device_shown = r.device_shown;
@@ -212,6 +214,7 @@ publishes ws d e puts p x r n =
       driver_doing = tt;
       device_doing = doing_offered e.doing f o c e.done e.stored e.seen r.places r.device_seen r.device_doing;
       driver_seen = r.driver_seen;
+      driver_cut = r.driver_cut;
       device_seen = omega (arith, r.device_seen, length_push (offers o) c);
       driver_shown = r.driver_shown;
       device_shown = r.device_shown;

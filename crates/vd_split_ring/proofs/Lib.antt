@@ -28,5 +28,7 @@ pub mod DeviceAnswers
 pub mod Seen
 pub mod Signalling
 pub mod Sleeping
+pub mod DriverLooking
+pub mod DeviceLooking
 mod Examples
 pub mod ControlFacts

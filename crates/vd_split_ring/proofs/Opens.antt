@@ -99,6 +99,7 @@ opens f l b =
       driver_armed = tt;
       device_armed = tt;
       driver_seen = omega arith;
+      driver_cut = λ h. absurd (omega arith);
       device_seen = omega arith;
       driver_shown = λ h. absurd cc;
       device_shown = λ h. absurd cc;

@@ -1,6 +1,6 @@
 -- The accesses of a split ring's device: which may be made next, the view after one, what its answer tells, and what the end's step
 -- answers.
-use Rattle.std.specs.Prelude.{◌≡◌, ◌≢◌, ℕ, ◌+◌, ◌-◌, ◌/◌, ◌%◌, ◌<◌, ◌≤◌, true, false, not, List, [], ◌∷◌, ◌++◌, length, take, Option, None, Some, if◌then◌else◌, ◌==◌, slice_index, slice_set}
+use Rattle.std.specs.Prelude.{Bool, ◌≡◌, ◌≢◌, ℕ, ◌+◌, ◌-◌, ◌/◌, ◌%◌, ◌<◌, ◌≤◌, true, false, not, List, [], ◌∷◌, ◌++◌, length, take, Option, None, Some, if◌then◌else◌, ◌==◌, slice_index, slice_set}
 use Rattle.std.specs.List.{All, Contains}
 use Rattle.vd_bits.specs.Lanes.{lane16, set_lane16, lane32, set_lane32}
 use Rattle.vd_model.specs.declared.chain.Piece.{Piece}
@@ -253,6 +253,10 @@ abbrev pub DeviceTells : DeviceView → Op → Access → ℕ → Type 0
 DeviceTells v op a r = DeviceKnows v a r × DeviceTellsAt v.doing v op a r
 
 -- ---- the step's answer
+
+-- the index that a look loads shows a chain that is not taken
+abbrev pub device_shows : DeviceView → ℕ → Bool
+device_shows v r = not (shows r (length (takes v.done)))
 
 abbrev pub take_act : DeviceView → List ℕ → DeviceAct
 take_act v ws = if is_whole v.frame ws then act.Taken (length (takes v.done)) (chain_of v.frame ws) else act.Moved

@@ -228,6 +228,10 @@ DriverTells v op a r = DriverKnows v a r × DriverTellsAt v.doing v op a r
 
 -- ---- the step's answer
 
+-- the index that a look loads shows a used entry that is not collected
+abbrev pub driver_shows : DriverView → ℕ → Bool
+driver_shows v r = not (shows r (length (collects v.done)))
+
 abbrev pub collect_act : DriverView → ℕ → ℕ → DriverAct
 collect_act v w x = let u : Used = last_used (collected v.frame v.done (lane32 w 1) (lane32 x 0)) in act.Collected u.number u.len (lane32 w 1)
 

@@ -181,6 +181,10 @@ DeviceArmed _ f armed at heard = armed ≡ None
 
 -- ---- the invariant
 
+-- so many chains given end where a give ends: of any that follow them, a used entry begins there
+abbrev pub EndsGive : List DeviceDone → ℕ → Type 0
+EndsGive s n = n < length (gives s) → (u : Used) × (entry_at s n ≡ Some u)
+
 pub record Ring (ws : List ℕ) (d : DriverView) (e : DeviceView) : Type 0 where
   -- both sides name the same ring, size, features and bounds
   pub same : e.frame ≡ d.frame
@@ -216,6 +220,8 @@ pub record Ring (ws : List ℕ) (d : DriverView) (e : DeviceView) : Type 0 where
   -- an index that a side has seen was published
   pub driver_seen : d.seen ≤ length (gives e.done)
   pub device_seen : e.seen ≤ length (offers d.done)
+  -- and a used index ends where a give ends, so that no part of an entry's chains is seen
+  pub driver_cut : EndsGive e.done d.seen
   -- where its last look showed more than it has collected or taken since, that look's index is past it
   pub driver_shown : d.shown ≡ true → length (collects d.done) < d.seen
   pub device_shown : e.shown ≡ true → length (takes e.done) < e.seen

@@ -2,7 +2,10 @@
 use Rattle.std.specs.Prelude.{◌≡◌, ℕ, ◌+◌, ◌-◌, ◌*◌, ◌/◌, ◌%◌, ◌<◌, ◌≤◌, ◌⊎◌, ◌==◌, ◌&&◌, nat_lt, Bool, true, false, not, List, [], ◌∷◌, ◌++◌, length, map, take, drop, if◌then◌else◌, slice_index}
 use Rattle.std.specs.List.{All}
 use Rattle.vd_bits.specs.Lanes.{lane16, set_lane16, lane32}
-use Rattle.vd_bits.specs.Event.{apart, need_event}
+use Rattle.vd_bits.specs.Event.{apart}
+use Rattle.vd_event.specs.declared.rule.EventRule.TheVariants as rule
+use Rattle.vd_event.specs.Words.{arm_word}
+use Rattle.vd_event.specs.Rings
 use Rattle.vd_model.specs.declared.chain.Piece.{Piece}
 use Rattle.vd_ring.specs.declared.frame.Frame.{Frame}
 use Rattle.vd_ring.specs.declared.frame.Put.{Put}
@@ -122,11 +125,11 @@ device_event_lane f = if f.features.event_idx then 2 else 0
 
 -- the event word of a side that waits for count s
 abbrev pub armed_value : Frame → ℕ → ℕ
-armed_value f s = if f.features.event_idx then s % 65536 else 0
+armed_value f s = if f.features.event_idx then arm_word rule.SplitIndex s else arm_word rule.SplitFlags s
 
 -- this event word asks for a signal for the range old to new - 1: the range holds the event index, or bit 0 of the flags is clear
 abbrev pub wants : Frame → ℕ → ℕ → ℕ → Bool
-wants f old new event = if f.features.event_idx then need_event (event % 65536) (new % 65536) (old % 65536) else (event % 2) == 0
+wants f old new event = if f.features.event_idx then Rings.wants rule.SplitIndex old new event else Rings.wants rule.SplitFlags old new event
 
 -- the word of a bell that was stored so many times
 abbrev pub bell_word : ℕ → ℕ

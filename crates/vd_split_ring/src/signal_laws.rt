@@ -11,8 +11,9 @@ ghost use Rattle.vd_ring.specs.declared.driver.DriverView.{DriverView};
 ghost use Rattle.vd_ring.specs.declared.frame.Frame.{Frame};
 ghost use Rattle.vd_ring.specs.Fresh.{fresh_driver, fresh_device};
 ghost use Rattle.vd_ring.specs.Sleep.{RingSignals, DriverWaits, DeviceWaits, driver_hearings, device_hearings, driver_woken, device_woken};
-ghost use Rattle.vd_split_ring.specs.SplitDevice.{DeviceNext, device_act, device_after};
-ghost use Rattle.vd_split_ring.specs.SplitDriver.{DriverNext, driver_act, driver_after};
+ghost use Rattle.vd_ring.specs.Looks.{DriverLooks, DeviceLooks};
+ghost use Rattle.vd_split_ring.specs.SplitDevice.{DeviceNext, device_act, device_after, device_shows, device_side};
+ghost use Rattle.vd_split_ring.specs.SplitDriver.{DriverNext, driver_act, driver_after, driver_shows, driver_side};
 ghost use Rattle.vd_split_ring.specs.SplitRing.{Ring, DriverSignals, DeviceSignals};
 ghost use Rattle.vd_split_ring.specs.SplitWords.{kick_at, call_at};
 
@@ -53,4 +54,10 @@ pub fn asleep_law()
 pub fn hears_law()
     ensures driver { (ws : List ℕ) (d : DriverView) (e : DeviceView) (o : Op) (a : Access) → Ring ws d e → DriverNext d o a → driver_hearings d + driver_woken o (driver_act d o a (answered ws a)) ≤ driver_hearings (driver_after d o a (answered ws a)) }
     ensures device { (ws : List ℕ) (d : DriverView) (e : DeviceView) (o : Op) (a : Access) → Ring ws d e → DeviceNext e o a → device_hearings e + device_woken o (device_act e o a (answered ws a)) ≤ device_hearings (device_after e o a (answered ws a)) }
+{}
+
+/// Nothing, Armed, Asleep and Awake are answered exactly by what the look, the second look or the bell loaded.
+pub fn answers_law()
+    ensures driver { DriverLooks driver_side driver_act driver_shows }
+    ensures device { DeviceLooks device_side device_act device_shows }
 {}

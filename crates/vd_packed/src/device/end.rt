@@ -1,15 +1,23 @@
 //! What the device's end offers its holder.
 ghost use Rattle.std.specs.Prelude.{◌≡◌, ◌↔◌, IsTrue, ◌≤◌, ℕ, Option, Some};
-ghost use Rattle.vd_packed.specs.DeviceEnd.{packed_device, number_at};
+ghost use Rattle.vd_model.specs.Chains.{IsChain};
+ghost use Rattle.vd_words.specs.Own.{IsOwn};
+ghost use Rattle.vd_ring.specs.declared.device.DeviceView.{DeviceView};
+ghost use Rattle.vd_packed_ring.specs.PackedDevice.{device_side};
+ghost use Rattle.vd_layout.specs.Begun.{DeviceOp};
+ghost use Rattle.vd_layout.specs.Device.{IsDeviceStep};
+ghost use Rattle.vd_packed.specs.DeviceEnd.{DeviceStands, IsSignal, packed_device, number_at};
+ghost use Rattle.vd_packed.specs.Telling.{act_of, TakesNone};
 ghost use Rattle.vd_packed.specs.DeviceLaws.{device_laws};
 
 use super::running::{find_head, guess, none_below};
-use super::{DeviceStep, PackedDevice};
+use super::{DeviceStep, PackedDevice, Told};
 use crate::spot::base_word;
+use arrayvec::ArrayVec;
 use vd_layout::{BadBase, DeviceEnd};
-use vd_model::{Base, Features};
+use vd_model::{Base, Chain, Features, Piece};
 use vd_ring::DeviceAct;
-use vd_words::Port;
+use vd_words::{Op, Port};
 
 impl DeviceEnd for PackedDevice {
     ghost device = { packed_device };
@@ -26,6 +34,10 @@ impl DeviceEnd for PackedDevice {
 
     fn idle(&self) -> bool {
         matches!(self.doing, DeviceStep::Idle | DeviceStep::Resting)
+    }
+
+    fn armed(&self) -> bool {
+        self.armed
     }
 
     fn taken(&self) -> u32 {
@@ -59,19 +71,33 @@ impl DeviceEnd for PackedDevice {
         }
     }
 
+    fn begin_arm(&mut self) {
+        self.doing = DeviceStep::Arm;
+    }
+
+    fn begin_hear(&mut self) {
+        self.doing = DeviceStep::Hear;
+    }
+
+    fn begin_disarm(&mut self) {
+        self.doing = DeviceStep::Disarm;
+    }
+
     fn begin_rest(&mut self) {
         self.doing = DeviceStep::Rest;
     }
 
-    #[inline]
+    #[inline(always)]
     fn step<P: Port>(&mut self, port: &mut P) -> DeviceAct {
-        match self.doing {
-            DeviceStep::Idle | DeviceStep::Resting => unreachable!(),
-            DeviceStep::Look => self.look(port),
-            DeviceStep::Address(head) => self.address(port, head),
-            DeviceStep::Second(head) => self.second(port, head),
-            DeviceStep::Give(number, head, len) => self.give(port, number, head, len),
-            DeviceStep::Rest => self.rest(port),
+        match self.advance(port) {
+            Told::Moved => DeviceAct::Moved,
+            Told::Taken(number) => DeviceAct::Taken(number, chain_of(self.pieces.as_slice())),
+            Told::Given(number) => DeviceAct::Given(number),
+            Told::Nothing => DeviceAct::Nothing,
+            Told::Armed => DeviceAct::Armed,
+            Told::Awake => DeviceAct::Awake,
+            Told::Asleep => DeviceAct::Asleep,
+            Told::Rested => DeviceAct::Rested,
         }
     }
 
@@ -87,4 +113,75 @@ impl DeviceEnd for PackedDevice {
         self.doing = DeviceStep::Idle;
         Ok(())
     }
+}
+
+impl PackedDevice {
+    /// Makes one access of the operation in progress.
+    #[inline(never)]
+    fn advance<P: Port>(&mut self, port: &mut P) -> Told
+        requires busy { ¬ (packed_device.begun self.old ≡ DeviceOp.idle) }
+        requires own { (v : DeviceView) × DeviceStands self.old v × IsOwn P.port device_side port.old v }
+        ensures did { (v : DeviceView) → DeviceStands self.old v → IsOwn P.port device_side port.old v → IsDeviceStep P.port packed_device port.old port.new v self.old self.new (act_of result self.new.pieces.items) }
+        ensures chain { (k : ℕ) → result ≡ Told.Taken k → IsChain self.new.pieces.items }
+    {
+        match self.doing {
+            DeviceStep::Idle | DeviceStep::Resting => unreachable!(),
+            DeviceStep::Look => self.look(port),
+            DeviceStep::Address => self.address(port),
+            DeviceStep::Second => self.second(port),
+            DeviceStep::Give(number, head, len) => self.give(port, number, head, len),
+            DeviceStep::Check(_)
+            | DeviceStep::Ring
+            | DeviceStep::Arm
+            | DeviceStep::LookAgain
+            | DeviceStep::Hear
+            | DeviceStep::WakeArming
+            | DeviceStep::WakeHearing
+            | DeviceStep::Disarm
+            | DeviceStep::Rest
+            | DeviceStep::RestLook => self.signal(port),
+        }
+    }
+
+    /// Makes one access of a check, a bell, an arming, a hearing, a disarming or a rest.
+    #[inline(never)]
+    fn signal<P: Port>(&mut self, port: &mut P) -> Told
+        requires now { IsSignal self.old.doing }
+        requires own { (v : DeviceView) × DeviceStands self.old v × IsOwn P.port device_side port.old v }
+        ensures did { (v : DeviceView) → DeviceStands self.old v → IsOwn P.port device_side port.old v → IsDeviceStep P.port packed_device port.old port.new v self.old self.new (act_of result self.new.pieces.items) }
+        ensures none { TakesNone result }
+    {
+        match self.doing {
+            DeviceStep::Idle
+            | DeviceStep::Resting
+            | DeviceStep::Look
+            | DeviceStep::Address
+            | DeviceStep::Second
+            | DeviceStep::Give(_, _, _) => unreachable!(),
+            DeviceStep::Check(count) => self.check(port, count),
+            DeviceStep::Ring => self.ring(port),
+            DeviceStep::Arm => self.arm(port),
+            DeviceStep::LookAgain => self.look_again(port),
+            DeviceStep::Hear => self.hear(port),
+            DeviceStep::WakeArming => self.wake(port, Op::Arm),
+            DeviceStep::WakeHearing => self.wake(port, Op::Hear),
+            DeviceStep::Disarm => self.disarm(port),
+            DeviceStep::Rest => self.leave(port),
+            DeviceStep::RestLook => self.rest(port),
+        }
+    }
+}
+
+/// The chain of these pieces.
+#[inline]
+fn chain_of(pieces: &[Piece]) -> Chain
+    requires { IsChain pieces.now }
+    ensures { result ≡ pieces.now }
+{
+    let mut copy = ArrayVec::new();
+    match copy.try_extend_from_slice(pieces) {
+        Ok(()) => {}
+        Err(_) => unreachable!(),
+    }
+    Chain::of(copy)
 }

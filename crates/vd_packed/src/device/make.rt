@@ -1,5 +1,5 @@
 //! A device's end of a fresh ring.
-ghost use Rattle.std.specs.Prelude.{◌≡◌, ◌<◌, ◌≤◌, IfOk, None, replicate, length};
+ghost use Rattle.std.specs.Prelude.{◌≡◌, ◌<◌, ◌≤◌, IfOk, None, false, replicate, length};
 ghost use Rattle.vd_ring.specs.Fresh.{fresh_device};
 ghost use Rattle.vd_ring.specs.declared.frame.Frame.{Frame};
 ghost use Rattle.vd_packed_ring.specs.PackedWords.{width};
@@ -7,6 +7,7 @@ ghost use Rattle.vd_packed.specs.DriverEnd.{IsMadeFor};
 ghost use Rattle.vd_packed.specs.DeviceEnd.{DeviceStands};
 
 use super::{DeviceStep, PackedDevice};
+use crate::driver::make::kick_place;
 use crate::spot::first_spot;
 use arrayvec::ArrayVec;
 use std::alloc::{AllocError, Global};
@@ -32,10 +33,11 @@ impl PackedDevice {
         alloc: Global,
         size: u32,
         features: Features,
+        control: bool,
     ) -> Result<PackedDevice, AllocError>
         requires { (0 < size) × (size ≤ 32768) }
-        ensures stands { IfOk result (λ e. (f : Frame) → IsMadeFor size features f → DeviceStands e (fresh_device f (width f))) }
-        ensures idle { IfOk result (λ e. (e.doing ≡ DeviceStep.Idle) × (e.size ≡ size) × (e.features ≡ features) × (e.taken ≡ 0) × (e.given ≡ 0)) }
+        ensures stands { IfOk result (λ e. (f : Frame) → IsMadeFor size features f → f.control ≡ control → DeviceStands e (fresh_device f (width f))) }
+        ensures idle { IfOk result (λ e. (e.doing ≡ DeviceStep.Idle) × (e.size ≡ size) × (e.features ≡ features) × (e.taken ≡ 0) × (e.given ≡ 0) × (e.armed ≡ false)) }
     {
         let running = empty_table(alloc, size)?;
         let counts = zeros(alloc, size as usize)?;
@@ -48,9 +50,15 @@ impl PackedDevice {
             given: 0,
             next: first_spot(),
             used: first_spot(),
+            next_position: 0,
+            used_position: 0,
             running,
             counts,
             guesses,
+            kick: kick_place(size, features.indirect, control),
+            armed: false,
+            heard: 0,
+            bells: 0,
             pieces: ArrayVec::new(),
             second: 0,
             at: first_spot(),

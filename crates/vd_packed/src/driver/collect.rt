@@ -17,6 +17,7 @@ use vd_words::{Access, Op, Port};
 impl PackedDriver {
     /// The load of the second word at the used position, which the store of a give changes. Where it is used the chain
     /// with its id is collected, and the id is free again.
+    #[inline(always)]
     pub(super) fn look<P: Port>(&mut self, port: &mut P) -> DriverAct
         requires now { self.old.doing ≡ DriverStep.Look }
         requires own { (v : DriverView) × DriverStands self.old v × IsOwn P.port driver_side port.old v }
@@ -33,7 +34,10 @@ impl PackedDriver {
         give_back(&mut self.free, head);
         self.collected += 1;
         self.space += slot.count;
-        self.used = forward(self.used, slot.count, self.size);
+        let spot = forward(self.used, slot.count, self.size);
+        self.used.place = spot.place;
+        self.used.wrap = spot.wrap;
+        self.used_position += slot.count as u64;
         DriverAct::Collected {
             number: slot.number,
             len,

@@ -1,6 +1,10 @@
 //! What the driver's end offers its holder.
 ghost use Rattle.std.specs.Prelude.{◌≡◌, ◌≤◌, length};
-ghost use Rattle.vd_packed.specs.DriverEnd.{packed_driver};
+ghost use Rattle.vd_words.specs.Own.{IsOwn};
+ghost use Rattle.vd_ring.specs.declared.driver.DriverView.{DriverView};
+ghost use Rattle.vd_packed_ring.specs.PackedDriver.{driver_side};
+ghost use Rattle.vd_layout.specs.Driver.{IsDriverStep};
+ghost use Rattle.vd_packed.specs.DriverEnd.{DriverStands, IsSignal, packed_driver};
 ghost use Rattle.vd_packed.specs.DriverLaws.{driver_laws};
 
 use super::ids::next_id;
@@ -9,7 +13,7 @@ use arrayvec::ArrayVec;
 use vd_layout::DriverEnd;
 use vd_model::{Chain, Features, Piece};
 use vd_ring::DriverAct;
-use vd_words::Port;
+use vd_words::{Op, Port};
 
 impl DriverEnd for PackedDriver {
     ghost driver = { packed_driver };
@@ -26,6 +30,10 @@ impl DriverEnd for PackedDriver {
 
     fn idle(&self) -> bool {
         matches!(self.doing, DriverStep::Idle)
+    }
+
+    fn armed(&self) -> bool {
+        self.armed
     }
 
     fn offered(&self) -> u32 {
@@ -46,7 +54,8 @@ impl DriverEnd for PackedDriver {
 
     fn begin_offer(&mut self, c: &Chain) {
         copy_pieces(&mut self.pieces, c.pieces());
-        self.at = self.next;
+        self.at.place = self.next.place;
+        self.at.wrap = self.next.wrap;
         self.doing = DriverStep::Describe(0);
     }
 
@@ -54,13 +63,58 @@ impl DriverEnd for PackedDriver {
         self.doing = DriverStep::Look;
     }
 
-    #[inline]
+    fn begin_arm(&mut self) {
+        self.doing = DriverStep::Arm;
+    }
+
+    fn begin_hear(&mut self) {
+        self.doing = DriverStep::Hear;
+    }
+
+    fn begin_disarm(&mut self) {
+        self.doing = DriverStep::Disarm;
+    }
+
+    #[inline(always)]
     fn step<P: Port>(&mut self, port: &mut P) -> DriverAct {
         match self.doing {
             DriverStep::Idle => unreachable!(),
             DriverStep::Describe(at) => self.describe(port, at),
             DriverStep::Publish => self.publish(port),
             DriverStep::Look => self.look(port),
+            DriverStep::Check(_)
+            | DriverStep::Ring
+            | DriverStep::Arm
+            | DriverStep::LookAgain
+            | DriverStep::Hear
+            | DriverStep::WakeArming
+            | DriverStep::WakeHearing
+            | DriverStep::Disarm => self.signal(port),
+        }
+    }
+}
+
+impl PackedDriver {
+    /// Makes one access of a check, a bell, an arming, a hearing or a disarming.
+    #[inline(never)]
+    fn signal<P: Port>(&mut self, port: &mut P) -> DriverAct
+        requires now { IsSignal self.old.doing }
+        requires own { (v : DriverView) × DriverStands self.old v × IsOwn P.port driver_side port.old v }
+        ensures { (v : DriverView) → DriverStands self.old v → IsOwn P.port driver_side port.old v → IsDriverStep P.port packed_driver port.old port.new v self.old self.new result }
+    {
+        match self.doing {
+            DriverStep::Idle
+            | DriverStep::Describe(_)
+            | DriverStep::Publish
+            | DriverStep::Look => unreachable!(),
+            DriverStep::Check(count) => self.check(port, count),
+            DriverStep::Ring => self.ring(port),
+            DriverStep::Arm => self.arm(port),
+            DriverStep::LookAgain => self.look_again(port),
+            DriverStep::Hear => self.hear(port),
+            DriverStep::WakeArming => self.wake(port, Op::Arm),
+            DriverStep::WakeHearing => self.wake(port, Op::Hear),
+            DriverStep::Disarm => self.disarm(port),
         }
     }
 }

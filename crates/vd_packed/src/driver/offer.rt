@@ -42,6 +42,7 @@ fn spot_after(spot: Spot, at: u32, size: u32) -> Spot
 
 impl PackedDriver {
     /// The store of a descriptor's word, other than the first second word.
+    #[inline(always)]
     pub(super) fn describe<P: Port>(&mut self, port: &mut P, at: u32) -> DriverAct
         requires now { self.old.doing ≡ DriverStep.Describe at }
         requires own { (v : DriverView) × DriverStands self.old v × IsOwn P.port driver_side port.old v }
@@ -52,13 +53,16 @@ impl PackedDriver {
         let (place, word) = descriptor_word(pieces, id, self.at, at);
         let count = pieces.len() as u32;
         port.access(Op::Offer, Access::Store(place, word));
-        self.at = spot_after(self.at, at, self.size);
+        let spot = spot_after(self.at, at, self.size);
+        self.at.place = spot.place;
+        self.at.wrap = spot.wrap;
         self.doing = after_word(at, count);
         DriverAct::Moved
     }
 
     /// The store of the first second word, after all others of the chain: by it the whole chain is available. The
     /// device's look at it is the first access of its take.
+    #[inline(always)]
     pub(super) fn publish<P: Port>(&mut self, port: &mut P) -> DriverAct
         requires now { self.old.doing ≡ DriverStep.Publish }
         requires own { (v : DriverView) × DriverStands self.old v × IsOwn P.port driver_side port.old v }
@@ -74,8 +78,10 @@ impl PackedDriver {
         self.slots[id as usize] = Slot { number, count };
         self.offered = number + 1;
         self.space -= count;
-        self.next = self.at;
-        self.doing = DriverStep::Idle;
+        self.next.place = self.at.place;
+        self.next.wrap = self.at.wrap;
+        self.next_position += count as u64;
+        self.doing = DriverStep::Check(count);
         DriverAct::Offered(number)
     }
 }

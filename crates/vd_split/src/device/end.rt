@@ -3,12 +3,13 @@ ghost use Rattle.std.specs.Prelude.{◌≡◌, ◌↔◌, IsTrue, ◌≤◌, ℕ
 ghost use Rattle.vd_split.specs.DeviceEnd.{split_device, number_at};
 ghost use Rattle.vd_split.specs.DeviceLaws.{device_laws};
 
+use super::advance::chain_of;
 use super::running::{find_head, none_below};
-use super::{DeviceStep, SplitDevice};
+use super::{DeviceStep, SplitDevice, Told};
 use vd_layout::{BadBase, DeviceEnd};
 use vd_model::{Base, Features};
 use vd_ring::DeviceAct;
-use vd_words::{Op, Port};
+use vd_words::Port;
 
 impl DeviceEnd for SplitDevice {
     ghost device = { split_device };
@@ -78,27 +79,17 @@ impl DeviceEnd for SplitDevice {
         self.doing = DeviceStep::Rest;
     }
 
-    #[inline]
+    #[inline(always)]
     fn step<P: Port>(&mut self, port: &mut P) -> DeviceAct {
-        match self.doing {
-            DeviceStep::Idle | DeviceStep::Resting => unreachable!(),
-            DeviceStep::Look => self.look(port),
-            DeviceStep::Entry(word) => self.entry(port, word),
-            DeviceStep::Address(word, head, place) => self.address(port, word, head, place),
-            DeviceStep::Second(word, head, place) => self.second(port, word, head, place),
-            DeviceStep::Name(number, head, len) => self.name(port, number, head, len),
-            DeviceStep::Measure(number, head, len) => self.measure(port, number, head, len),
-            DeviceStep::Publish(number, head, len) => self.publish(port, number, head, len),
-            DeviceStep::Check(old, new) => self.check(port, old, new),
-            DeviceStep::Ring(old, new) => self.ring(port, old, new),
-            DeviceStep::Arm => self.arm(port),
-            DeviceStep::LookAgain => self.look_again(port),
-            DeviceStep::Hear => self.hear(port),
-            DeviceStep::WakeArming => self.wake(port, Op::Arm),
-            DeviceStep::WakeHearing => self.wake(port, Op::Hear),
-            DeviceStep::Disarm => self.disarm(port),
-            DeviceStep::Rest => self.leave(port),
-            DeviceStep::RestLook => self.rest(port),
+        match self.advance(port) {
+            Told::Moved => DeviceAct::Moved,
+            Told::Taken(number) => DeviceAct::Taken(number, chain_of(self.pieces.as_slice())),
+            Told::Given(number) => DeviceAct::Given(number),
+            Told::Nothing => DeviceAct::Nothing,
+            Told::Armed => DeviceAct::Armed,
+            Told::Awake => DeviceAct::Awake,
+            Told::Asleep => DeviceAct::Asleep,
+            Told::Rested => DeviceAct::Rested,
         }
     }
 

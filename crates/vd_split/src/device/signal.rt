@@ -5,20 +5,21 @@ ghost use Rattle.vd_ring.specs.declared.device.DeviceView.{DeviceView};
 ghost use Rattle.vd_split_ring.specs.SplitDevice.{device_side};
 ghost use Rattle.vd_layout.specs.Device.{IsDeviceStep};
 ghost use Rattle.vd_split.specs.DeviceEnd.{DeviceStands, split_device};
+ghost use Rattle.vd_split.specs.Telling.{act_of};
 
-use super::{DeviceStep, SplitDevice};
+use super::{DeviceStep, SplitDevice, Told};
 use crate::driver::{own_lane, wanted};
 use vd_bits::lane16;
-use vd_ring::DeviceAct;
 use vd_words::{Access, Op, Port};
 
 impl SplitDevice {
     /// The load of the driver's event word, after the index was stored: it answers the driver's arming, which looks again after its
     /// own store.
-    pub(super) fn check<P: Port>(&mut self, port: &mut P, old: u64, new: u64) -> DeviceAct
+    #[inline(always)]
+    pub(super) fn check<P: Port>(&mut self, port: &mut P, old: u64, new: u64) -> Told
         requires now { self.old.doing ≡ DeviceStep.Check old new }
         requires own { (v : DeviceView) × DeviceStands self.old v × IsOwn P.port device_side port.old v }
-        ensures { (v : DeviceView) → DeviceStands self.old v → IsOwn P.port device_side port.old v → IsDeviceStep P.port split_device port.old port.new v self.old self.new result }
+        ensures { (v : DeviceView) → DeviceStands self.old v → IsOwn P.port device_side port.old v → IsDeviceStep P.port split_device port.old port.new v self.old self.new (act_of result self.new.pieces.items) }
     {
         let event_idx = self.features.event_idx;
         let lane = own_lane(self.size, event_idx);
@@ -29,19 +30,20 @@ impl SplitDevice {
         } else {
             DeviceStep::Idle
         };
-        DeviceAct::Moved
+        Told::Moved
     }
 
     /// The store of the bell.
-    pub(super) fn ring<P: Port>(&mut self, port: &mut P, old: u64, new: u64) -> DeviceAct
+    #[inline(always)]
+    pub(super) fn ring<P: Port>(&mut self, port: &mut P, old: u64, new: u64) -> Told
         requires now { self.old.doing ≡ DeviceStep.Ring old new }
         requires own { (v : DeviceView) × DeviceStands self.old v × IsOwn P.port device_side port.old v }
-        ensures { (v : DeviceView) → DeviceStands self.old v → IsOwn P.port device_side port.old v → IsDeviceStep P.port split_device port.old port.new v self.old self.new result }
+        ensures { (v : DeviceView) → DeviceStands self.old v → IsOwn P.port device_side port.old v → IsDeviceStep P.port split_device port.old port.new v self.old self.new (act_of result self.new.pieces.items) }
     {
         let bells = self.bells + 1;
         port.access(Op::Give, Access::Store(self.kick + 1, bells));
         self.bells = bells;
         self.doing = DeviceStep::Idle;
-        DeviceAct::Moved
+        Told::Moved
     }
 }

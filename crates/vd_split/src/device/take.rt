@@ -1,18 +1,19 @@
 //! The steps of a take.
-ghost use Rattle.std.specs.Prelude.{◌≡◌, ◌*◌, ◌<◌, Some, length, slice_set};
+ghost use Rattle.vd_model.specs.Chains.{IsChain};
+ghost use Rattle.std.specs.Prelude.{ℕ, ◌≡◌, ◌*◌, ◌<◌, Some, length, slice_set};
 ghost use Rattle.vd_words.specs.Own.{IsOwn};
 ghost use Rattle.vd_ring.specs.declared.device.DeviceView.{DeviceView};
 ghost use Rattle.vd_split_ring.specs.SplitDevice.{device_side};
 ghost use Rattle.vd_split_ring.specs.SplitWords.{piece_of, goes_on, next_of};
 ghost use Rattle.vd_layout.specs.Device.{IsDeviceStep};
 ghost use Rattle.vd_split.specs.DeviceEnd.{DeviceStands, split_device};
+ghost use Rattle.vd_split.specs.Telling.{act_of};
 
-use super::{DeviceStep, SplitDevice};
+use super::{DeviceStep, SplitDevice, Told};
 use crate::descriptors::{next_place, shows_count};
 use arrayvec::ArrayVec;
 use vd_bits::lane16;
-use vd_model::{Chain, Piece};
-use vd_ring::DeviceAct;
+use vd_model::Piece;
 use vd_words::{Access, Op, Port};
 
 /// The piece of a descriptor's two words.
@@ -56,70 +57,75 @@ fn remember(guesses: &mut Vec<u32>, number: u32, head: u32)
 
 impl SplitDevice {
     /// The look at the available index, which the last store of an offer changes.
-    pub(super) fn look<P: Port>(&mut self, port: &mut P) -> DeviceAct
+    #[inline(always)]
+    pub(super) fn look<P: Port>(&mut self, port: &mut P) -> Told
         requires now { self.old.doing ≡ DeviceStep.Look }
         requires own { (v : DeviceView) × DeviceStands self.old v × IsOwn P.port device_side port.old v }
-        ensures { (v : DeviceView) → DeviceStands self.old v → IsOwn P.port device_side port.old v → IsDeviceStep P.port split_device port.old port.new v self.old self.new result }
+        ensures { (v : DeviceView) → DeviceStands self.old v → IsOwn P.port device_side port.old v → IsDeviceStep P.port split_device port.old port.new v self.old self.new (act_of result self.new.pieces.items) }
     {
         let word = port.access(Op::Take, Access::Load(2 * self.size));
         if shows_count(word, self.taken) {
             self.shown = false;
             self.doing = DeviceStep::Idle;
-            return DeviceAct::Nothing;
+            return Told::Nothing;
         }
         self.shown = true;
         self.doing = DeviceStep::Entry(word);
-        DeviceAct::Moved
+        Told::Moved
     }
 
     /// The load of the next chain's head.
-    pub(super) fn entry<P: Port>(&mut self, port: &mut P, word: u64) -> DeviceAct
+    #[inline(always)]
+    pub(super) fn entry<P: Port>(&mut self, port: &mut P, word: u64) -> Told
         requires now { self.old.doing ≡ DeviceStep.Entry word }
         requires own { (v : DeviceView) × DeviceStands self.old v × IsOwn P.port device_side port.old v }
-        ensures { (v : DeviceView) → DeviceStands self.old v → IsOwn P.port device_side port.old v → IsDeviceStep P.port split_device port.old port.new v self.old self.new result }
+        ensures { (v : DeviceView) → DeviceStands self.old v → IsOwn P.port device_side port.old v → IsDeviceStep P.port split_device port.old port.new v self.old self.new (act_of result self.new.pieces.items) }
     {
         let lane = self.entry + 2;
         let entry = port.access(Op::Take, Access::Load(2 * self.size + lane / 4));
         let head = lane16(entry, lane % 4) as u32;
         self.pieces.clear();
         self.doing = DeviceStep::Address(word, head, head);
-        DeviceAct::Moved
+        Told::Moved
     }
 
     /// The load of a descriptor's address.
+    #[inline(always)]
     pub(super) fn address<P: Port>(
         &mut self,
         port: &mut P,
         word: u64,
         head: u32,
         place: u32,
-    ) -> DeviceAct
+    ) -> Told
         requires now { self.old.doing ≡ DeviceStep.Address word head place }
         requires own { (v : DeviceView) × DeviceStands self.old v × IsOwn P.port device_side port.old v }
-        ensures { (v : DeviceView) → DeviceStands self.old v → IsOwn P.port device_side port.old v → IsDeviceStep P.port split_device port.old port.new v self.old self.new result }
+        ensures { (v : DeviceView) → DeviceStands self.old v → IsOwn P.port device_side port.old v → IsDeviceStep P.port split_device port.old port.new v self.old self.new (act_of result self.new.pieces.items) }
     {
         self.addr = port.access(Op::Take, Access::Load(2 * place));
         self.doing = DeviceStep::Second(word, head, place);
-        DeviceAct::Moved
+        Told::Moved
     }
 
     /// The load of its second word, by which a whole chain is taken.
+    #[inline(always)]
     pub(super) fn second<P: Port>(
         &mut self,
         port: &mut P,
         word: u64,
         head: u32,
         place: u32,
-    ) -> DeviceAct
+    ) -> Told
         requires now { self.old.doing ≡ DeviceStep.Second word head place }
         requires own { (v : DeviceView) × DeviceStands self.old v × IsOwn P.port device_side port.old v }
-        ensures { (v : DeviceView) → DeviceStands self.old v → IsOwn P.port device_side port.old v → IsDeviceStep P.port split_device port.old port.new v self.old self.new result }
+        ensures did { (v : DeviceView) → DeviceStands self.old v → IsOwn P.port device_side port.old v → IsDeviceStep P.port split_device port.old port.new v self.old self.new (act_of result self.new.pieces.items) }
+        ensures chain { (k : ℕ) → result ≡ Told.Taken k → IsChain self.new.pieces.items }
     {
         let second = port.access(Op::Take, Access::Load(2 * place + 1));
         self.pieces.push(piece_from(self.addr, second));
         if has_next(second) {
             self.doing = DeviceStep::Address(word, head, following(second));
-            return DeviceAct::Moved;
+            return Told::Moved;
         }
         let number = self.taken;
         self.running[head as usize] = Some(number);
@@ -128,6 +134,6 @@ impl SplitDevice {
         self.entry = next_place(self.entry, self.size);
         self.shown = !shows_count(word, self.taken);
         self.doing = DeviceStep::Idle;
-        DeviceAct::Taken(number, Chain::of(self.pieces.take()))
+        Told::Taken(number)
     }
 }

@@ -14,6 +14,7 @@ use vd_words::{Access, Op, Port};
 
 impl SplitDriver {
     /// The look at the used index, which the last store of a give changes.
+    #[inline(always)]
     pub(super) fn look<P: Port>(&mut self, port: &mut P) -> DriverAct
         requires now { self.old.doing ≡ DriverStep.Look }
         requires own { (v : DriverView) × DriverStands self.old v × IsOwn P.port driver_side port.old v }
@@ -31,6 +32,7 @@ impl SplitDriver {
     }
 
     /// The load of the next entry's id.
+    #[inline(always)]
     pub(super) fn find<P: Port>(&mut self, port: &mut P, word: u64) -> DriverAct
         requires now { self.old.doing ≡ DriverStep.Find word }
         requires own { (v : DriverView) × DriverStands self.old v × IsOwn P.port driver_side port.old v }
@@ -42,6 +44,7 @@ impl SplitDriver {
     }
 
     /// The load of its length, by which the chain is collected. Its places are free again.
+    #[inline(always)]
     pub(super) fn finish<P: Port>(&mut self, port: &mut P, word: u64, found: u64) -> DriverAct
         requires now { self.old.doing ≡ DriverStep.Finish word found }
         requires own { (v : DriverView) × DriverStands self.old v × IsOwn P.port driver_side port.old v }

@@ -9,7 +9,7 @@ use arrayvec::ArrayVec;
 use vd_layout::DriverEnd;
 use vd_model::{Chain, Features, Piece};
 use vd_ring::DriverAct;
-use vd_words::{Op, Port};
+use vd_words::Port;
 
 impl DriverEnd for SplitDriver {
     ghost driver = { split_driver };
@@ -69,25 +69,9 @@ impl DriverEnd for SplitDriver {
         self.doing = DriverStep::Disarm;
     }
 
-    #[inline]
+    #[inline(always)]
     fn step<P: Port>(&mut self, port: &mut P) -> DriverAct {
-        match self.doing {
-            DriverStep::Idle => unreachable!(),
-            DriverStep::Describe(at) => self.describe(port, at),
-            DriverStep::Enter => self.enter(port),
-            DriverStep::Publish => self.publish(port),
-            DriverStep::Look => self.look(port),
-            DriverStep::Find(word) => self.find(port, word),
-            DriverStep::Finish(word, found) => self.finish(port, word, found),
-            DriverStep::Check(old, new) => self.check(port, old, new),
-            DriverStep::Ring(old, new) => self.ring(port, old, new),
-            DriverStep::Arm => self.arm(port),
-            DriverStep::LookAgain => self.look_again(port),
-            DriverStep::Hear => self.hear(port),
-            DriverStep::WakeArming => self.wake(port, Op::Arm),
-            DriverStep::WakeHearing => self.wake(port, Op::Hear),
-            DriverStep::Disarm => self.disarm(port),
-        }
+        self.advance(port)
     }
 }
 

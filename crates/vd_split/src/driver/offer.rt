@@ -28,6 +28,7 @@ fn after_word(at: u32, pieces: u32) -> DriverStep
 
 impl SplitDriver {
     /// The store of a descriptor word.
+    #[inline(always)]
     pub(super) fn describe<P: Port>(&mut self, port: &mut P, at: u32) -> DriverAct
         requires now { self.old.doing ≡ DriverStep.Describe at }
         requires own { (v : DriverView) × DriverStands self.old v × IsOwn P.port driver_side port.old v }
@@ -42,6 +43,7 @@ impl SplitDriver {
     }
 
     /// The store of the ring entry, after the last descriptor word: the device finds whole chains alone.
+    #[inline(always)]
     pub(super) fn enter<P: Port>(&mut self, port: &mut P) -> DriverAct
         requires now { self.old.doing ≡ DriverStep.Enter }
         requires own { (v : DriverView) × DriverStands self.old v × IsOwn P.port driver_side port.old v }
@@ -58,6 +60,7 @@ impl SplitDriver {
     }
 
     /// The store of the index, by which the chain is offered. The device's look at it is the first access of its take.
+    #[inline(always)]
     pub(super) fn publish<P: Port>(&mut self, port: &mut P) -> DriverAct
         requires now { self.old.doing ≡ DriverStep.Publish }
         requires own { (v : DriverView) × DriverStands self.old v × IsOwn P.port driver_side port.old v }

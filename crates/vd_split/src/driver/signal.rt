@@ -67,6 +67,7 @@ fn event_place(size: u32, event_idx: bool) -> u32
 impl SplitDriver {
     /// The load of the device's event word, after the index was stored: it answers the device's arming, which looks again after its
     /// own store.
+    #[inline(always)]
     pub(super) fn check<P: Port>(&mut self, port: &mut P, old: u64, new: u64) -> DriverAct
         requires now { self.old.doing ≡ DriverStep.Check old new }
         requires own { (v : DriverView) × DriverStands self.old v × IsOwn P.port driver_side port.old v }
@@ -85,6 +86,7 @@ impl SplitDriver {
     }
 
     /// The store of the bell.
+    #[inline(always)]
     pub(super) fn ring<P: Port>(&mut self, port: &mut P, old: u64, new: u64) -> DriverAct
         requires now { self.old.doing ≡ DriverStep.Ring old new }
         requires own { (v : DriverView) × DriverStands self.old v × IsOwn P.port driver_side port.old v }

@@ -38,6 +38,7 @@ pub(crate) fn own_value(count: u32, event_idx: bool) -> u16
 impl SplitDriver {
     /// The store of the own event word. What the device published before it is found by the second look; for what it publishes after
     /// it, it finds this word.
+    #[inline(always)]
     pub(super) fn arm<P: Port>(&mut self, port: &mut P) -> DriverAct
         requires now { self.old.doing ≡ DriverStep.Arm }
         requires own { (v : DriverView) × DriverStands self.old v × IsOwn P.port driver_side port.old v }
@@ -55,6 +56,7 @@ impl SplitDriver {
     }
 
     /// The second look.
+    #[inline(always)]
     pub(super) fn look_again<P: Port>(&mut self, port: &mut P) -> DriverAct
         requires now { self.old.doing ≡ DriverStep.LookAgain }
         requires own { (v : DriverView) × DriverStands self.old v × IsOwn P.port driver_side port.old v }
@@ -77,6 +79,7 @@ impl SplitDriver {
     }
 
     /// The load of the device's bell.
+    #[inline(always)]
     pub(super) fn hear<P: Port>(&mut self, port: &mut P) -> DriverAct
         requires now { self.old.doing ≡ DriverStep.Hear }
         requires own { (v : DriverView) × DriverStands self.old v × IsOwn P.port driver_side port.old v }
@@ -98,6 +101,7 @@ impl SplitDriver {
     }
 
     /// The disarming access: without EVENT_IDX a store that sets NO_INTERRUPT, with it a load, since no store disarms.
+    #[inline(always)]
     pub(super) fn disarm<P: Port>(&mut self, port: &mut P) -> DriverAct
         requires now { self.old.doing ≡ DriverStep.Disarm }
         requires own { (v : DriverView) × DriverStands self.old v × IsOwn P.port driver_side port.old v }
@@ -113,6 +117,7 @@ impl SplitDriver {
     }
 
     /// The disarming store of an arming, of a hearing, or alone.
+    #[inline(always)]
     pub(super) fn wake<P: Port>(&mut self, port: &mut P, op: Op) -> DriverAct
         requires now { Wakes self.old.doing op }
         requires flags { self.old.features.event_idx ≡ false }

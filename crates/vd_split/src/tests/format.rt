@@ -1,6 +1,7 @@
 //! The format of VIRTIO 1.2, 2.7, written anew in 16-bit lanes, for rings of up to 8 places: what stands there after each
 //! whole operation.
-use vd_model::{Chain, Piece};
+use super::chains::{piece_of, pieces_of};
+use super::sleepers::{AWAKE, Sleeper};
 
 const EMPTY: Slot = Slot {
     number: 0,
@@ -14,46 +15,13 @@ struct Slot {
     places: [u32; 4],
 }
 
-/// How many pieces chain number `k` has, 1 to 4.
-pub fn pieces_of(size: u32, k: u32) -> u32 {
-    let n = mixed(k) & 3;
-    if size == 2 {
-        (n & 1).wrapping_add(1)
-    } else {
-        n.wrapping_add(1)
-    }
-}
-
-/// Piece `i` of chain number `k`.
-pub fn piece_of(size: u32, k: u32, i: u32) -> Piece {
-    let x = mixed(k.wrapping_mul(4).wrapping_add(i));
-    Piece {
-        addr: (x as u64) << 20,
-        len: (x & 0xffff).wrapping_add(1),
-        write: i >= mixed(k) & 7 || (i.wrapping_add(1) == pieces_of(size, k) && x & 1 == 1),
-    }
-}
-
-/// Chain number `k`.
-pub fn chain_of(size: u32, k: u32) -> Chain {
-    let mut c = Chain::new(piece_of(size, k, 0));
-    for i in 1..pieces_of(size, k) {
-        let _ = c.push(piece_of(size, k, i));
-    }
-    c
-}
-
-/// A number with its bits mixed.
-pub fn mixed(k: u32) -> u32 {
-    let x = (k ^ k >> 15).wrapping_mul(0x2c1b_3c6d);
-    let y = (x ^ x >> 12).wrapping_mul(0x297a_2d39);
-    y ^ y >> 15
-}
-
 /// A ring's lanes, and who holds what.
 #[derive(Drop)]
 pub struct Format {
-    size: u32,
+    pub(super) size: u32,
+    pub(super) event_idx: bool,
+    pub(super) driver: Sleeper,
+    pub(super) device: Sleeper,
     lanes: [u16; 256],
     free: [u32; 8],
     free_from: u32,
@@ -70,9 +38,12 @@ pub struct Format {
 }
 
 impl Format {
-    pub fn new(size: u32) -> Format {
+    pub fn new(size: u32, event_idx: bool) -> Format {
         Format {
             size,
+            event_idx,
+            driver: AWAKE,
+            device: AWAKE,
             lanes: [0; 256],
             free: [0, 1, 2, 3, 4, 5, 6, 7],
             free_from: 0,
@@ -98,29 +69,36 @@ impl Format {
             | self.lane(at.wrapping_add(3)) << 48
     }
 
-    fn lane(&self, i: u32) -> u64 {
+    pub(super) fn lane(&self, i: u32) -> u64 {
         self.lanes[(i & 255) as usize] as u64
     }
 
-    fn set(&mut self, lane: u32, x: u32) {
+    pub(super) fn set(&mut self, lane: u32, x: u32) {
         self.lanes[(lane & 255) as usize] = (x & 0xffff) as u16;
     }
 
-    fn set_32(&mut self, lane: u32, x: u32) {
+    pub(super) fn set_32(&mut self, lane: u32, x: u32) {
         self.set(lane, x);
         self.set(lane.wrapping_add(1), x >> 16);
     }
 
     /// The lane of the driver area: the descriptors are 16 bytes each.
-    fn driver_area(&self) -> u32 {
+    pub(super) fn driver_area(&self) -> u32 {
         self.size.wrapping_mul(8)
     }
 
     /// The lane of the device area: behind two lanes, a lane a place and the used event, rounded up to 8 bytes.
-    fn device_area(&self) -> u32 {
+    pub(super) fn device_area(&self) -> u32 {
         let lanes = self.size.wrapping_add(3);
         self.driver_area()
             .wrapping_add(lanes.wrapping_add(3) & 0xffff_fffc)
+    }
+
+    /// The lane of the driver's bell, behind the device area: a word more than places. The device's is in the next word.
+    pub(super) fn bells(&self) -> u32 {
+        self.device_area()
+            .wrapping_add(self.size.wrapping_mul(4))
+            .wrapping_add(4)
     }
 
     /// Whether the next chain has room.
@@ -171,6 +149,7 @@ impl Format {
         );
         self.offered = k.wrapping_add(1);
         self.set(area.wrapping_add(1), self.offered);
+        self.ring_device(k);
     }
 
     pub fn take(&mut self) {
@@ -204,8 +183,10 @@ impl Format {
         self.set_32(at, head);
         self.set_32(at.wrapping_add(2), len);
         self.back[(self.given & 7) as usize] = (head, len);
-        self.given = self.given.wrapping_add(1);
+        let k = self.given;
+        self.given = k.wrapping_add(1);
         self.set(area.wrapping_add(1), self.given);
+        self.ring_driver(k);
     }
 
     /// The number, the length and the head of the chain that comes back next.
@@ -240,5 +221,6 @@ impl Format {
     pub fn rest(&mut self) {
         self.taken = self.given;
         self.runs = 0;
+        self.disarm_device();
     }
 }

@@ -42,7 +42,7 @@ fn one_piece_stands_in_the_words(rt: HostRuntime) -> Result<(), Fail> {
     assert!(rt;
         words_are(
             &rig,
-            &[0x1000, 0xa, 0, 0, 0, 0, 0, 0, 0x10000, 0, 0, 0, 0, 0, 0]
+            &[0x1000, 0xa, 0, 0, 0, 0, 0, 0, 0x10000, 0, 0, 0, 0, 0, 0, 1, 0]
         )
     );
     assert!(rt; matches!(rig.take(), Some(DeviceAct::Taken(0, _))));
@@ -51,7 +51,7 @@ fn one_piece_stands_in_the_words(rt: HostRuntime) -> Result<(), Fail> {
         words_are(
             &rig,
             &[
-                0x1000, 0xa, 0, 0, 0, 0, 0, 0, 0x10000, 0, 0x10000, 0xa, 0, 0, 0
+                0x1000, 0xa, 0, 0, 0, 0, 0, 0, 0x10000, 0, 0x10000, 0xa, 0, 0, 0, 1, 1
             ]
         )
     );
@@ -63,11 +63,8 @@ fn a_chain_goes_through_a_ring(rt: HostRuntime) -> Result<(), Fail> {
     let mut rig = Rig::<Split>::new(rt.alloc(), 0, 4, PLAIN)?;
     let mut chain = Chain::new(IN);
     assert!(rt; chain.push(OUT).is_ok());
-    assert!(rt; matches!(rig.rest(), Some(DeviceAct::Rested)));
-    assert!(rt; rig.base() == Some(Base(0)));
-    assert!(rt; matches!(rig.resume(Base(0)), Some(Ok(()))));
     assert!(rt; matches!(rig.take(), Some(DeviceAct::Nothing)));
-    assert!(rt; rig.collect() == DriverAct::Nothing);
+    assert!(rt; rig.collect() == Some(DriverAct::Nothing));
     assert!(rt; rig.offer(&chain) == Some(DriverAct::Offered(0)));
     assert!(rt;
         words_are(
@@ -128,7 +125,7 @@ fn a_chain_goes_through_a_ring(rt: HostRuntime) -> Result<(), Fail> {
         len: 10,
         head: 0,
     };
-    assert!(rt; rig.collect() == back);
+    assert!(rt; rig.collect() == Some(back));
     assert!(rt; rig.whole());
     assert!(rt; matches!(rig.rest(), Some(DeviceAct::Rested)));
     assert!(rt; rig.base() == Some(Base(1)));
@@ -149,9 +146,88 @@ fn a_chain_goes_through_a_ring(rt: HostRuntime) -> Result<(), Fail> {
     Ok(())
 }
 
+/// One chain is offered, taken, given and collected.
+fn passes<L: Layout>(rig: &mut Rig<L>, k: u32) -> bool {
+    rig.offer(&Chain::new(IN)) == Some(DriverAct::Offered(k))
+        && matches!(rig.take(), Some(DeviceAct::Taken(_, _)))
+        && matches!(rig.give(k, 10), Some(DeviceAct::Given(_)))
+        && matches!(rig.collect(), Some(DriverAct::Collected { .. }))
+}
+
+/// With EVENT_IDX a side is rung for the entry that its event word names. The word stays once it is awake: for entry 4 event 3 asks for
+/// nothing, nor does event 5.
+#[test]
+fn an_event_word_names_one_entry(rt: HostRuntime) -> Result<(), Fail> {
+    let indexed = Features {
+        indirect: false,
+        event_idx: true,
+        in_order: false,
+    };
+    let mut rig = Rig::<Split>::new(rt.alloc(), 0, 4, indexed)?;
+    for k in 0..3u32 {
+        assert!(rt; passes(&mut rig, k));
+    }
+    // entry 0 alone was rung for: event words are 0 at first
+    assert!(rt; (rig.word(15), rig.word(16)) == (1, 1));
+    assert!(rt; matches!(rig.arm_device(), Some(DeviceAct::Armed)));
+    assert_eq!(rt; rig.word(14), 0x3_0000_0000);
+    assert!(rt; rig.arm_driver() == Some(DriverAct::Armed));
+    assert_eq!(rt; rig.word(9) >> 32, 3);
+    // the bells of entry 0 were not heard yet
+    assert!(rt; matches!(rig.hear_device(), Some(DeviceAct::Awake)));
+    assert!(rt; rig.hear_driver() == Some(DriverAct::Awake));
+    assert!(rt; matches!(rig.arm_device(), Some(DeviceAct::Armed)));
+    assert!(rt; matches!(rig.hear_device(), Some(DeviceAct::Asleep)));
+    assert!(rt; rig.take().is_none());
+    assert!(rt; rig.offer(&Chain::new(IN)) == Some(DriverAct::Offered(3)));
+    assert_eq!(rt; rig.word(15), 2);
+    assert!(rt; matches!(rig.hear_device(), Some(DeviceAct::Awake)));
+    assert!(rt; rig.offer(&Chain::new(IN)) == Some(DriverAct::Offered(4)));
+    assert_eq!(rt; rig.word(15), 2);
+    assert!(rt; matches!(rig.arm_device(), Some(DeviceAct::Awake)));
+    for k in 3..5u32 {
+        assert!(rt; matches!(rig.take(), Some(DeviceAct::Taken(_, _))));
+        assert!(rt; matches!(rig.give(k, 10), Some(DeviceAct::Given(_))));
+    }
+    // entry 3 is rung for, entry 4 isn't
+    assert_eq!(rt; rig.word(16), 2);
+    Ok(())
+}
+
+/// Without EVENT_IDX a side is rung for each entry until it sets its flag, which it does when it wakes, and when it rests.
+#[test]
+fn a_flag_asks_for_no_signal(rt: HostRuntime) -> Result<(), Fail> {
+    let mut rig = Rig::<Split>::new(rt.alloc(), 0, 4, PLAIN)?;
+    assert!(rt; passes(&mut rig, 0));
+    assert!(rt; passes(&mut rig, 1));
+    assert!(rt; (rig.word(15), rig.word(16)) == (2, 2));
+    for (flags, answer) in [(0, DriverAct::Armed), (1, DriverAct::Awake)] {
+        let done = if flags == 0 {
+            rig.arm_driver()
+        } else {
+            rig.disarm_driver()
+        };
+        assert!(rt; done == Some(answer));
+        assert_eq!(rt; rig.word(8) & 0xffff, flags);
+    }
+    assert!(rt; passes(&mut rig, 2));
+    assert!(rt; (rig.word(15), rig.word(16)) == (3, 2));
+    assert!(rt; matches!(rig.arm_device(), Some(DeviceAct::Armed)));
+    assert_eq!(rt; rig.word(10) & 0xffff, 0);
+    assert!(rt; matches!(rig.rest(), Some(DeviceAct::Rested)));
+    assert!(rt; rig.armed() == (false, false));
+    assert_eq!(rt; rig.word(10) & 0xffff, 1);
+    assert!(rt; rig.offer(&Chain::new(IN)) == Some(DriverAct::Offered(3)));
+    assert_eq!(rt; rig.word(15), 3);
+    Ok(())
+}
+
 #[test]
 fn a_rest_takes_chains_back(rt: HostRuntime) -> Result<(), Fail> {
     let mut rig = Rig::<Split>::new(rt.alloc(), 0, 4, PLAIN)?;
+    assert!(rt; matches!(rig.rest(), Some(DeviceAct::Rested)));
+    assert!(rt; rig.base() == Some(Base(0)));
+    assert!(rt; matches!(rig.resume(Base(0)), Some(Ok(()))));
     for k in 0..3u32 {
         assert!(rt; rig.offer(&Chain::new(IN)) == Some(DriverAct::Offered(k)));
     }

@@ -87,6 +87,8 @@ fn an_offer_is_made_on_a_port_that_tracks_the_view(rt: HostRuntime) -> Result<()
         Some((Op::Offer, Access::Store(1, 0xa), 0)),
         Some((Op::Offer, Access::Store(8, 0), 0)),
         Some((Op::Offer, Access::Store(8, 0x1_0000), 0)),
+        Some((Op::Offer, Access::Load(10), 0)),
+        Some((Op::Offer, Access::Store(15, 1), 0)),
     ];
     assert!(rt; port.log.as_slice() == made.as_slice());
     Ok(())

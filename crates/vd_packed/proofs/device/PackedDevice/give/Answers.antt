@@ -18,11 +18,14 @@ access-requires g c =
     c.requires.own.2.may op.Give (Store (2 * e.used.place + 1) x)
     (give_goes e v 0 c.args.number c.args.head c.args.len x (slice_index_or e.counts.items c.args.head 0) c.requires.now c.requires.own.1 c.used_word-word.ensures (facts.3 0)).next
 
-pub returns : goal.returns
-returns g c = λ v st own.
+pub overflow_add-self-2 : goal.overflow_add-self-2
+overflow_add-self-2 g c = ?
+
+pub returns-clause-did : goal.returns-clause-did
+returns-clause-did g c = λ v st own.
     let e : PackedDevice = c.args.self.now in let x : ℕ = c.used_word-word.result in let n : ℕ = c.index-count.result.now in
     made g.P.Port.port c.args.port.now c.access.new.self e
-    (record e { given = e.given + 1; used = c.forward-self.result; running = with_item e.running c.args.head None; doing = step.Idle }) v op.Give (Store (2 * e.used.place + 1) x) c.access.result (act.Given c.args.number)
-    (subst (λ (s : Spot). Goes e (record e { given = e.given + 1; used = s; running = with_item e.running c.args.head None; doing = step.Idle }) v op.Give (Store (2 * e.used.place + 1) x) c.access.result (act.Given c.args.number)) (sym c.forward-self.ensures)
+    (record e { given = e.given + 1; used = c.forward-spot.result; used_position = e.used_position + n; running = with_item e.running c.args.head None; doing = step.Check n }) v op.Give (Store (2 * e.used.place + 1) x) c.access.result (act.Given c.args.number)
+    (subst (λ (s : Spot). Goes e (record e { given = e.given + 1; used = s; used_position = e.used_position + n; running = with_item e.running c.args.head None; doing = step.Check n }) v op.Give (Store (2 * e.used.place + 1) x) c.access.result (act.Given c.args.number)) (sym c.forward-spot.ensures)
     (give_goes e v c.access.result c.args.number c.args.head c.args.len x n c.requires.now st c.used_word-word.ensures (subst (λ (k : ℕ). IsCount k v.frame v.done c.args.number) (sym c.index-count.ensures) ((give_facts e v c.args.number c.args.head c.args.len c.requires.now st).3 n))))
     c.access.ensures

@@ -1,17 +1,15 @@
-use Rattle.std.proofs.Common.{ℕ, ◌+◌, ◌*◌, sym, ◌∙◌, subst}
+use Rattle.std.proofs.Common.{ℕ, ◌+◌, ◌*◌}
 use Rattle.vd_words.specs.declared.access.Access.TheVariants.{Load}
 use Rattle.vd_words.specs.declared.access.Op.TheVariants as op
-use Rattle.vd_ring.specs.declared.act.DeviceAct.TheVariants as act
-use Rattle.vd_packed.specs.declared.device.DeviceStep.TheVariants as step
 use Rattle.vd_packed.specs.declared.device.PackedDevice.{PackedDevice}
-use Rattle.vd_packed.specs.DeviceGiving.{Goes, made}
-use Rattle.vd_packed.specs.DeviceLooking.{look_next, look_goes}
+use Rattle.vd_packed.specs.Telling.{act_of}
+use Rattle.vd_packed.specs.DeviceGiving.{made}
+use Rattle.vd_packed.specs.DeviceLooking.{look_next, saw_goes}
 use Rattle.vd_packed.proofs.device.PackedDevice.look.Goals as goal
 
-pub returns : goal.returns
-returns g c = λ v st own.
-    let e : PackedDevice = c.args.self.now in let a = c.access-word in let w : ℕ = a.result in
-    let told = own.told op.Take (Load (2 * e.next.place + 1)) (look_next e v c.requires.now st).1 w a.new.self a.ensures in
-    let go = look_goes e (record e { pieces = c.clear.new.self }) v w c.requires.now st (sym c.shows_available.ensures ∙ c.if-not-shows_available.false) c.clear.ensures told in
-    made g.P.Port.port c.args.port.now a.new.self e (record e { pieces = c.clear.new.self; second = w; at = e.next; doing = step.Address c.lane16.result }) v op.Take (Load (2 * e.next.place + 1)) w act.Moved
-    (subst (λ h. Goes e (record e { pieces = c.clear.new.self; second = w; at = e.next; doing = step.Address h }) v op.Take (Load (2 * e.next.place + 1)) w act.Moved) (sym c.lane16.ensures) go) a.ensures
+pub returns-clause-did : goal.returns-clause-did
+returns-clause-did g c = λ v st own.
+    let e : PackedDevice = c.args.self.now in let a = c.access-word in let w : ℕ = a.result in let s = c.saw in
+    let tells = own.told op.Take (Load (2 * e.next.place + 1)) (look_next e v c.requires.now st).1 w a.new.port a.ensures in
+    made g.P.Port.port c.args.port.now a.new.port e s.new.self v op.Take (Load (2 * e.next.place + 1)) w (act_of s.result s.new.self.pieces.items)
+    (saw_goes e s.new.self v w s.result c.requires.now st s.ensures.nothing s.ensures.chain tells) a.ensures

@@ -44,6 +44,6 @@ pub returns : goal.returns
 returns g c = λ v st own.
     let e : PackedDriver = c.args.self.now in let w = c.descriptor_word-place in let p : ℕ = w.result.0 in let x : ℕ = w.result.1 in let r : ℕ = c.access.result in
     let go = goes e v c.args.at r c.next_id-id.result p x c.as_slice-pieces.result.now c.requires.now st c.as_slice-pieces.ensures.value c.next_id-id.ensures w.ensures.place w.ensures.word in
-    made g.P.Port.port c.args.port.now c.access.new.self e (record e { at = c.spot_after-self.result; doing = c.after_word-self.result }) v op.Offer (Store p x) r act.Moved
-    (subst (λ s. Goes e (record e { at = s; doing = c.after_word-self.result }) v op.Offer (Store p x) r act.Moved) (sym c.spot_after-self.ensures)
+    made g.P.Port.port c.args.port.now c.access.new.self e (record e { at = c.spot_after-spot.result; doing = c.after_word-self.result }) v op.Offer (Store p x) r act.Moved
+    (subst (λ s. Goes e (record e { at = s; doing = c.after_word-self.result }) v op.Offer (Store p x) r act.Moved) (sym c.spot_after-spot.ensures)
     (subst (λ t. Goes e (record e { at = spot_after e.at c.args.at e.size; doing = t }) v op.Offer (Store p x) r act.Moved) (sym c.after_word-self.ensures) go)) c.access.ensures

@@ -14,7 +14,7 @@ use Rattle.vd_packed.specs.declared.driver.Slot.{Slot}
 use Rattle.vd_packed.specs.declared.spot.Spot.{Spot}
 use Rattle.vd_packed.specs.DriverEnd.{DriverStands}
 use Rattle.vd_packed.specs.DriverSteps.{Goes, made, size_facts}
-use Rattle.vd_packed.specs.DriverCollecting.{Found, found, look_next, look_names, collect_goes}
+use Rattle.vd_packed.specs.DriverCollecting.{used_small, Found, found, look_next, look_names, collect_goes}
 use Rattle.vd_packed.specs.Places.{spot_below}
 use Rattle.vd_packed.specs.Seconds.{shows_used}
 use Rattle.vd_packed.specs.Spots.{forward}
@@ -49,8 +49,18 @@ overflow_add-self-3 g c =
     let b = bounded e c.requires.own.0 c.lane16-head.result c.index-slot.result.now c.requires.own.1 found c.index-slot.ensures in
     omega (arith, b.0, b.1)
 
-pub forward-self-requires : goal.forward-self-requires
-forward-self-requires g c =
+-- and its position small
+positioned : (e : PackedDriver) (v : DriverView) (id : ℕ) (s : Slot) → DriverStands e v → Found e.free.items e.free.capacity e.slots.items e.space v.frame v.done id → s ≡ slice_index_or e.slots.items id s → e.used_position + s.count < 1000000000000
+positioned e v id s st found is = omega (arith, used_small e v found.number st found.is_open, ap (λ (t : Slot). t.count) is ∙ (found.kept s).1)
+
+pub overflow_add-self-4 : goal.overflow_add-self-4
+overflow_add-self-4 g c =
+    let e : PackedDriver = c.args.self.now in let a = c.access-word in
+    let found = hits g.P.Port.port c.args.port.now a.new.self e c.requires.own.0 a.result c.lane16-head.result c.shows_used.result c.requires.now c.requires.own.1 c.requires.own.2 a.ensures c.shows_used.ensures c.if-not-shows_used.false c.lane16-head.ensures in
+    omega (arith, positioned e c.requires.own.0 c.lane16-head.result c.index-slot.result.now c.requires.own.1 found c.index-slot.ensures)
+
+pub forward-spot-requires : goal.forward-spot-requires
+forward-spot-requires g c =
     let e : PackedDriver = c.args.self.now in let a = c.access-word in
     let found = hits g.P.Port.port c.args.port.now a.new.self e c.requires.own.0 a.result c.lane16-head.result c.shows_used.result c.requires.now c.requires.own.1 c.requires.own.2 a.ensures c.shows_used.ensures c.if-not-shows_used.false c.lane16-head.ensures in
     let b = bounded e c.requires.own.0 c.lane16-head.result c.index-slot.result.now c.requires.own.1 found c.index-slot.ensures in
@@ -64,8 +74,8 @@ returns g c = λ v st own.
     let slot : s ≡ slice_index_or e.slots.items (id_of w) s = c.index-slot.ensures ∙ ap (λ k. slice_index_or e.slots.items k s) c.lane16-head.ensures in
     let go = collect_goes e v w s.number s.count (record e { free = c.give_back.new.free }) c.requires.now st on found (ap (λ (t : Slot). t.number) slot ∙ (found.kept s).0) (ap (λ (t : Slot). t.count) slot ∙ (found.kept s).1)
     (c.give_back.ensures.items ∙ ap (λ k. e.free.items ++ k ∷ []) c.lane16-head.ensures) c.give_back.ensures.capacity in
-    made g.P.Port.port c.args.port.now a.new.self e (record e { collected = e.collected + 1; used = c.forward-self.result; space = e.space + s.count; free = c.give_back.new.free; doing = step.Idle }) v op.Collect (Load (2 * e.used.place + 1)) w (act.Collected s.number c.lane32-len.result id)
-    (subst (λ (u : Spot). Goes e (record e { collected = e.collected + 1; used = u; space = e.space + s.count; free = c.give_back.new.free; doing = step.Idle }) v op.Collect (Load (2 * e.used.place + 1)) w (act.Collected s.number c.lane32-len.result id)) (sym c.forward-self.ensures)
-    (subst (λ k. Goes e (record e { collected = e.collected + 1; used = forward e.used s.count e.size; space = e.space + s.count; free = c.give_back.new.free; doing = step.Idle }) v op.Collect (Load (2 * e.used.place + 1)) w (act.Collected s.number k id)) (sym c.lane32-len.ensures)
-    (subst (λ k. Goes e (record e { collected = e.collected + 1; used = forward e.used s.count e.size; space = e.space + s.count; free = c.give_back.new.free; doing = step.Idle }) v op.Collect (Load (2 * e.used.place + 1)) w (act.Collected s.number (len_of w) k)) (sym c.lane16-head.ensures) go)))
+    made g.P.Port.port c.args.port.now a.new.self e (record e { collected = e.collected + 1; used = c.forward-spot.result; used_position = e.used_position + s.count; space = e.space + s.count; free = c.give_back.new.free; doing = step.Idle }) v op.Collect (Load (2 * e.used.place + 1)) w (act.Collected s.number c.lane32-len.result id)
+    (subst (λ (u : Spot). Goes e (record e { collected = e.collected + 1; used = u; used_position = e.used_position + s.count; space = e.space + s.count; free = c.give_back.new.free; doing = step.Idle }) v op.Collect (Load (2 * e.used.place + 1)) w (act.Collected s.number c.lane32-len.result id)) (sym c.forward-spot.ensures)
+    (subst (λ k. Goes e (record e { collected = e.collected + 1; used = forward e.used s.count e.size; used_position = e.used_position + s.count; space = e.space + s.count; free = c.give_back.new.free; doing = step.Idle }) v op.Collect (Load (2 * e.used.place + 1)) w (act.Collected s.number k id)) (sym c.lane32-len.ensures)
+    (subst (λ k. Goes e (record e { collected = e.collected + 1; used = forward e.used s.count e.size; used_position = e.used_position + s.count; space = e.space + s.count; free = c.give_back.new.free; doing = step.Idle }) v op.Collect (Load (2 * e.used.place + 1)) w (act.Collected s.number (len_of w) k)) (sym c.lane16-head.ensures) go)))
     a.ensures

@@ -1,6 +1,5 @@
 use Rattle.std.proofs.Common.{ℕ, ◌+◌, ◌*◌, ◌++◌, ◌∷◌, [], not, Some, arith, sym, ap, ◌∙◌, subst}
 use Rattle.std.specs.Vec.{with_item}
-use Rattle.arrayvec.specs.ArrayVec.{ArrayVec}
 use Rattle.vd_model.specs.declared.chain.Piece.{Piece}
 use Rattle.vd_model.specs.Chains.{IsChain}
 use Rattle.vd_words.specs.declared.access.Access.TheVariants.{Load}
@@ -24,17 +23,8 @@ push-requires g c =
     let l = loaded e v c.args.word c.args.head c.args.place x c.requires.now c.requires.own.1 (c.requires.own.2.told op.Take (Load (2 * c.args.place + 1)) next x c.access-second.new.self c.access-second.ensures) in
     (omega arith, few_pieces e v c.args.word c.args.head c.args.place x c.requires.own.1 l)
 
-pub of-requires : goal.of-requires
-of-requires g c =
-    let e : SplitDevice = c.args.self.now in let v : DeviceView = c.requires.own.0 in let x : ℕ = c.access-second.result in
-    let next = second_next e v c.args.word c.args.head c.args.place c.requires.now c.requires.own.1 in
-    let l = loaded e v c.args.word c.args.head c.args.place x c.requires.now c.requires.own.1 (c.requires.own.2.told op.Take (Load (2 * c.args.place + 1)) next x c.access-second.new.self c.access-second.ensures) in
-    let same = ap (λ (a : ArrayVec Piece). a.items) c.take.ensures.value ∙ c.push.ensures.items ∙ ap (λ (q : Piece). e.pieces.items ++ q ∷ []) c.piece_from.ensures
-    ∙ whole_chain e v c.args.word c.args.head c.args.place x (sym c.has_next.ensures ∙ c.if-has_next.false) c.requires.own.1 l in
-    subst IsChain (sym same) l.told.fits.chain
-
-pub returns-then-has_next : goal.returns-then-has_next
-returns-then-has_next g c = λ v st own.
+pub returns-then-has_next-clause-did : goal.returns-then-has_next-clause-did
+returns-then-has_next-clause-did g c = λ v st own.
     let e : SplitDevice = c.args.self.now in let x : ℕ = c.access-second.result in let r : ℕ = c.args.word in let h : ℕ = c.args.head in let p : ℕ = c.args.place in
     let next = second_next e v r h p c.requires.now st in
     let l = loaded e v r h p x c.requires.now st (own.told op.Take (Load (2 * p + 1)) next x c.access-second.new.self c.access-second.ensures) in
@@ -43,16 +33,25 @@ returns-then-has_next g c = λ v st own.
     (subst (λ k. Goes e (record e { pieces = c.push.new.self; doing = step.Address r h k }) v op.Take (Load (2 * p + 1)) x act.Moved) (sym c.following.ensures) go)
     c.access-second.ensures
 
-pub returns : goal.returns
-returns g c = λ v st own.
+pub returns-clause-did : goal.returns-clause-did
+returns-clause-did g c = λ v st own.
     let e : SplitDevice = c.args.self.now in let x : ℕ = c.access-second.result in let r : ℕ = c.args.word in let h : ℕ = c.args.head in let p : ℕ = c.args.place in
     let next = second_next e v r h p c.requires.now st in
     let l = loaded e v r h p x c.requires.now st (own.told op.Take (Load (2 * p + 1)) next x c.access-second.new.self c.access-second.ensures) in
-    let same = c.of.ensures ∙ ap (λ (a : ArrayVec Piece). a.items) c.take.ensures.value ∙ c.push.ensures.items ∙ ap (λ (q : Piece). e.pieces.items ++ q ∷ []) c.piece_from.ensures in
-    let e2 : SplitDevice = record e { guesses = c.remember.new.guesses; pieces = c.take.new.self } in
-    let go = second_last e e2 v r h p x c.of.result l st next (sym c.has_next.ensures ∙ c.if-has_next.false) c.requires.now same c.remember.ensures in
+    let same = c.push.ensures.items ∙ ap (λ (q : Piece). e.pieces.items ++ q ∷ []) c.piece_from.ensures in
+    let e2 : SplitDevice = record e { guesses = c.remember.new.guesses; pieces = c.push.new.self } in
+    let go = second_last e e2 v r h p x c.push.new.self.items l st next (sym c.has_next.ensures ∙ c.if-has_next.false) c.requires.now same c.remember.ensures in
     made g.P.Port.port c.args.port.now c.access-second.new.self e
-    (record e { taken = e.taken + 1; entry = c.next_place-self.result; running = with_item e.running h (Some e.taken); guesses = c.remember.new.guesses; shown = not c.shows_count.result; pieces = c.take.new.self; doing = step.Idle }) v op.Take (Load (2 * p + 1)) x (act.Taken e.taken c.of.result)
-    (subst (λ k. Goes e (record e { taken = e.taken + 1; entry = k; running = with_item e.running h (Some e.taken); guesses = c.remember.new.guesses; shown = not c.shows_count.result; pieces = c.take.new.self; doing = step.Idle }) v op.Take (Load (2 * p + 1)) x (act.Taken e.taken c.of.result)) (sym c.next_place-self.ensures)
-    (subst (λ b. Goes e (record e { taken = e.taken + 1; entry = next_place e.entry e.size; running = with_item e.running h (Some e.taken); guesses = c.remember.new.guesses; shown = not b; pieces = c.take.new.self; doing = step.Idle }) v op.Take (Load (2 * p + 1)) x (act.Taken e.taken c.of.result)) (sym c.shows_count.ensures) go))
+    (record e { taken = e.taken + 1; entry = c.next_place-self.result; running = with_item e.running h (Some e.taken); guesses = c.remember.new.guesses; shown = not c.shows_count.result; pieces = c.push.new.self; doing = step.Idle }) v op.Take (Load (2 * p + 1)) x (act.Taken e.taken c.push.new.self.items)
+    (subst (λ k. Goes e (record e { taken = e.taken + 1; entry = k; running = with_item e.running h (Some e.taken); guesses = c.remember.new.guesses; shown = not c.shows_count.result; pieces = c.push.new.self; doing = step.Idle }) v op.Take (Load (2 * p + 1)) x (act.Taken e.taken c.push.new.self.items)) (sym c.next_place-self.ensures)
+    (subst (λ b. Goes e (record e { taken = e.taken + 1; entry = next_place e.entry e.size; running = with_item e.running h (Some e.taken); guesses = c.remember.new.guesses; shown = not b; pieces = c.push.new.self; doing = step.Idle }) v op.Take (Load (2 * p + 1)) x (act.Taken e.taken c.push.new.self.items)) (sym c.shows_count.ensures) go))
     c.access-second.ensures
+
+pub returns-clause-chain : goal.returns-clause-chain
+returns-clause-chain g c = λ k is.
+    let e : SplitDevice = c.args.self.now in let v : DeviceView = c.requires.own.0 in let x : ℕ = c.access-second.result in
+    let next = second_next e v c.args.word c.args.head c.args.place c.requires.now c.requires.own.1 in
+    let l = loaded e v c.args.word c.args.head c.args.place x c.requires.now c.requires.own.1 (c.requires.own.2.told op.Take (Load (2 * c.args.place + 1)) next x c.access-second.new.self c.access-second.ensures) in
+    let same = c.push.ensures.items ∙ ap (λ (q : Piece). e.pieces.items ++ q ∷ []) c.piece_from.ensures
+    ∙ whole_chain e v c.args.word c.args.head c.args.place x (sym c.has_next.ensures ∙ c.if-has_next.false) c.requires.own.1 l in
+    subst IsChain (sym same) l.told.fits.chain

@@ -1,0 +1,61 @@
+#!/usr/bin/env python3
+"""Times `vdpa play` on machine files with many chains beside a plain Rust program that does the same: baseline.rs, way `file`, reads the
+file, steps ends with this project's interface, keeps journal and lists of the same size and writes the same report.
+
+Processor time of whole runs, file and report included; medians of runs that alternate with the peer's. With valgrind on the machine,
+instructions a chain too. It tests nothing, but that both outputs are equal.
+
+usage: bench/play.py [ROUNDS]   (default 5; after `rt run` in crates/vd_main or `rt ci` has left the proved program)
+"""
+
+import os
+import subprocess
+import sys
+import tempfile
+
+from cpu import CRATES, baseline, cpu, instructions, machine, medians
+
+
+def by_count(layout, chains, window):
+    """One text for so many chains of two pieces."""
+    return (
+        f'layout = "{layout}"\nsize = 256\nwindow = {window}\nregions = [{{ addr = 0, size = 4096 }}]\n'
+        f'queues = [["{chains}*r0+10 w64+20"]]\n'
+    )
+
+
+def by_text(layout, chains):
+    """A text for each chain of one piece."""
+    texts = ",".join(f'"r{i % 10}+1"' for i in range(chains))
+    return f'layout = "{layout}"\nsize = 256\nregions = [{{ addr = 0, size = 4096 }}]\nqueues = [[{texts}]]\n'
+
+
+def main():
+    rounds = int(sys.argv[1]) if len(sys.argv) > 1 else 5
+    program, plain = os.path.join(CRATES, "vd_main", "out", "vd_main"), baseline()
+    if not os.path.exists(program):
+        sys.exit("bench/play.py: run 'rt run' in crates/vd_main first")
+    print(machine())
+    rows = [(f"{layout}, {n} chains by count, window 16", n, by_count(layout, n, 16)) for layout in ("split", "packed") for n in (50000, 200000)]
+    rows += [(f"{layout}, 149780 chains by text", 149780, by_text(layout, 149780)) for layout in ("split", "packed")]
+    with tempfile.TemporaryDirectory() as work:
+        path = os.path.join(work, "machine.toml")
+        for name, chains, text in rows:
+            with open(path, "w") as file:
+                file.write(text)
+            outputs = []
+            for words in ([program, "play"], [plain, "file"]):
+                with open(path, "rb") as file:
+                    outputs.append(subprocess.run(words, stdin=file, capture_output=True, check=True).stdout)
+            same = "" if outputs[0] == outputs[1] else " (THE REPORTS DIFFER)"
+            mine, theirs = [], []
+            for _ in range(rounds):
+                mine.append(cpu([program, "play"], path) / chains)
+                theirs.append(cpu([plain, "file"], path) / chains)
+            here, there, ratio = medians(mine, theirs)
+            count, other = instructions([program, "play"], path), instructions([plain, "file"], path)
+            told = "" if count is None or other is None else f", instructions a chain {count / chains:.0f} and {other / chains:.0f}"
+            print(f"{name}: {here:.0f} ns a chain, peer {there:.0f} ns, ratio {ratio:.2f}{told}{same}", flush=True)
+
+
+main()

@@ -1,0 +1,34 @@
+-- A chain has 16 descriptors at most, so a position is at most 16 times the number of chains before it.
+use Rattle.std.proofs.Common.{◌≡◌, ℕ, suc, ◌+◌, ◌*◌, ◌<◌, ◌≤◌, Bool, true, false, List, [], ◌∷◌, length, nat_lt, if◌then◌else◌, arith}
+use Rattle.std.specs.List.{sum_by}
+use Rattle.std.proofs.lemmas.List.Sums.{sum_by-cons}
+use Rattle.vd_model.specs.declared.chain.Piece.{Piece}
+use Rattle.vd_model.specs.Chains.{needs}
+use Rattle.vd_ring.specs.declared.frame.Frame.{Frame}
+use Rattle.vd_ring.specs.declared.driver.DriverDone.{DriverDone}
+use Rattle.vd_ring.specs.Frames.{limit}
+use Rattle.vd_ring.specs.History.{offers, chain, chain_at}
+use Rattle.vd_ring.specs.Places.{Places}
+use Rattle.vd_ring.proofs.HeldPlaces.{chain_fits}
+use Rattle.vd_packed_ring.specs.PackedWords.{IsBuilt}
+use Rattle.vd_packed_ring.specs.PackedPositions.{opos}
+use Rattle.vd_packed_ring.proofs.Spelled.{needs_pieces}
+
+pub few_each : (g : List Piece → ℕ) (cs : List (List Piece)) → ((k : ℕ) → k < length cs → g (chain_at cs k) ≤ 16) → sum_by g cs ≤ 16 * length cs
+few_each g [] each = omega arith
+few_each g (c ∷ cs) each = omega (arith, sum_by-cons g c cs, each 0 (omega arith), few_each g cs (λ k low. each (suc k) (omega arith)))
+
+-- the driver's position
+pub opos_few : (f : Frame) (o : List DriverDone) → IsBuilt f → Places f o → opos f o ≤ 16 * length (offers o)
+opos_few f o b p = few_each (needs f.features) (offers o) (λ k low. omega (arith, needs_pieces f (chain o k) b, (chain_fits f o k p low).chain.1))
+
+-- a ring's limit has 32 bits
+pub limit_small : (f : Frame) → limit f ≤ 4294967295
+limit_small f = least f.ring
+  where
+    either : (b : Bool) → (if b then 4000000000 else 4294967295) ≤ 4294967295
+    either true = omega arith
+    either false = omega arith
+
+    least : (n : ℕ) → (if nat_lt n 16 then 4000000000 else 4294967295) ≤ 4294967295
+    least n = either (nat_lt n 16)

@@ -1,0 +1,44 @@
+-- What a step of the device's end answers.
+use Rattle.std.specs.Prelude.{List}
+use Rattle.vd_model.specs.declared.chain.Piece.{Piece}
+use Rattle.vd_ring.specs.declared.act.DeviceAct.{DeviceAct}
+use Rattle.vd_ring.specs.declared.act.DeviceAct.TheVariants as act
+use Rattle.vd_split.specs.declared.device.DeviceStep.{DeviceStep}
+use Rattle.vd_split.specs.declared.device.DeviceStep.TheVariants as step
+use Rattle.vd_split.specs.declared.driver.DriverStep.{DriverStep}
+use Rattle.vd_split.specs.declared.driver.DriverStep.TheVariants as driver
+use Rattle.vd_split.specs.declared.device.Told.{Told}
+use Rattle.vd_split.specs.declared.device.Told.TheVariants as told
+
+-- the answer of a step that told this, where it has loaded these pieces
+abbrev pub act_of : Told → List Piece → DeviceAct
+act_of told.Moved ps = act.Moved
+act_of (told.Taken k) ps = act.Taken k ps
+act_of (told.Given k) ps = act.Given k
+act_of told.Nothing ps = act.Nothing
+act_of told.Armed ps = act.Armed
+act_of told.Awake ps = act.Awake
+act_of told.Asleep ps = act.Asleep
+act_of told.Rested ps = act.Rested
+
+-- a step of an arming, a hearing, a disarming or a rest
+abbrev pub DeviceSleeps : DeviceStep → Type 0
+DeviceSleeps step.Arm = Unit {0}
+DeviceSleeps step.LookAgain = Unit {0}
+DeviceSleeps step.Hear = Unit {0}
+DeviceSleeps step.WakeArming = Unit {0}
+DeviceSleeps step.WakeHearing = Unit {0}
+DeviceSleeps step.Disarm = Unit {0}
+DeviceSleeps step.Rest = Unit {0}
+DeviceSleeps step.RestLook = Unit {0}
+DeviceSleeps _ = ⊥
+
+-- a step of an arming, a hearing or a disarming
+abbrev pub DriverSleeps : DriverStep → Type 0
+DriverSleeps driver.Arm = Unit {0}
+DriverSleeps driver.LookAgain = Unit {0}
+DriverSleeps driver.Hear = Unit {0}
+DriverSleeps driver.WakeArming = Unit {0}
+DriverSleeps driver.WakeHearing = Unit {0}
+DriverSleeps driver.Disarm = Unit {0}
+DriverSleeps _ = ⊥
