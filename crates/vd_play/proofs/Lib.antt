@@ -2,3 +2,15 @@ pub mod Lists
 pub mod Bounds
 pub mod Each
 pub mod Turning
+pub mod InMap
+pub mod Quiet
+pub mod Pace
+pub mod Keep
+pub mod Going
+pub mod Begin
+pub mod Benches
+pub mod Returns
+pub mod Cut
+pub mod Ending
+pub mod Sums
+pub mod Lasting

@@ -149,12 +149,20 @@ module _ {G : Type 0} (l : LayoutModel) (g : GuestParty G) (w : DeviceView) wher
   pub guest_over : (words : List ℕ) (v : DriverView) (x y : G) (made : ℕ) → GuestWay l g words v w x y made → g.is_done y → GuestTurn l g words v w x y made
   guest_over words v x y made r done = record { run = r.run; quiet = λ none. ((r.start none).0, inl done); over = λ before. done }
 
+  -- the step after which it is done
+  pub guest_ends : (words words' : List ℕ) (v : DriverView) (x y z : G) (made : ℕ) (answer : Move) → (r : GuestWay l g words v w x y made) → answer ≡ move.Finished → GuestStepped l g words' r.run.view w y z answer → GuestTurn l g words' v w x z (made + 1)
+  guest_ends words words' v x y z made answer r is s = record {
+    run = guest_runs words words' v x y z made r.run answer (ap worked is) s;
+    quiet = λ none. absurd (omega arith);
+    over = λ before. s.finished.0 is;
+  }
+
   pub guest_spent : (words : List ℕ) (v : DriverView) (x y : G) (made : ℕ) → (g.is_done x → ⊥) → GuestWay l g words v w x y made → 1 ≤ made → GuestTurn l g words v w x y made
   guest_spent words v x y made live r some = record { run = r.run; quiet = λ none. absurd (omega arith); over = λ done. absurd (live done) }
 
 module _ {X C : Type 0} (l : LayoutModel) (m : DeviceParty X C) (v : DriverView) where
   served_same : (x : X) → IsServed m x x
-  served_same x = record { events = refl; grows = prefix_same (m.begun x); settings = λ by is for. refl; faults = refl; carried = refl; attached = refl; room = (omega arith, omega arith) }
+  served_same x = record { events = refl; grows = prefix_same (m.begun x); settings = λ by is for. refl; faults = refl; window = refl; carried = refl; attached = refl; room = (omega arith, omega arith) }
 
   served_on : (x y z : X) → IsServed m x y → IsServed m y z → IsServed m x z
   served_on x y z a b = record {
@@ -162,6 +170,7 @@ module _ {X C : Type 0} (l : LayoutModel) (m : DeviceParty X C) (v : DriverView)
     grows = prefix_through (m.begun x) (m.begun y) (m.begun z) a.grows b.grows;
     settings = λ by is for. b.settings by (a.attached ∙ is) for ∙ a.settings by is for;
     faults = b.faults ∙ a.faults;
+    window = b.window ∙ a.window;
     carried = b.carried ∙ a.carried;
     attached = b.attached ∙ a.attached;
     room = (omega (arith, a.room.0, b.room.0), omega (arith, a.room.1, b.room.1));
@@ -201,6 +210,10 @@ module _ {X C : Type 0} (l : LayoutModel) (m : DeviceParty X C) (v : DriverView)
         heard = omega (arith, s.heard, r.run.heard);
       } in
       record { run = run; quiet = λ zero. (quiet.0 ∙ (r.start zero).0, subst (λ (u : DeviceView). DeviceWaits v u) (sym quiet.0) quiet.1) }
+
+  -- the step after which it is done
+  pub device_ends : (words words' : List ℕ) (w : DeviceView) (x y z : X) (made : ℕ) (answer : Move) → (r : DeviceWay l m words v w x y made) → answer ≡ move.Finished → DeviceStepped l m words' v r.run.view y z answer → DeviceTurn l m words' v w x z (made + 1)
+  device_ends words words' w x y z made answer r is s = record { run = device_runs words words' w x y z made r.run answer (ap worked is) s; quiet = λ none. absurd (omega arith) }
 
   -- a live device is done only after a step
   pub device_over : (words : List ℕ) (w : DeviceView) (x y : X) (made : ℕ) → (m.is_done x → ⊥) → DeviceWay l m words v w x y made → m.is_done y → DeviceTurn l m words v w x y made

@@ -28,20 +28,20 @@ queue_script plan q = slice_index_or plan.queues q (script [])
 abbrev pub queue_chains : Plan → ℕ → List (List Piece)
 queue_chains plan q = chains (queue_script plan q)
 
--- the guest's ring of a data queue has the queue's number, and no bounds
-abbrev pub guest_frame : LayoutModel → Plan → ℕ → Frame
-guest_frame l plan q = plain_frame l q plan.size plan.features false
-
--- the base of the guest's ring after the first k chains
-abbrev pub base_at : {E : Type 0} → DeviceModel E → LayoutModel → Plan → ℕ → ℕ → Base
-base_at e l plan q k = record { 0 = e.base_of (guest_frame l plan q) (take k (queue_chains plan q)) }
-
 -- in the mode pass a device finds each region at its own address, in file order
 abbrev pub own_address : Region → Mapping
 own_address r = record { iova = r.addr; size = r.size; guest = r.addr }
 
 abbrev pub pass_map : Plan → List Mapping
 pass_map plan = map own_address plan.regions
+
+-- the guest's ring of a data queue has the queue's number, and each piece of its chains lies in the map of the mode pass
+abbrev pub guest_frame : LayoutModel → Plan → ℕ → Frame
+guest_frame l plan q = plain_frame l q plan.size plan.features false (Some (pass_map plan))
+
+-- the base of the guest's ring after the first k chains
+abbrev pub base_at : {E : Type 0} → DeviceModel E → LayoutModel → Plan → ℕ → ℕ → Base
+base_at e l plan q k = record { 0 = e.base_of (guest_frame l plan q) (take k (queue_chains plan q)) }
 
 -- the device is attached to the guest's ring after k chains, with the default settings
 abbrev pub attach_event : {E : Type 0} → DeviceModel E → LayoutModel → Plan → ℕ → ℕ → Event

@@ -54,10 +54,11 @@ pub record Account (begun : List Begun) (w : DeviceView) : Type 0 where
   pub each : All IsBegun begun
   pub given : All (HasGiven (lens_of begun)) (gives w.done)
 
--- the guest's part, the account, and what was reserved
+-- the guest's part, the account, and what was reserved: the machine's window, and room for all chains
 pub record IsKept {D E G X C : Type 0} (s : Setting D E G X C) (plan : Plan) (q : ℕ) (words : RingWords) (guest : G) (device : X) (v : DriverView) (w : DeviceView) : Type 0 where
   pub driven : IsDriven s plan q words guest v w
   pub account : Account (s.party.begun device) w
+  pub window : s.party.window device ≡ plan.window
   pub room : length (queue_chains plan q) ≤ s.party.chain_room device + length (s.party.begun device)
 
 -- the events of the first k epochs
@@ -83,9 +84,9 @@ pub record Serves {D E G X C : Type 0} (s : Setting D E G X C) (plan : Plan) (q 
   pub holds : s.party.holds device w
   pub by : Attached
   pub attached : s.party.attached device ≡ Some by
-  pub for_data : IsData by.order
+  pub for_data : IsData by.queue
   pub from : (by.at ≡ begun_at plan q k) × (by.from ≡ begun_at plan q k)
-  pub to : by.at + by.order.count ≡ begun_at plan q (k + 1)
+  pub to : by.at + by.count ≡ begun_at plan q (k + 1)
   pub events : s.party.events device ≡ events_before s.device s.layout plan q k ++ attach_event s.device s.layout plan q (begun_at plan q k) ∷ []
   pub room : length (queue_epochs plan q) + length (queue_epochs plan q) ≤ s.party.event_room device + k + k + 1
   pub live : s.party.is_done device → ⊥

@@ -4,7 +4,8 @@ use Rattle.std.specs.List.{All}
 use mathlib.Core.List.{IsPrefix}
 use Rattle.vd_ring.specs.declared.driver.DriverView.{DriverView}
 use Rattle.vd_ring.specs.History.{occurs}
-use Rattle.vd_bus.specs.Device.{DeviceParty, IsBegun, Rose, chains_of, lens_of}
+use Rattle.vd_bus.specs.Device.{DeviceParty, IsBegun, chains_of, lens_of}
+use Rattle.vd_bus.specs.Pace.{raised}
 use Rattle.vd_machine.specs.File.{Plan}
 use Rattle.vd_play.specs.declared.bench.Bench.{Bench}
 use Rattle.vd_play.specs.declared.epoch.PlayFault.{PlayFault}
@@ -60,10 +61,10 @@ pub record KeepsBench {G X C : Type 0} (m : DeviceParty X C) (n : ℕ) (old new 
 abbrev pub HasNoFault : {G X C : Type 0} → DeviceParty X C → Bench G X → Bench G X → Type 0
 HasNoFault m old new = map m.faults new.devices.items ≡ map m.faults old.devices.items
 
--- the device of queue q, one of n, refused an attach: its count of faults rose, and no other
+-- the device of queue q, one of n, refused an attach: its count of faults went up by one, and no other has changed
 pub record IsFaultOf {G X C : Type 0} (m : DeviceParty X C) (n q : ℕ) (old new : Bench G X) : Type 0 where
   pub queue : q < n
-  pub rose : (x y : X) → slice_get old.devices.items q ≡ Some x → slice_get new.devices.items q ≡ Some y → Rose (m.faults x) (m.faults y)
+  pub rose : (x y : X) → slice_get old.devices.items q ≡ Some x → slice_get new.devices.items q ≡ Some y → m.faults y ≡ raised 1 (m.faults x)
   pub others : (k : ℕ) (x y : X) → k ≢ q → slice_get old.devices.items k ≡ Some x → slice_get new.devices.items k ≡ Some y → m.faults y ≡ m.faults x
 
 -- the queue whose device refused

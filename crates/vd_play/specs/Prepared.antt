@@ -39,7 +39,7 @@ pub record IsUnused {G : Type 0} (g : GuestParty G) (x : G) : Type 0 where
   pub returned : g.returned x ≡ []
   pub idle : (g.accesses x ≡ 0) × (g.heard x ≡ 0)
 
--- each guest has offered nothing and nothing came back; each device has changed in its room alone
+-- each guest has offered nothing and nothing came back; each device has changed in its window and its room alone
 pub record IsUntouched {G X C : Type 0} (g : GuestParty G) (m : DeviceParty X C) (old new : Bench G X) : Type 0 where
   pub guests : All (IsUnused g) new.guests.items
   pub devices : (k : ℕ) (x y : X) → slice_get old.devices.items k ≡ Some x → slice_get new.devices.items k ≡ Some y → IsUnchanged m x y

@@ -86,8 +86,8 @@ PassingIf false s plan q k r words guest device = ⊥
 
 -- in epoch k after r rounds, the lane holding this end or none
 abbrev pub InEpochWith : {D E G X C : Type 0} → Setting D E G X C → Plan → ℕ → Bool → ℕ → ℕ → RingWords → Option E → G → X → Type 0
-InEpochWith s plan q open k r words None guest device = PassingIf open s plan q k r words guest device
-InEpochWith s plan q open k r words (Some end) guest device = IsStopped s plan q (k + 1) r words end guest device
+InEpochWith s plan q on k r words None guest device = PassingIf on s plan q k r words guest device
+InEpochWith s plan q on k r words (Some end) guest device = IsStopped s plan q (k + 1) r words end guest device
 
 -- the lane is still before epoch k
 abbrev pub Stopped : {D E G X C : Type 0} → Setting D E G X C → Plan → ℕ → ℕ → Lane E → G → X → Type 0
@@ -95,7 +95,7 @@ Stopped s plan q k lane guest device = StoppedWith s plan q k lane.words lane.st
 
 -- the lane is passing in epoch k, unless it is closed, or has come to its end
 abbrev pub InEpoch : {D E G X C : Type 0} → Setting D E G X C → Plan → ℕ → Bool → ℕ → ℕ → Lane E → G → X → Type 0
-InEpoch s plan q open k r lane guest device = InEpochWith s plan q open k r lane.words lane.still guest device
+InEpoch s plan q on k r lane guest device = InEpochWith s plan q on k r lane.words lane.still guest device
 
 -- ---- all lanes
 
@@ -103,4 +103,4 @@ abbrev pub AllStopped : {D E G X C : Type 0} → Setting D E G X C → Plan → 
 AllStopped s plan k lanes bench = EachLane (λ q a b x. Stopped s plan q k a b x) lanes bench.guests.items bench.devices.items
 
 abbrev pub AllInEpoch : {D E G X C : Type 0} → Setting D E G X C → Plan → Bool → ℕ → ℕ → List (Lane E) → Bench G X → Type 0
-AllInEpoch s plan open k r lanes bench = EachLane (λ q a b x. InEpoch s plan q open k r a b x) lanes bench.guests.items bench.devices.items
+AllInEpoch s plan on k r lanes bench = EachLane (λ q a b x. InEpoch s plan q on k r a b x) lanes bench.guests.items bench.devices.items

@@ -12,11 +12,11 @@ use Rattle.vd_play.specs.Setting.{Setting}
 
 -- a lane is one round further, and its parties have made so many steps that were no looks
 abbrev pub LaneGoes : {D E G X C : Type 0} → Setting D E G X C → Lane E → Lane E → G → G → X → X → ℕ → Type 0
-LaneGoes s a a' b b' x x' made = (plan : Plan) (q : ℕ) (open : Bool) (k r : ℕ) → InEpoch s plan q open k r a b x → InEpoch s plan q open k (r + 1) a' b' x' × (steps s b' x' ≡ steps s b x + made)
+LaneGoes s a a' b b' x x' made = (plan : Plan) (q : ℕ) (on : Bool) (k r : ℕ) → InEpoch s plan q on k r a b x → InEpoch s plan q on k (r + 1) a' b' x' × (steps s b' x' ≡ steps s b x + made)
 
 -- all lanes are one round further
 abbrev pub RoundGoes : {D E G X C : Type 0} → Setting D E G X C → List (Lane E) → List (Lane E) → Bench G X → Bench G X → ℕ → Type 0
-RoundGoes s lanes lanes' bench bench' made = (plan : Plan) (open : Bool) (k r : ℕ) → AllInEpoch s plan open k r lanes bench → AllInEpoch s plan open k (r + 1) lanes' bench' × (all_steps s bench' ≡ all_steps s bench + made)
+RoundGoes s lanes lanes' bench bench' made = (plan : Plan) (on : Bool) (k r : ℕ) → AllInEpoch s plan on k r lanes bench → AllInEpoch s plan on k (r + 1) lanes' bench' × (all_steps s bench' ≡ all_steps s bench + made)
 
 -- an epoch has come to its end
 abbrev pub EpochGoes : {D E G X C : Type 0} → Setting D E G X C → List (Lane E) → List (Lane E) → Bench G X → Bench G X → ℕ → Type 0

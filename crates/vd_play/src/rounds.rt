@@ -48,8 +48,8 @@ fn round<L: Layout, G: Guest<L>, V: Device<L>>(
 ) -> u64
     requires parties { HasLanes (length floor.old.lanes.items) bench.old }
     requires few { length floor.old.lanes.items ≤ 8 }
-    requires lanes { (plan : Plan) × (open : Bool) × (k : ℕ) × (r : ℕ)
-        × AllInEpoch (setting_of L.Driver.driver L.Device.device L.layout G.party V.party) plan open k r floor.old.lanes.items bench.old }
+    requires lanes { (plan : Plan) × (on : Bool) × (k : ℕ) × (r : ℕ)
+        × AllInEpoch (setting_of L.Driver.driver L.Device.device L.layout G.party V.party) plan on k r floor.old.lanes.items bench.old }
     ensures many { length floor.new.lanes.items ≡ length floor.old.lanes.items }
     ensures few { result ≤ 64 }
     ensures keeps { KeepsBench V.party (length floor.old.lanes.items) bench.old bench.new }

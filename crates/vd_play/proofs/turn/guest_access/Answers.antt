@@ -5,7 +5,8 @@ use Rattle.vd_play.proofs.turn.guest_access.Goals as goal
 pub step-requires-clause-own : goal.step-requires-clause-own
 step-requires-clause-own g c =
     let h = c.requires.on in
-    (h.2, h.5, own_plain_driver g.P.Port.port g.met.P.Port.lawful g.L.Driver.DriverEnd.driver g.L.Device.DeviceEnd.device g.L.Layout.layout g.met.L.Layout.lawful c.args.port.now h.0 h.2 h.3 h.1 h.4)
+    let o = h.2 in
+    (o.0, o.3, own_plain_driver g.P.Port.port g.met.P.Port.lawful g.L.Driver.DriverEnd.driver g.L.Device.DeviceEnd.device g.L.Layout.layout g.met.L.Layout.lawful c.args.port.now h.0 o.0 o.1 h.1 o.2)
 
 pub returns : goal.returns
 returns g c = λ ws v w plain ring holds.
