@@ -179,9 +179,9 @@ module _ {D E G X C : Type 0} (s : Setting D E G X C) (plan : Plan) (q : ℕ) wh
   passing_of on k r words (Some end) guest device is p = absurd (cc)
 
   pub in_epoch_none : (on : Bool) (k r : ℕ) (words : RingWords) (still : Option E) (guest : G) (device : X) → is_some still ≡ false → on ≡ true → IsPassing s plan q k r words guest device → InEpochWith s plan q on k r words still guest device
-  in_epoch_none true k r words None guest device is on p = p
-  in_epoch_none false k r words None guest device is on p = absurd (cc)
-  in_epoch_none on k r words (Some end) guest device is on p = absurd (cc)
+  in_epoch_none true k r words None guest device is o p = p
+  in_epoch_none false k r words None guest device is o p = absurd (Rattle.std.proofs.lemmas.Bool.false≢true o)
+  in_epoch_none on k r words (Some end) guest device is o p = absurd (cc)
 
   -- at any time the guest holds its end on the lane's ring
   pub can_drive : (on : Bool) (k r : ℕ) (words : RingWords) (still : Option E) (guest : G) (device : X) → InEpochWith s plan q on k r words still guest device → CanDrive s.layout s.guest words.words guest

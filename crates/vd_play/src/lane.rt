@@ -31,8 +31,9 @@ pub(crate) fn lane_round<L: Layout, G: Guest<L>, V: Device<L>>(
         return by_guest;
     }
     let by_device = device_turn::<L, V>(&mut lane.words, device, draws);
-    if device.done() {
-        lane.still = Some(device.suspend());
+    if !device.done() {
+        return by_guest + by_device;
     }
+    lane.still = Some(device.suspend());
     by_guest + by_device
 }

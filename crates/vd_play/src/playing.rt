@@ -25,6 +25,8 @@ fn halt_all<L: Layout, G: Guest<L>, V: Device<L>>(floor: Floor<L>, bench: &mut B
         × AllInEpoch (setting_of L.Driver.driver L.Device.device L.layout G.party V.party) plan false k r floor.lanes.items bench.old }
     ensures keeps { KeepsBench V.party (length floor.lanes.items) bench.old bench.new }
     ensures devices { bench.new.devices ≡ bench.old.devices }
+    ensures counted { all_steps (setting_of L.Driver.driver L.Device.device L.layout G.party V.party) bench.new
+        ≡ all_steps (setting_of L.Driver.driver L.Device.device L.layout G.party V.party) bench.old }
     ensures halted { Halts (setting_of L.Driver.driver L.Device.device L.layout G.party V.party) floor.lanes.items bench.old bench.new }
 {
     for i in 0..floor.lanes.len() {
