@@ -14,3 +14,5 @@ pub mod Cut
 pub mod Ending
 pub mod Sums
 pub mod Lasting
+pub mod Untouched
+pub mod Making
