@@ -1,10 +1,10 @@
 -- What a still lane is after the last epoch, once its guest is done.
-use Rattle.std.proofs.Common.{◌≡◌, ℕ, ◌+◌, Option, Some, None, Bool, false, List, length, map, flat_map, sym, ◌∙◌, ap, subst, arith}
+use Rattle.std.proofs.Common.{◌≡◌, ℕ, ◌+◌, Option, Some, None, false, length, map, flat_map, sym, ◌∙◌, ap, subst, arith}
 use Rattle.std.proofs.Math.Seq.{take-length}
 use Rattle.std.proofs.lemmas.List.{length-map}
 use Rattle.vd_words.specs.Plain.{RingWords}
 use Rattle.vd_ring.specs.declared.frame.Frame.{Frame}
-use Rattle.vd_ring.specs.History.{offers, collects, takes, gives}
+use Rattle.vd_ring.specs.History.{collects, takes, gives}
 use Rattle.vd_ring.specs.Lists.{Lists}
 use Rattle.vd_bus.specs.Device.{lens_of}
 use Rattle.vd_bus.specs.Guest.{IsHalt, as_return}

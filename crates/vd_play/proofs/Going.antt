@@ -5,18 +5,18 @@ use Rattle.std.proofs.lemmas.List.{append_assoc}
 use Rattle.vd_words.specs.Plain.{RingWords}
 use Rattle.vd_ring.specs.declared.driver.DriverView.{DriverView}
 use Rattle.vd_ring.specs.declared.device.DeviceView.{DeviceView}
-use Rattle.vd_ring.specs.History.{takes, gives}
-use Rattle.vd_ring.specs.Sleep.{DriverWaits, driver_hearings, device_hearings, device_owed}
+use Rattle.vd_ring.specs.History.{takes}
+use Rattle.vd_ring.specs.Sleep.{DriverWaits, device_owed}
 use Rattle.vd_bus.specs.declared.event.Event.{Event}
 use Rattle.vd_bus.specs.declared.event.Event.TheVariants.{Suspend}
 use Rattle.vd_bus.specs.Device.{IsSuspend}
 use Rattle.vd_bus.specs.Pace.{attaches}
 use Rattle.vd_machine.specs.File.{Plan}
 use Rattle.vd_play.specs.Journal.{queue_chains, queue_epochs, epoch_events, attach_event, suspend_event}
-use Rattle.vd_play.specs.Lane.{IsDriven, IsKept, Rests, Serves, events_before, begun_at}
+use Rattle.vd_play.specs.Lane.{IsKept, events_before, begun_at}
 use Rattle.vd_play.specs.Progress.{IsPaced, IsStopped, IsPassing, InEpochWith, steps}
 use Rattle.vd_play.specs.Setting.{Setting, IsLawful}
-use Rattle.vd_play.specs.Turns.{CanDrive, CanServe, GuestTurn, GuestTurns, DeviceTurn, DeviceTurns}
+use Rattle.vd_play.specs.Turns.{CanDrive, GuestTurn, GuestTurns, DeviceTurn}
 use Rattle.vd_play.proofs.Bounds.{Bounded, bounded, flat_more}
 use Rattle.vd_play.proofs.Keep.{kept_guest, kept_device, kept_still, begun_of, base_of}
 use Rattle.vd_play.proofs.Pace.{guest_paced, device_paced, attaches_more}
@@ -76,26 +76,28 @@ module _ {D E G X C : Type 0} (s : Setting D E G X C) (law : IsLawful s) (plan :
       → (u : DeviceTurn s.layout s.party words2.words t.run.view p.device_view device device2 b) → (s.party.is_done device2 → ⊥) → IsPassing s plan q k (r + 1) words2 guest1 device2 × (steps s guest1 device2 ≡ steps s guest device + (a + b))
   goes_on words words1 words2 guest guest1 device device2 p same1 same2 t u live =
       let x = both words words1 words2 guest guest1 device device2 p same1 same2 t u in
-      let m = p.serves in
-      (record {
-        view = t.run.view;
-        device_view = u.run.view;
-        kept = x.kept;
-        serves = record {
-          epoch = m.epoch;
-          holds = u.run.holds;
-          by = m.by;
-          attached = u.run.served.attached ∙ m.attached;
-          for_data = m.for_data;
-          from = m.from;
-          to = m.to;
-          events = u.run.served.events ∙ m.events;
-          room = omega (arith, m.room, u.run.served.room.0);
-          live = live;
-        };
-        paced = x.paced;
-        rounds = omega (arith, p.rounds, x.some, x.counted);
-      }, x.counted)
+      let m = p.serves in (
+        record {
+          view = t.run.view;
+          device_view = u.run.view;
+          kept = x.kept;
+          serves = record {
+            epoch = m.epoch;
+            holds = u.run.holds;
+            by = m.by;
+            attached = u.run.served.attached ∙ m.attached;
+            for_data = m.for_data;
+            from = m.from;
+            to = m.to;
+            events = u.run.served.events ∙ m.events;
+            room = omega (arith, m.room, u.run.served.room.0);
+            live = live;
+          };
+          paced = x.paced;
+          rounds = omega (arith, p.rounds, x.some, x.counted);
+        },
+        x.counted,
+      )
 
   -- the round after which it is done, and suspended
   pub stops : (words words1 words2 : RingWords) (guest guest1 : G) (device device2 device3 : X) (end : E) (p : IsPassing s plan q k r words guest device) → words1.ring ≡ words.ring → words2.ring ≡ words1.ring → (t : GuestTurn s.layout s.guest words1.words p.view p.device_view guest guest1 a)
@@ -114,29 +116,31 @@ module _ {D E G X C : Type 0} (s : Setting D E G X C) (law : IsLawful s) (plan :
       let whole : epoch_events s.device s.layout plan q bound.epoch ≡ attach_event s.device s.layout plan q (begun_at plan q k) ∷ suspend_event s.device s.layout plan q (begun_at plan q (k + 1)) ∷ [] = ap (λ j. attach_event s.device s.layout plan q j ∷ suspend_event s.device s.layout plan q bound.epoch.end ∷ []) bound.first ∙ ap (λ j. attach_event s.device s.layout plan q (begun_at plan q k) ∷ suspend_event s.device s.layout plan q j ∷ []) bound.end in
       let events = two_more (s.party.events device2) (s.party.events device3) (events_before s.device s.layout plan q k) _ _ _ (u.run.served.events ∙ m.events) z.noted.events last in
       let counted : attaches (s.party.events device3) ≡ attaches (s.party.events device2) = ap attaches z.noted.events ∙ attaches_more (s.party.events device2) _ ∙ (let e : attaches (s.party.events device2) + 0 ≡ attaches (s.party.events device2) = omega arith in e) in
-      let total : steps s guest1 device3 ≡ steps s guest device + (a + b) = omega (arith, x.counted, z.noted.counts.0) in
-      (record {
-        view = t.run.view;
-        device_view = u.run.view;
-        kept = kept_still s law plan q words2 guest1 device2 device3 t.run.view u.run.view z.noted.begun z.noted.window z.noted.room.1 x.kept;
-        rests = record {
-          stands = stands;
-          still = inl z.rests;
-          free = z.attached;
-          taken = taken;
-          events = events ∙ ap (λ zs. events_before s.device s.layout plan q k ++ zs) (sym whole) ∙ sym (flat_more (epoch_events s.device s.layout plan q) (queue_epochs plan q) k bound.epoch bound.is);
-          room = omega (arith, m.room, u.run.served.room.0, z.noted.room.0);
-        };
-        paced = record {
-          guest_heard = x.paced.guest_heard;
-          guest_low = x.paced.guest_low;
-          device_heard = omega (arith, x.paced.device_heard, z.noted.counts.1);
-          device_low = omega (arith, x.paced.device_low, z.noted.counts.0, counted);
-          times = omega (arith, x.paced.times, counted);
-        };
-        early = omega (arith, m.epoch, p.kept.driven.queue.epochs);
-        late = λ every. inr (omega (arith, p.rounds, x.some, total));
-      }, total)
+      let total : steps s guest1 device3 ≡ steps s guest device + (a + b) = omega (arith, x.counted, z.noted.counts.0) in (
+        record {
+          view = t.run.view;
+          device_view = u.run.view;
+          kept = kept_still s law plan q words2 guest1 device2 device3 t.run.view u.run.view z.noted.begun z.noted.window z.noted.room.1 x.kept;
+          rests = record {
+            stands = stands;
+            still = inl z.rests;
+            free = z.attached;
+            taken = taken;
+            events = events ∙ ap (λ zs. events_before s.device s.layout plan q k ++ zs) (sym whole) ∙ sym (flat_more (epoch_events s.device s.layout plan q) (queue_epochs plan q) k bound.epoch bound.is);
+            room = omega (arith, m.room, u.run.served.room.0, z.noted.room.0);
+          };
+          paced = record {
+            guest_heard = x.paced.guest_heard;
+            guest_low = x.paced.guest_low;
+            device_heard = omega (arith, x.paced.device_heard, z.noted.counts.1);
+            device_low = omega (arith, x.paced.device_low, z.noted.counts.0, counted);
+            times = omega (arith, x.paced.times, counted);
+          };
+          early = omega (arith, m.epoch, p.kept.driven.queue.epochs);
+          late = λ every. inr (omega (arith, p.rounds, x.some, total));
+        },
+        total,
+      )
 
 -- a guest's turn on a lane that is still
 pub waits : {D E G X C : Type 0} (s : Setting D E G X C) (law : IsLawful s) (plan : Plan) (q k r a : ℕ) → a ≤ 4 → (words words1 : RingWords) (end : E) (guest guest1 : G) (device : X) (p : IsStopped s plan q k r words end guest device) → words1.ring ≡ words.ring
@@ -146,28 +150,30 @@ waits s law plan q k r a few words words1 end guest guest1 device p same t =
     let by_guest = guest_paced s law plan q a words1 guest guest1 p.view p.device_view p.paced.guest_heard p.paced.guest_low t.run kept.driven few in
     let counted : steps s guest1 device ≡ steps s guest device + a = omega (arith, by_guest.counted) in
     let whole = law.layout.device_end.whole end p.device_view p.rests.stands p.rests.still in
-    let idle = law.layout.device_end.at_rest end p.device_view p.rests.stands (law.layout.device_end.still end p.rests.still) in
-    (record {
-      view = t.run.view;
-      device_view = p.device_view;
-      kept = kept;
-      rests = p.rests;
-      paced = record {
-        guest_heard = by_guest.heard;
-        guest_low = by_guest.low;
-        device_heard = p.paced.device_heard;
-        device_low = p.paced.device_low;
-        times = p.paced.times;
-      };
-      early = p.early;
-      late = λ every. elim (p.late every) [
-        | inl done ↦ inl (t.over done)
-        | inr pace ↦ elim (cases_lt 0 a) [
-          | inl some ↦ inr (omega (arith, pace, counted))
-          | inr none ↦ inl (all_back s law plan q words1 guest1 t.run.view p.device_view kept.driven (ap device_owed idle) whole.1 every (t.quiet (omega arith)).1)
-        ]
-      ];
-    }, counted)
+    let idle = law.layout.device_end.at_rest end p.device_view p.rests.stands (law.layout.device_end.still end p.rests.still) in (
+      record {
+        view = t.run.view;
+        device_view = p.device_view;
+        kept = kept;
+        rests = p.rests;
+        paced = record {
+          guest_heard = by_guest.heard;
+          guest_low = by_guest.low;
+          device_heard = p.paced.device_heard;
+          device_low = p.paced.device_low;
+          times = p.paced.times;
+        };
+        early = p.early;
+        late = λ every. elim (p.late every) [
+          | inl done ↦ inl (t.over done)
+          | inr pace ↦ elim (cases_lt 0 a) [
+            | inl some ↦ inr (omega (arith, pace, counted))
+            | inr none ↦ inl (all_back s law plan q words1 guest1 t.run.view p.device_view kept.driven (ap device_owed idle) whole.1 every (t.quiet (omega arith)).1)
+          ]
+        ];
+      },
+      counted,
+    )
 
 -- ---- a lane by what it holds
 

@@ -1,5 +1,5 @@
 -- What single accesses keep of a lane.
-use Rattle.std.proofs.Common.{◌≡◌, ℕ, ◌+◌, ◌<◌, ◌≤◌, inl, inr, Some, List, [], ◌∷◌, length, map, drop, take, sym, ◌∙◌, ap, subst, arith}
+use Rattle.std.proofs.Common.{◌≡◌, ℕ, ◌≤◌, Some, List, length, drop, take, sym, ◌∙◌, ap, subst, arith}
 use Rattle.std.specs.List.{All}
 use Rattle.std.proofs.lemmas.List.{length-map}
 use mathlib.Core.List.{IsPrefix}
@@ -10,11 +10,11 @@ use Rattle.vd_ring.specs.declared.device.DeviceView.{DeviceView}
 use Rattle.vd_ring.specs.History.{offers, takes, gives}
 use Rattle.vd_layout.specs.Device.{IsStill}
 use Rattle.vd_bus.specs.declared.device.Attached.{Attached}
-use Rattle.vd_bus.specs.Device.{IsServing, IsJournalled, IsBegun, chains_of, lens_of}
+use Rattle.vd_bus.specs.Device.{IsServing, IsJournalled, chains_of}
 use Rattle.vd_bus.specs.Orders.{IsData}
 use Rattle.vd_machine.specs.File.{Plan}
 use Rattle.vd_play.specs.Journal.{queue_script, queue_chains, guest_frame, base_at}
-use Rattle.vd_play.specs.Lane.{IsDriven, Account, IsKept, HasGiven}
+use Rattle.vd_play.specs.Lane.{IsDriven, Account, IsKept}
 use Rattle.vd_play.specs.Setting.{Setting, IsLawful}
 use Rattle.vd_play.specs.Turns.{GuestRun, DeviceRun}
 use Rattle.vd_play.proofs.Lists.{prefix_at, prefix_through, prefix_take, chains_joined, begun_joined, given_joined}

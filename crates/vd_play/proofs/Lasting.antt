@@ -1,23 +1,23 @@
 -- When the rounds of an epoch end, and how many steps they have.
-use Rattle.std.proofs.Common.{◌≡◌, ◌⊎◌, inl, inr, ℕ, suc, zero, ◌+◌, ◌*◌, ◌<◌, ◌≤◌, Bool, true, false, Option, Some, None, is_some, List, [], ◌∷◌, length, slice_get, refl, sym, ◌∙◌, ap, subst, arith}
-use Rattle.std.specs.List.{list_all, sum_by, All}
+use Rattle.std.proofs.Common.{◌≡◌, inl, inr, ℕ, suc, zero, ◌+◌, ◌*◌, ◌≤◌, Bool, true, false, Option, Some, None, is_some, List, [], ◌∷◌, length, slice_get, sym, ◌∙◌, ap, arith}
+use Rattle.std.specs.List.{list_all}
 use Rattle.std.proofs.lemmas.Option.{get_or_from_slice_get, slice_get_within}
 use Rattle.vd_model.specs.declared.record.Script.{Script}
 use Rattle.vd_words.specs.Plain.{RingWords}
 use Rattle.vd_ring.specs.History.{takes}
-use Rattle.vd_bus.specs.Scripts.{run_count, run_chains}
+use Rattle.vd_bus.specs.Scripts.{run_count}
 use Rattle.vd_machine.specs.File.{Plan}
 use Rattle.vd_machine.specs.Queues.{script}
 use Rattle.vd_play.specs.declared.bench.Bench.{Bench}
 use Rattle.vd_play.specs.declared.floor.Lane.{Lane}
-use Rattle.vd_play.specs.Each.{EachLane, HasLanes}
+use Rattle.vd_play.specs.Each.{HasLanes}
 use Rattle.vd_play.specs.Journal.{queue_script, queue_chains, queue_epochs}
 use Rattle.vd_play.specs.Lane.{begun_at}
 use Rattle.vd_play.specs.Prepared.{IsIdle}
 use Rattle.vd_play.specs.Played.{KeepsBench}
-use Rattle.vd_play.specs.Progress.{IsStopped, StoppedWith, InEpochWith, AllInEpoch, AllStopped, steps, all_steps, guest_bound, device_bound, most_steps, work, rings}
+use Rattle.vd_play.specs.Progress.{IsStopped, StoppedWith, InEpochWith, AllInEpoch, AllStopped, steps, all_steps, guest_bound, device_bound, most_steps}
 use Rattle.vd_play.specs.Rounds.{IsLast, AllDone}
-use Rattle.vd_play.specs.Setting.{Setting, IsLawful}
+use Rattle.vd_play.specs.Setting.{Setting}
 use Rattle.vd_play.proofs.Bounds.{at_index, many_epochs, chains_count}
 use Rattle.vd_play.proofs.Lists.{All-at}
 use Rattle.vd_play.proofs.Sums.{sums_low, sum_more}

@@ -1,7 +1,7 @@
 -- A quiet lane: where each live party sleeps without a signal, no device is live, and after the last chain no guest is.
 use Rattle.std.proofs.Common.{◌≡◌, ◌⊎◌, inl, inr, ℕ, ◌+◌, ◌<◌, ◌≤◌, Some, List, [], ◌∷◌, length, refl, sym, ◌∙◌, ap, subst, arith}
 use Rattle.std.specs.List.{sum_by}
-use Rattle.std.proofs.lemmas.Option.{slice_get_within, get_or_from_slice_get}
+use Rattle.std.proofs.lemmas.Option.{get_or_from_slice_get}
 use Rattle.vd_model.specs.declared.chain.Piece.{Piece}
 use Rattle.vd_model.specs.Chains.{needs}
 use Rattle.vd_words.specs.Plain.{RingWords}
@@ -16,7 +16,6 @@ use Rattle.vd_ring.specs.Sleep.{DriverWaits, DeviceWaits, driver_owed, device_ow
 use Rattle.vd_ring.proofs.Quiet.{quiet_device, quiet_driver}
 use Rattle.vd_layout.specs.Driver.{HasRoom}
 use Rattle.vd_bus.specs.declared.device.Attached.{Attached}
-use Rattle.vd_bus.specs.Scripts.{chains}
 use Rattle.vd_machine.specs.File.{Plan}
 use Rattle.vd_play.specs.Journal.{queue_script, queue_chains, guest_frame}
 use Rattle.vd_play.specs.Lane.{IsDriven, IsKept}

@@ -1,5 +1,5 @@
 -- How far a lane is: what it keeps, and apart from it how many steps its parties have made.
-use Rattle.std.specs.Prelude.{◌≡◌, ◌⊎◌, ℕ, ◌+◌, ◌*◌, ◌≤◌, Bool, true, false, Option, Some, None, List, length}
+use Rattle.std.specs.Prelude.{◌⊎◌, ℕ, ◌+◌, ◌*◌, ◌≤◌, Bool, true, false, Option, Some, None, List, length}
 use Rattle.std.specs.List.{sum_by}
 use Rattle.vd_model.specs.declared.record.Script.{Script}
 use Rattle.vd_words.specs.Plain.{RingWords}

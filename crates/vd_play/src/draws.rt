@@ -25,7 +25,9 @@ impl Draws {
         match self.last {
             None => 1,
             Some(x) => {
-                let next = x.wrapping_mul(6364136223846793005).wrapping_add(1442695040888963407);
+                let next = x
+                    .wrapping_mul(6364136223846793005)
+                    .wrapping_add(1442695040888963407);
                 self.last = Some(next);
                 1 + (next >> 33) % 4
             }

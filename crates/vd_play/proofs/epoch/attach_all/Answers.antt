@@ -108,9 +108,9 @@ loop-i-preserved g c =
     let ok = c.in_ok-attach.ensures.ok in
     let keeps : KeepsBench m n c.args.bench.now new = keeps_set m n c.args.bench.now c.loop-i.bench new i hg.0 _ c.attach.new.device below c.loop-i.invariant.keeps (sym (set_same c.loop-i.bench.guests.items i hg.0 hg.1)) refl hx c.attach.ensures.carried in
     let began =
-          begins (setting_of g.L.Driver.DriverEnd.driver g.L.Device.DeviceEnd.device g.L.Layout.layout g.G.Guest.party g.V.Device.party) (record { layout = g.met.L.Layout.lawful; guest = g.met.G.Guest.lawful; party = g.met.V.Device.lawful }) (view c.args.m.now) i c.args.epoch c.stop_of-stop.result _ _ _ _ hg.0 _ c.attach.new.device to.0 to.1 c.attach.ensures.words ok.0
-          (λ end at. subst (λ k. IsAttach g.L.Device.DeviceEnd.device m (pass_order g.L.Device.DeviceEnd.device (view c.args.m.now) i (c.stop_of-stop.result - k) end) None end c.index_mut-device.result.now c.attach.new.device) (sym begun) (ok.1 end at))
-          (stage_read _ _ i _ _ _ _ _ _ c.loop-i.invariant.each hl hg.1 hx) in
+    begins (setting_of g.L.Driver.DriverEnd.driver g.L.Device.DeviceEnd.device g.L.Layout.layout g.G.Guest.party g.V.Device.party) (record { layout = g.met.L.Layout.lawful; guest = g.met.G.Guest.lawful; party = g.met.V.Device.lawful }) (view c.args.m.now) i c.args.epoch c.stop_of-stop.result _ _ _ _ hg.0 _ c.attach.new.device to.0 to.1 c.attach.ensures.words ok.0
+    (λ end at. subst (λ k. IsAttach g.L.Device.DeviceEnd.device m (pass_order g.L.Device.DeviceEnd.device (view c.args.m.now) i (c.stop_of-stop.result - k) end) None end c.index_mut-device.result.now c.attach.new.device) (sym begun) (ok.1 end at))
+    (stage_read _ _ i _ _ _ _ _ _ c.loop-i.invariant.each hl hg.1 hx) in
     record {
       many = length-set c.loop-i.floor.lanes.items i c.attach.new.lane ∙ c.loop-i.invariant.many;
       parties = lanes_kept m n c.args.bench.now new n keeps c.requires.parties;

@@ -3,9 +3,9 @@ use Rattle.vd_machine.specs.File.{view, Plan}
 use Rattle.vd_machine.proofs.Facts.{one_queue}
 use Rattle.vd_play.specs.declared.epoch.PlayFault.{PlayFault}
 use Rattle.vd_play.specs.Each.{HasLanes}
-use Rattle.vd_play.specs.Played.{KeepsBench, HasNoFault, IsFaultOf, IsPlayed, IsCut, AllCut, faulty}
-use Rattle.vd_play.specs.Progress.{AllInEpoch, AllStopped, all_steps, most_steps}
-use Rattle.vd_play.specs.Rounds.{IsLast, AllDone}
+use Rattle.vd_play.specs.Played.{KeepsBench, IsFaultOf, IsPlayed, IsCut, AllCut, faulty}
+use Rattle.vd_play.specs.Progress.{AllStopped, all_steps, most_steps}
+use Rattle.vd_play.specs.Rounds.{AllDone}
 use Rattle.vd_play.specs.Setting.{setting_of}
 use Rattle.vd_play.proofs.Benches.{keeps_none, keeps_through, lanes_kept, fault_later, same_many}
 use Rattle.vd_play.proofs.Cut.{if_err_by, if_err_any}

@@ -1,4 +1,4 @@
-use Rattle.std.proofs.Common.{◌≡◌, ◌∙◌, ℕ, length, arith, sym, refl, false, subst}
+use Rattle.std.proofs.Common.{◌∙◌, ℕ, length, arith, sym, refl, false, subst}
 use Rattle.vd_play.specs.Each.{HasLanes}
 use Rattle.vd_play.specs.Played.{KeepsBench}
 use Rattle.vd_play.specs.Rounds.{AllDone}

@@ -49,9 +49,10 @@ loop-i-preserved g c =
       faults = faults_set m c.args.bench.now c.loop-i.bench new i _ c.lane_round-made.new.device c.loop-i.invariant.faults refl hx c.lane_round-made.ensures.faults;
       each = λ plan on k r start.
           let e = c.loop-i.invariant.each plan on k r start in
-          let done = c.lane_round-made.ensures.goes plan i on k r (stage_read _ _ i _ _ _ _ _ _ e.0 hl hg hx) in
-          (stage_write _ _ i _ _ _ c.lane_round-made.new.lane c.lane_round-made.new.guest c.lane_round-made.new.device e.0 done.0,
-          omega (arith, e.1, done.1, sum_set g.G.Guest.party.accesses c.loop-i.bench.guests.items i _ c.lane_round-made.new.guest hg, sum_set g.V.Device.party.accesses c.loop-i.bench.devices.items i _ c.lane_round-made.new.device hx));
+          let done = c.lane_round-made.ensures.goes plan i on k r (stage_read _ _ i _ _ _ _ _ _ e.0 hl hg hx) in (
+            stage_write _ _ i _ _ _ c.lane_round-made.new.lane c.lane_round-made.new.guest c.lane_round-made.new.device e.0 done.0,
+            omega (arith, e.1, done.1, sum_set g.G.Guest.party.accesses c.loop-i.bench.guests.items i _ c.lane_round-made.new.guest hg, sum_set g.V.Device.party.accesses c.loop-i.bench.devices.items i _ c.lane_round-made.new.device hx),
+          );
     }
 
 pub returns-clause-goes : goal.returns-clause-goes

@@ -1,4 +1,4 @@
-use Rattle.std.proofs.Common.{◌≡◌, ◌∙◌, ℕ, length, arith, sym, refl, true, subst}
+use Rattle.std.proofs.Common.{◌∙◌, ℕ, length, arith, sym, refl, true, subst}
 use Rattle.vd_play.specs.Played.{KeepsBench}
 use Rattle.vd_play.specs.Setting.{setting_of}
 use Rattle.vd_play.proofs.Benches.{keeps_none, keeps_through, lanes_kept}
