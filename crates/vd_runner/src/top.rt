@@ -1,18 +1,21 @@
 //! The top call.
-ghost use Rattle.std.specs.Prelude.{◌≡◌, ℕ, List, Some, true, false, length, map};
+ghost use Rattle.std.specs.Prelude.{◌≡◌, ◌⊎◌, ℕ, List, Some, true, false, length, map};
 ghost use Rattle.std.specs.Io.KnownBytes.{Appends};
 ghost use Rattle.vd_machine.specs.declared.machine.MachineFault.{MachineFault};
 ghost use Rattle.vd_stream.specs.Causes.{Rose};
 ghost use Rattle.vd_stream.specs.Sinks.{AppendsFront};
 ghost use Rattle.vd_packed.specs.DeviceEnd.{packed_device};
+ghost use Rattle.vd_packed.specs.DriverEnd.{packed_driver};
 ghost use Rattle.vd_packed.specs.PackedLayout.{packed_layout};
 ghost use Rattle.vd_split.specs.DeviceEnd.{split_device};
+ghost use Rattle.vd_split.specs.DriverEnd.{split_driver};
 ghost use Rattle.vd_split.specs.SplitLayout.{split_layout};
 ghost use Rattle.vd_play.specs.Prepared.{IsEmptyBench, IsUntouched};
+ghost use Rattle.vd_play.specs.Setting.{setting_of};
 ghost use Rattle.vd_runner.specs.Answers.{has_written, has_played, has_prepared, expected, IsOrMemory};
 ghost use Rattle.vd_runner.specs.Command.{is_play};
 ghost use Rattle.vd_runner.specs.Layouts.{OfLayout, guests_for, devices_for};
-ghost use Rattle.vd_runner.specs.Outcome.{IsWellPlayed, IsCutOff, HasTooFew, SomeRose};
+ghost use Rattle.vd_runner.specs.Outcome.{IsWellPlayed, IsCutOff, IsUnplayed, HasTooFew, SomeRose};
 ghost use Rattle.vd_runner.specs.Reading.{BreaksFirst, ReadsTooMuch, OfMachine};
 ghost use Rattle.vd_runner.specs.Report.{report, all_lens};
 
@@ -60,19 +63,24 @@ pub fn vdpa<
     ensures read_fault { result ≡ Status.ReadFault → Rose (S.faults source.old) (S.faults source.new) }
     ensures write_fault { result ≡ Status.WriteFault → Rose (K.faults sink.old) (K.faults sink.new) }
     ensures device_fault { (q : ℕ) → result ≡ Status.DeviceFault q → OfMachine (S.left source.old) (S.left source.new) (λ plan. OfLayout plan.packed
-        (IsCutOff split_device split_layout GS.party VS.party plan q split.old split.new × (packed.new ≡ packed.old))
-        (IsCutOff packed_device packed_layout GP.party VP.party plan q packed.old packed.new × (split.new ≡ split.old))) }
+        (IsCutOff (setting_of split_driver split_device split_layout GS.party VS.party) plan q split.old split.new × (packed.new ≡ packed.old))
+        (IsCutOff (setting_of packed_driver packed_device packed_layout GP.party VP.party) plan q packed.old packed.new × (split.new ≡ split.old))) }
     // What was played and written.
     ensures done { result ≡ Status.Ok → OfMachine (S.left source.old) (S.left source.new) (λ plan. OfLayout plan.packed
-        (IsWellPlayed split_device split_layout GS.party VS.party plan split.old split.new × (packed.new ≡ packed.old)
-        × Appends (K.held sink.old) (K.held sink.new) (report plan false (all_lens VS.party plan split.new)))
-        (IsWellPlayed packed_device packed_layout GP.party VP.party plan packed.old packed.new × (split.new ≡ split.old)
-        × Appends (K.held sink.old) (K.held sink.new) (report plan false (all_lens VP.party plan packed.new)))) }
+        (IsWellPlayed (setting_of split_driver split_device split_layout GS.party VS.party) plan split.old split.new
+            × (packed.new ≡ packed.old) × Appends (K.held sink.old) (K.held sink.new) (report plan false (all_lens VS.party plan split.new)))
+        (IsWellPlayed (setting_of packed_driver packed_device packed_layout GP.party VP.party) plan packed.old packed.new
+            × (split.new ≡ split.old) × Appends (K.held sink.old) (K.held sink.new) (report plan false (all_lens VP.party plan packed.new)))) }
     ensures part { result ≡ Status.WriteFault → OfMachine (S.left source.old) (S.left source.new) (λ plan. OfLayout plan.packed
-        (IsWellPlayed split_device split_layout GS.party VS.party plan split.old split.new × (packed.new ≡ packed.old)
-        × AppendsFront (K.held sink.old) (K.held sink.new) (report plan false (all_lens VS.party plan split.new)))
-        (IsWellPlayed packed_device packed_layout GP.party VP.party plan packed.old packed.new × (split.new ≡ split.old)
-        × AppendsFront (K.held sink.old) (K.held sink.new) (report plan false (all_lens VP.party plan packed.new)))) }
+        (IsWellPlayed (setting_of split_driver split_device split_layout GS.party VS.party) plan split.old split.new
+            × (packed.new ≡ packed.old) × AppendsFront (K.held sink.old) (K.held sink.new) (report plan false (all_lens VS.party plan split.new)))
+        (IsWellPlayed (setting_of packed_driver packed_device packed_layout GP.party VP.party) plan packed.old packed.new
+            × (split.new ≡ split.old) × AppendsFront (K.held sink.old) (K.held sink.new) (report plan false (all_lens VP.party plan packed.new)))) }
+    // Where memory was wanting, the bench of the machine's layout has its parties still, and the other is as it was.
+    ensures memory { result ≡ Status.Memory → ((split.new ≡ split.old) × (packed.new ≡ packed.old))
+        ⊎ OfMachine (S.left source.old) (S.left source.new) (λ plan. OfLayout plan.packed
+        (IsUnplayed (setting_of split_driver split_device split_layout GS.party VS.party) plan split.old split.new × (packed.new ≡ packed.old))
+        (IsUnplayed (setting_of packed_driver packed_device packed_layout GP.party VP.party) plan packed.old packed.new × (split.new ≡ split.old))) }
     // What every other answer leaves.
     ensures unwritten { has_written result ≡ false → K.held sink.new ≡ K.held sink.old }
     ensures nothing { has_played result ≡ false → IsUntouched GS.party VS.party split.old split.new × IsUntouched GP.party VP.party packed.old packed.new }
@@ -93,8 +101,8 @@ pub fn vdpa<
         Err(status) => return status,
     };
     if machine.packed {
-        play_on::<Packed, K, GP, VP>(alloc, &machine, false, packed, sink)
+        play_on::<Packed, K, GP, VP>(alloc, &machine, None, false, packed, sink)
     } else {
-        play_on::<Split, K, GS, VS>(alloc, &machine, false, split, sink)
+        play_on::<Split, K, GS, VS>(alloc, &machine, None, false, split, sink)
     }
 }
