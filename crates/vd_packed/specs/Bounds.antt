@@ -1,10 +1,11 @@
 -- A chain has 16 descriptors at most, so a position is at most 16 times the number of chains before it.
-use Rattle.std.proofs.Common.{◌≡◌, ℕ, suc, ◌+◌, ◌*◌, ◌<◌, ◌≤◌, Bool, true, false, List, [], ◌∷◌, length, nat_lt, if◌then◌else◌, arith}
+use Rattle.std.proofs.Common.{ℕ, suc, ◌*◌, ◌<◌, ◌≤◌, Bool, true, false, List, [], ◌∷◌, length, nat_lt, if◌then◌else◌, arith}
 use Rattle.std.specs.List.{sum_by}
 use Rattle.std.proofs.lemmas.List.Sums.{sum_by-cons}
 use Rattle.vd_model.specs.declared.chain.Piece.{Piece}
 use Rattle.vd_model.specs.Chains.{needs}
 use Rattle.vd_ring.specs.declared.frame.Frame.{Frame}
+use Rattle.vd_ring.specs.declared.frame.Used.{Used}
 use Rattle.vd_ring.specs.declared.driver.DriverDone.{DriverDone}
 use Rattle.vd_ring.specs.Frames.{limit}
 use Rattle.vd_ring.specs.History.{offers, chain, chain_at}
@@ -17,6 +18,10 @@ use Rattle.vd_packed_ring.proofs.Spelled.{needs_pieces}
 pub few_each : (g : List Piece → ℕ) (cs : List (List Piece)) → ((k : ℕ) → k < length cs → g (chain_at cs k) ≤ 16) → sum_by g cs ≤ 16 * length cs
 few_each g [] each = omega arith
 few_each g (c ∷ cs) each = omega (arith, sum_by-cons g c cs, each 0 (omega arith), few_each g cs (λ k low. each (suc k) (omega arith)))
+
+pub few_used : (g : Used → ℕ) (us : List Used) → ((u : Used) → g u ≤ 16) → sum_by g us ≤ 16 * length us
+few_used g [] each = omega arith
+few_used g (u ∷ us) each = omega (arith, sum_by-cons g u us, each u, few_used g us each)
 
 -- the driver's position
 pub opos_few : (f : Frame) (o : List DriverDone) → IsBuilt f → Places f o → opos f o ≤ 16 * length (offers o)

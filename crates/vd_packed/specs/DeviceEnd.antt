@@ -12,10 +12,10 @@ use Rattle.vd_ring.specs.declared.device.DeviceNow.TheVariants as now
 use Rattle.vd_ring.specs.declared.device.DeviceView.{DeviceView}
 use Rattle.vd_ring.specs.Frames.{limit}
 use Rattle.vd_ring.specs.History.{takes, gives, heads, running, taken_head, chain_at, numbers, occurs, IsWhole}
-use Rattle.vd_packed_ring.specs.PackedWords.{is_available, kick_at}
+use Rattle.vd_packed_ring.specs.PackedWords.{kick_at}
 use Rattle.vd_packed_ring.specs.PackedChains.{pieces_in}
 use Rattle.vd_packed_ring.specs.PackedPositions.{tpos, upos, base_of}
-use Rattle.vd_packed_ring.specs.PackedDevice.{device_side, device_act}
+use Rattle.vd_packed_ring.specs.PackedDevice.{device_side, device_act, device_shows}
 use Rattle.vd_layout.specs.Begun.{DeviceOp}
 use Rattle.vd_layout.specs.Device.{DeviceModel}
 use Rattle.vd_packed.specs.declared.device.PackedDevice.{PackedDevice}
@@ -150,10 +150,6 @@ not_armed e v st off = st.signals.is_armed ∙ ap (λ (b : Bool). if b then Some
 
 pub is_armed : (e : PackedDevice) (v : DeviceView) → DeviceStands e v → e.armed ≡ true → v.armed ≡ Some (tpos v.frame v.done)
 is_armed e v st on = st.signals.is_armed ∙ ap (λ (b : Bool). if b then Some (tpos v.frame v.done) else None) on
-
--- whether a loaded second word shows a further chain
-abbrev pub device_shows : DeviceView → ℕ → Bool
-device_shows v r = is_available v.frame.size (tpos v.frame v.done) r
 
 -- ---- the operation that is begun, and the accesses that it still takes at most
 

@@ -1,11 +1,11 @@
 -- The step of a give: it is next in a view that the end stands for, and the end stands for the view after it.
-use Rattle.std.proofs.Common.{◌≡◌, ℕ, ◌+◌, ◌*◌, ◌<◌, ◌≤◌, true, nat_lt, List, [], ◌∷◌, length, take, Option, Some, None, slice_index_or, slice_set, refl, sym, ap, ◌∙◌, subst, arith, inl, inr}
+use Rattle.std.proofs.Common.{◌≡◌, ℕ, ◌+◌, ◌*◌, ◌<◌, ◌≤◌, true, false, nat_lt, List, [], ◌∷◌, length, Option, Some, None, slice_index_or, slice_set, refl, sym, ap, ◌∙◌, subst, arith, inl, inr}
 use Rattle.std.specs.Vec.{with_item}
 use Rattle.std.proofs.lemmas.Bool.{cases_lt, cases_eq}
-use Rattle.std.proofs.lemmas.List.{length-map, length_push, length-set, length-take-le, get_or-set_same, get_or-set_other, get_or-take}
+use Rattle.std.proofs.lemmas.List.{length_push, length-set, get_or-set_same, get_or-set_other}
 use Rattle.vd_model.specs.Chains.{needs}
 use Rattle.vd_words.specs.declared.access.Access.{Access}
-use Rattle.vd_words.specs.declared.access.Access.TheVariants.{Load, Store}
+use Rattle.vd_words.specs.declared.access.Access.TheVariants.{Store}
 use Rattle.vd_words.specs.declared.access.Op.{Op}
 use Rattle.vd_words.specs.declared.access.Op.TheVariants as op
 use Rattle.vd_words.specs.Model.{PortModel}
@@ -14,17 +14,17 @@ use Rattle.vd_ring.specs.declared.act.DeviceAct.TheVariants as act
 use Rattle.vd_ring.specs.declared.frame.Frame.{Frame}
 use Rattle.vd_ring.specs.declared.frame.Used.{Used}
 use Rattle.vd_ring.specs.declared.device.DeviceDone.{DeviceDone}
-use Rattle.vd_ring.specs.declared.device.DeviceDone.TheVariants.{Give, Rest}
+use Rattle.vd_ring.specs.declared.device.DeviceDone.TheVariants.{Give}
 use Rattle.vd_ring.specs.declared.device.DeviceNow.TheVariants as now
 use Rattle.vd_ring.specs.declared.device.DeviceView.{DeviceView}
 use Rattle.vd_ring.specs.History.{takes, gives, heads, running, running_size, taken_head, given, with_head, batch, chain_at, entry, last_used, numbers, used_at, occurs, IsWhole}
 use Rattle.vd_ring.proofs.Counts.{one_same, one_other, one_small, one_below, one_above, occurs_rest, occurs_without, length_without, with_head_is, Contains_from}
 use Rattle.vd_ring.proofs.HeldPlaces.{numbers_push}
-use Rattle.vd_ring.proofs.ListSteps.{batch_one, may_return, number_in}
+use Rattle.vd_ring.proofs.ListSteps.{batch_one, may_return}
 use Rattle.vd_packed_ring.specs.PackedWords.{second_word, used_word, id_of, len_of}
-use Rattle.vd_packed_ring.specs.PackedPositions.{tpos, upos, later}
-use Rattle.vd_packed_ring.specs.PackedDevice.{DeviceNextAt, DeviceNext, device_after_at, device_after, device_act, device_act_at, seen_to}
-use Rattle.vd_packed_ring.proofs.Positions.{device_span, sum_entries, upos_given}
+use Rattle.vd_packed_ring.specs.PackedPositions.{tpos, upos}
+use Rattle.vd_packed_ring.specs.PackedDevice.{DeviceNextAt, DeviceNext, device_after_at, device_after, device_act, device_act_at}
+use Rattle.vd_packed_ring.proofs.Positions.{upos_given}
 use Rattle.vd_packed_ring.proofs.WordFacts.{used_id, used_len}
 use Rattle.vd_layout.proofs.OnePair.{were_given}
 use Rattle.vd_layout.specs.Begun.{DeviceOp, IsDeviceOp}
@@ -33,7 +33,8 @@ use Rattle.vd_packed.specs.declared.device.PackedDevice.{PackedDevice}
 use Rattle.vd_packed.specs.declared.device.DeviceStep.{DeviceStep}
 use Rattle.vd_packed.specs.declared.device.DeviceStep.TheVariants as step
 use Rattle.vd_packed.specs.DriverEnd.{packed_words}
-use Rattle.vd_packed.specs.DeviceEnd.{TakesOnce, HoldsRunning, IsCount, number_at, IsNext, DeviceStands, DeviceStepStands, DeviceStepArmed, device_owes, not_armed, device_begun, device_left, is_resting, packed_device}
+use Rattle.vd_packed.specs.DeviceEnd.{HoldsRunning, IsCount, number_at, IsNext, DeviceStands, DeviceStepStands, DeviceStepArmed, device_owes, not_armed, device_begun, device_left, is_resting, packed_device}
+use Rattle.vd_packed.specs.Bounds.{few_used}
 use Rattle.vd_packed.specs.Places.{spot_below, second_at, same_at, forward_at, used_second_at}
 use Rattle.vd_packed.specs.Seconds.{used_second}
 use Rattle.vd_packed.specs.Spots.{IsAt, forward}
@@ -139,6 +140,12 @@ give_facts e v number head len is st =
       n.0,
       n.1,
     )
+
+-- its position fits 64 bits
+pub give_position : (e : PackedDevice) (v : DeviceView) (number count : ℕ) → DeviceStands e v → count ≡ needs v.frame.features (chain_at (takes v.done) number) → e.given < 4294967296 → e.used_position + count < 1000000000000
+give_position e v number count st sized small =
+    let f : Frame = v.frame in let s : List DeviceDone = v.done in
+    omega (arith, sized, st.counts.few number, st.counts.used_is, st.counts.gives, few_used (λ u. needs f.features (chain_at (takes s) u.number)) (gives s) (λ u. st.counts.few u.number))
 
 -- the number of a chain that is given now fits 32 bits, since it was taken
 pub given_small : (e : PackedDevice) (v : DeviceView) (number head len : ℕ) → e.doing ≡ step.Give number head len → DeviceStands e v → e.given < e.taken

@@ -19,7 +19,9 @@ use Rattle.vd_packed_ring.specs.PackedWords.{commands_from, acks_from}
 use Rattle.vd_packed_ring.specs.PackedPositions.{tpos, base_of}
 use Rattle.vd_packed_ring.specs.PackedDevice.{DeviceNextAt, device_after_at}
 use Rattle.vd_packed_ring.proofs.ControlFacts.{device_controls}
+use Rattle.vd_packed_ring.proofs.DeviceLooking.{device_looks}
 use Rattle.vd_packed_ring.proofs.DeviceViews.{device_frame}
+use Rattle.vd_packed_ring.proofs.Signalling.{device_unarmed}
 use Rattle.vd_layout.proofs.InTable.{runs_in_table}
 use Rattle.vd_layout.specs.Begun.{DeviceOp}
 use Rattle.vd_layout.specs.Device.{IsStill, IsLawfulDevice}
@@ -28,7 +30,6 @@ use Rattle.vd_packed.specs.declared.device.DeviceStep.{DeviceStep}
 use Rattle.vd_packed.specs.declared.device.DeviceStep.TheVariants as step
 use Rattle.vd_packed.specs.declared.spot.Spot.{Spot}
 use Rattle.vd_packed.specs.DeviceEnd.{HoldsRunning, number_at, IsNext, IsTaking, DeviceStands, DeviceStepStands, DeviceStepArmed, device_owes, not_armed, is_armed, device_begun, device_left, is_resting, is_idle, packed_device}
-use Rattle.vd_packed.specs.DeviceAnswers.{stays_unarmed, device_looks_laws}
 use Rattle.vd_packed.specs.Places.{base_at_spot}
 use Rattle.vd_packed.specs.Spots.{base_word}
 
@@ -299,8 +300,8 @@ device_laws = record {
   unused = λ e v st r. fresh_unused e v st (parts (is_idle e.doing && ((e.taken == 0) && (e.given == 0))) (not e.armed) r).0;
   control = λ e v a r st n. control_at v.doing e v a r st n;
   framed = λ v o a r. device_frame v o a r;
-  stays_unarmed = λ v o a r other off. stays_unarmed v o a r other off;
-  looks = device_looks_laws;
+  stays_unarmed = device_unarmed;
+  looks = device_looks;
   armed = λ e v st on. (tpos v.frame v.done, is_armed e v st on);
   not_armed = λ e v st off. not_armed e v st off;
   unarmed_still = still_unarmed;

@@ -1,5 +1,5 @@
 -- The look of a rest: it is next in a view that the end stands for, and the end stands for the view after it.
-use Rattle.std.proofs.Common.{◌≡◌, ℕ, ◌+◌, ◌*◌, ◌<◌, ◌≤◌, nat_lt, Bool, if◌then◌else◌, List, [], ◌∷◌, length, take, Option, Some, None, refl, sym, ap, ◌∙◌, subst, arith, inl, inr}
+use Rattle.std.proofs.Common.{◌≡◌, ℕ, ◌+◌, ◌*◌, ◌<◌, ◌≤◌, Bool, if◌then◌else◌, List, [], ◌∷◌, length, take, Option, Some, None, refl, sym, ap, ◌∙◌, subst, arith, inl, inr}
 use Rattle.std.proofs.lemmas.Bool.{cases_lt}
 use Rattle.std.proofs.lemmas.List.{length-map, length-take, length-take-le, get_or-take, get_or_past}
 use Rattle.vd_model.specs.declared.chain.Piece.{Piece}
@@ -13,7 +13,7 @@ use Rattle.vd_ring.specs.declared.device.DeviceDone.{DeviceDone}
 use Rattle.vd_ring.specs.declared.device.DeviceDone.TheVariants.{Rest}
 use Rattle.vd_ring.specs.declared.device.DeviceNow.TheVariants as now
 use Rattle.vd_ring.specs.declared.device.DeviceView.{DeviceView}
-use Rattle.vd_ring.specs.History.{takes, gives, heads, running, running_size, chain_at, numbers, used_at, occurs, IsWhole}
+use Rattle.vd_ring.specs.History.{takes, gives, heads, running_size, chain_at, numbers, used_at, occurs, IsWhole}
 use Rattle.vd_ring.proofs.Counts.{one_below, one_above, occurs_rest}
 use Rattle.vd_ring.proofs.ListSteps.{number_in}
 use Rattle.vd_packed_ring.specs.PackedPositions.{tpos, upos, later}

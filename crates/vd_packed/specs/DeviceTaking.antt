@@ -12,7 +12,7 @@ use Rattle.vd_ring.specs.declared.device.DeviceNow.TheVariants as now
 use Rattle.vd_ring.specs.declared.device.DeviceView.{DeviceView}
 use Rattle.vd_ring.specs.History.{takes}
 use Rattle.vd_packed_ring.specs.PackedWords.{addr_word, second_word, put, words_of, id_of, goes_on, is_available}
-use Rattle.vd_packed_ring.specs.PackedChains.{direct, reading, piece_of, pieces_in, ends, following, is_whole, chain_of, cursor, loaded_head}
+use Rattle.vd_packed_ring.specs.PackedChains.{direct, reading, piece_of, pieces_in, ends, following, is_whole, chain_of, cursor}
 use Rattle.vd_packed_ring.specs.PackedPositions.{tpos}
 use Rattle.vd_packed_ring.specs.PackedDevice.{DeviceNextAt, DeviceNext, DeviceTells, DeviceTellsAt, BeginsChain, device_after, device_after_at, device_takes, device_act_at}
 use Rattle.vd_packed_ring.proofs.Areas.{second_low}
@@ -22,7 +22,7 @@ use Rattle.vd_layout.specs.Device.{DeviceSays}
 use Rattle.vd_packed.specs.declared.device.PackedDevice.{PackedDevice}
 use Rattle.vd_packed.specs.declared.device.DeviceStep.TheVariants as step
 use Rattle.vd_packed.specs.DriverEnd.{packed_words}
-use Rattle.vd_packed.specs.DeviceEnd.{TakesOnce, HoldsRunning, IsCount, number_at, IsTaking, DeviceStands, DeviceStepStands, device_begun, device_left}
+use Rattle.vd_packed.specs.DeviceEnd.{IsTaking, DeviceStands, DeviceStepStands, device_begun, device_left}
 use Rattle.vd_packed.specs.DeviceGiving.{Goes, at_step}
 use Rattle.vd_packed.specs.Places.{spot_below, second_at, same_at, forward_at}
 use Rattle.vd_packed.specs.Spots.{IsAt, forward}

@@ -18,7 +18,7 @@ use Rattle.vd_ring.proofs.Counts.{occurs_from, Contains_from, occurs_without, wi
 use Rattle.vd_ring.proofs.HeldPlaces.{open_below, same_head, collect_places, head_inside}
 use Rattle.vd_ring.proofs.ListSteps.{batch_one, returns_next}
 use Rattle.vd_packed_ring.specs.PackedWords.{IsLawful, id_of, len_of, is_used}
-use Rattle.vd_packed_ring.specs.PackedPositions.{opos, cpos, later}
+use Rattle.vd_packed_ring.specs.PackedPositions.{cpos, later}
 use Rattle.vd_packed_ring.specs.PackedDriver.{NamesOpen, DriverNextAt, DriverNext, DriverTells, DriverTellsAt, driver_after, driver_after_at, driver_act_at, driver_collects, collect_act}
 use Rattle.vd_packed_ring.proofs.Positions.{cpos_collected, driver_span}
 use Rattle.vd_packed_ring.proofs.Spelled.{lent_one}

@@ -1,5 +1,5 @@
 -- For which views the driver's end of a packed ring stands, and what it has begun.
-use Rattle.std.specs.Prelude.{◌≡◌, ℕ, zero, suc, ◌+◌, ◌-◌, ◌*◌, ◌/◌, ◌<◌, ◌≤◌, Bool, true, false, if◌then◌else◌, List, length, take, Option, Some, None, slice_index_or}
+use Rattle.std.specs.Prelude.{◌≡◌, ℕ, zero, suc, ◌+◌, ◌-◌, ◌*◌, ◌/◌, ◌<◌, ◌≤◌, Bool, true, false, if◌then◌else◌, List, length, take, Some, None, slice_index_or}
 use Rattle.std.proofs.Common.{ap, ◌∙◌}
 use Rattle.vd_model.specs.declared.chain.Piece.{Piece}
 use Rattle.vd_model.specs.declared.features.Features.{Features}
@@ -14,9 +14,9 @@ use Rattle.vd_ring.specs.declared.driver.DriverNow.TheVariants as now
 use Rattle.vd_ring.specs.declared.driver.DriverView.{DriverView}
 use Rattle.vd_ring.specs.History.{offers, collects, open_at, open_size, free, chain, head, occurs}
 use Rattle.vd_ring.specs.Places.{Places}
-use Rattle.vd_packed_ring.specs.PackedWords.{IsLawful, IsBuilt, is_used, kick_at, command_word, ack_word}
+use Rattle.vd_packed_ring.specs.PackedWords.{IsLawful, IsBuilt, kick_at, command_word, ack_word}
 use Rattle.vd_packed_ring.specs.PackedPositions.{opos, cpos}
-use Rattle.vd_packed_ring.specs.PackedDriver.{CanOffer, plan, driver_side, driver_act}
+use Rattle.vd_packed_ring.specs.PackedDriver.{CanOffer, plan, driver_side, driver_act, driver_shows}
 use Rattle.vd_layout.specs.Begun.{DriverOp}
 use Rattle.vd_layout.specs.Control.{ControlWords}
 use Rattle.vd_layout.specs.Driver.{DriverModel}
@@ -131,10 +131,6 @@ not_armed e v st off = st.signals.is_armed ∙ ap (λ (b : Bool). if b then Some
 
 pub is_armed : (e : PackedDriver) (v : DriverView) → DriverStands e v → e.armed ≡ true → v.armed ≡ Some (cpos v.frame v.done)
 is_armed e v st on = st.signals.is_armed ∙ ap (λ (b : Bool). if b then Some (cpos v.frame v.done) else None) on
-
--- whether a loaded second word shows a further used descriptor
-abbrev pub driver_shows : DriverView → ℕ → Bool
-driver_shows v r = is_used v.frame.size (cpos v.frame v.done) r
 
 -- ---- the operation that is begun, and the accesses that it still takes at most
 

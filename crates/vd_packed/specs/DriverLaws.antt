@@ -18,7 +18,9 @@ use Rattle.vd_packed_ring.specs.PackedPositions.{opos, cpos}
 use Rattle.vd_packed_ring.specs.PackedDriver.{CanOffer, DriverNextAt, driver_after_at}
 use Rattle.vd_packed_ring.proofs.ControlFacts.{driver_controls}
 use Rattle.vd_packed_ring.proofs.DriverViews.{driver_frame}
+use Rattle.vd_packed_ring.proofs.DriverLooking.{driver_looks}
 use Rattle.vd_packed_ring.proofs.Positions.{driver_span}
+use Rattle.vd_packed_ring.proofs.Signalling.{driver_unarmed}
 use Rattle.vd_packed_ring.proofs.Spelled.{needs_pieces}
 use Rattle.vd_layout.specs.Begun.{DriverOp}
 use Rattle.vd_layout.specs.Driver.{HasRoom, MayOffer, IsLawfulDriver}
@@ -27,7 +29,6 @@ use Rattle.vd_packed.specs.declared.driver.DriverStep.{DriverStep}
 use Rattle.vd_packed.specs.declared.driver.DriverStep.TheVariants as step
 use Rattle.vd_packed.specs.declared.spot.Spot.{Spot}
 use Rattle.vd_packed.specs.DriverEnd.{DriverStands, DriverStepStands, DriverStepArmed, driver_owes, driver_begun, driver_left, not_armed, is_armed, packed_driver, packed_words}
-use Rattle.vd_packed.specs.DriverAnswers.{stays_unarmed, driver_looks_laws}
 use Rattle.vd_packed.specs.Places.{same_at}
 
 pub room_from : (e : PackedDriver) (v : DriverView) (c : List Piece) → DriverStands e v → length c ≤ e.space → HasRoom v.frame v.done c
@@ -181,8 +182,8 @@ driver_laws = record {
   armed = λ e v st on. (cpos v.frame v.done, is_armed e v st on);
   unarmed = λ e v st off. not_armed e v st off;
   framed = λ v o a r. driver_frame v o a r;
-  stays_unarmed = λ v o a r other off. stays_unarmed v o a r other off;
-  looks = driver_looks_laws;
+  stays_unarmed = driver_unarmed;
+  looks = driver_looks;
   places = λ e v st. st.holds.held;
   controls = driver_controls;
 }

@@ -32,7 +32,7 @@ use Rattle.vd_packed_ring.proofs.Clear.{plan_is}
 use Rattle.vd_packed_ring.proofs.Positions.{driver_span, opos_offered, cpos_offered, free_some}
 use Rattle.vd_packed_ring.proofs.Spelled.{needs_pieces, lent_one, publishing_is, staged_is, staged_back}
 use Rattle.vd_layout.specs.Begun.{DriverOp, IsDriverOp}
-use Rattle.vd_layout.specs.Driver.{DriverSays, WasOffered, IsDriverStep}
+use Rattle.vd_layout.specs.Driver.{DriverSays, IsDriverStep}
 use Rattle.vd_packed.specs.declared.driver.PackedDriver.{PackedDriver}
 use Rattle.vd_packed.specs.declared.driver.Slot.{Slot}
 use Rattle.vd_packed.specs.declared.driver.DriverStep.TheVariants as step

@@ -10,7 +10,6 @@ pub mod Offers
 pub mod DriverSteps
 pub mod DriverCollecting
 pub mod DriverBells
-pub mod DriverAnswers
 pub mod DriverLaws
 pub mod DeviceGiving
 pub mod Loaded
@@ -20,7 +19,6 @@ pub mod DeviceTaking
 pub mod DeviceTaken
 pub mod DeviceBells
 pub mod DeviceRest
-pub mod DeviceAnswers
 pub mod DeviceLaws
 pub mod Opening
 pub mod PackedLayout

@@ -29,14 +29,14 @@ pub record HasTaken (addr id : ℕ) (e e' : PackedDevice) : Type 0 where
   pub pushed : e'.pieces.items ≡ e.pieces.items ++ piece_of addr e.second ∷ []
   pub guesses : length e'.guesses.items ≡ length e.guesses.items
   pub kept :
-    e' ≡ record e {
-      taken = e.taken + 1;
-      next = forward e.at 1 e.size;
-      next_position = e.next_position + (length e.pieces.items + 1);
-      running = with_item e.running id (Some e.taken);
-      counts = with_item e.counts id (length e.pieces.items + 1);
-      guesses = e'.guesses;
-      pieces = e'.pieces;
-      at = forward e.at 1 e.size;
-      doing = step.Idle;
-    }
+      e' ≡ record e {
+        taken = e.taken + 1;
+        next = forward e.at 1 e.size;
+        next_position = e.next_position + (length e.pieces.items + 1);
+        running = with_item e.running id (Some e.taken);
+        counts = with_item e.counts id (length e.pieces.items + 1);
+        guesses = e'.guesses;
+        pieces = e'.pieces;
+        at = forward e.at 1 e.size;
+        doing = step.Idle;
+      }

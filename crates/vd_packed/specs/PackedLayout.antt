@@ -32,7 +32,8 @@ use Rattle.vd_packed_ring.proofs.DeviceViews.{device_inside}
 use Rattle.vd_packed_ring.proofs.DeviceAnswers.{has_last_used, looks_nothing}
 use Rattle.vd_packed_ring.proofs.DeviceBagSteps.{bags}
 use Rattle.vd_packed_ring.proofs.Opens.{opens}
-use Rattle.vd_packed_ring.proofs.Sleeping.{signals, driver_asleep, device_asleep, driver_hears, device_hears}
+use Rattle.vd_packed_ring.proofs.Sleeping.{signals, driver_asleep, driver_hears}
+use Rattle.vd_packed_ring.proofs.DeviceSleeping.{device_asleep, device_hears}
 use Rattle.vd_layout.specs.Layout.{LayoutModel, IsMadeWith, CanMake, IsFresh, IsLawfulLayout}
 use Rattle.vd_packed.specs.declared.driver.PackedDriver.{PackedDriver}
 use Rattle.vd_packed.specs.declared.driver.DriverStep.TheVariants as driver_step

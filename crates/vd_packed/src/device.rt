@@ -8,7 +8,7 @@ mod give;
 mod loaded;
 mod make;
 mod rest;
-mod running;
+pub(crate) mod running;
 mod signal;
 mod sleep;
 mod take;

@@ -1,5 +1,9 @@
 //! Both ends over plain words, against worked rows and an independent model of the format.
+mod chains;
+mod events;
 mod format;
+mod last_id;
 mod rig;
 mod rows;
+mod sleepers;
 mod table;

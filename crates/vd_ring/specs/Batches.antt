@@ -6,8 +6,9 @@ use Rattle.vd_ring.specs.declared.frame.Frame.{Frame}
 use Rattle.vd_ring.specs.declared.frame.Used.{Used}
 use Rattle.vd_ring.specs.History.{numbers, between, batch, last_used}
 
--- so many chains may be returned by one used entry. Until batches come it is one; then this alone changes, to one on a ring that
--- is no batching one
+-- so many chains may be returned by one used entry. Until batches come it is one; then this is relaxed, to one on a ring that is no
+-- batching one. What else batches need is said already: the used index that a split driver has seen ends where an entry ends, a part of
+-- that ring's invariant, without which a look might show a part of an entry
 abbrev pub IsSingle : Frame → ℕ → Type 0
 IsSingle f n = n ≡ 1
 

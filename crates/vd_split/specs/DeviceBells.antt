@@ -1,9 +1,8 @@
 -- The stores of event words: each is next in a view that the end stands for, and the end stands for the view after it.
-use Rattle.std.proofs.Common.{◌≡◌, ℕ, ◌+◌, ◌*◌, ◌/◌, ◌%◌, ◌<◌, ◌≤◌, Bool, true, false, Option, Some, None, List, length, if◌then◌else◌, slice_index, slice_set, refl, sym, ap, ◌∙◌, subst, arith}
+use Rattle.std.proofs.Common.{◌≡◌, ℕ, ◌+◌, ◌<◌, ◌≤◌, Bool, true, false, Option, Some, None, length, if◌then◌else◌, slice_index, slice_set, refl, sym, ap, ◌∙◌, subst, arith}
 use Rattle.std.proofs.lemmas.List.{length-set}
 use Rattle.std.specs.Vec.{with_item}
 use Rattle.vd_bits.specs.Lanes.{set_lane16}
-use Rattle.vd_words.specs.declared.access.Access.{Access}
 use Rattle.vd_words.specs.declared.access.Access.TheVariants.{Store}
 use Rattle.vd_words.specs.declared.access.Op.{Op}
 use Rattle.vd_words.specs.declared.access.Op.TheVariants as op
@@ -14,10 +13,9 @@ use Rattle.vd_ring.specs.declared.device.DeviceNow.{DeviceNow}
 use Rattle.vd_ring.specs.declared.device.DeviceNow.TheVariants as now
 use Rattle.vd_ring.specs.declared.device.DeviceView.{DeviceView}
 use Rattle.vd_ring.specs.History.{takes}
-use Rattle.vd_split_ring.specs.SplitWords.{used_from, width, device_event_word, device_event_lane, armed_value}
-use Rattle.vd_split_ring.specs.SplitDevice.{DeviceNextAt, DeviceNext, device_after_at, device_after, device_act_at, device_act}
+use Rattle.vd_split_ring.specs.SplitWords.{used_from, device_event_word, device_event_lane, armed_value}
+use Rattle.vd_split_ring.specs.SplitDevice.{DeviceNextAt, device_after_at, device_after, device_act_at}
 use Rattle.vd_split_ring.proofs.Areas.{areas}
-use Rattle.vd_split_ring.proofs.Bells.{device_event_inside}
 use Rattle.vd_layout.specs.Begun.{IsDeviceOp, DeviceOp}
 use Rattle.vd_layout.specs.Device.{DeviceSays}
 use Rattle.vd_split.specs.declared.device.SplitDevice.{SplitDevice}
@@ -25,8 +23,8 @@ use Rattle.vd_split.specs.declared.device.DeviceStep.{DeviceStep}
 use Rattle.vd_split.specs.declared.device.DeviceStep.TheVariants as step
 use Rattle.vd_split.specs.DriverEnd.{split_words}
 use Rattle.vd_split.specs.DeviceEnd.{DeviceStands, DeviceStepStands, DeviceStepArmed, device_owes, device_begun, device_left, Wakes, not_armed, is_armed}
-use Rattle.vd_split.specs.DeviceGiving.{Goes, used_below}
-use Rattle.vd_split.specs.Parts.{Copies, used_area, event_offset, own_value}
+use Rattle.vd_split.specs.DeviceGiving.{Goes}
+use Rattle.vd_split.specs.Parts.{used_area, event_offset, own_value}
 use Rattle.vd_split.specs.Plans.{copies_set}
 
 -- the end after the store of word i of its area, and the view

@@ -1,12 +1,11 @@
 -- The laws of the device's end of a split ring.
-use Rattle.std.proofs.Common.{◌≡◌, ℕ, ◌+◌, ◌-◌, ◌/◌, ◌%◌, ◌<◌, ◌≤◌, ◌&&◌, ◌==◌, Bool, true, false, not, nat_lt, if◌then◌else◌, List, [], ◌∷◌, ◌++◌, length, Option, Some, None, slice_set, refl, sym, ap, ◌∙◌, subst, arith, inl, inr}
+use Rattle.std.proofs.Common.{◌≡◌, ℕ, ◌+◌, ◌-◌, ◌/◌, ◌%◌, ◌<◌, ◌≤◌, ◌&&◌, ◌==◌, Bool, true, false, not, nat_lt, List, [], ◌∷◌, length, Option, Some, None, slice_set, refl, sym, ap, ◌∙◌, subst, arith, inl, inr}
 use Rattle.std.specs.List.{Contains}
 use Rattle.std.proofs.lemmas.Bool.{cases_lt, eqb-true}
 use Rattle.std.proofs.lemmas.List.{length-set, get_or_past}
 use Rattle.vd_model.specs.declared.chain.Piece.{Piece}
 use Rattle.vd_words.specs.declared.access.Access.{Access}
 use Rattle.vd_words.specs.declared.access.Access.TheVariants.{Load, Store}
-use Rattle.vd_words.specs.declared.access.Op.{Op}
 use Rattle.vd_words.specs.declared.access.Op.TheVariants as op
 use Rattle.vd_ring.specs.declared.frame.Frame.{Frame}
 use Rattle.vd_ring.specs.declared.device.DeviceDone.{DeviceDone}
@@ -17,8 +16,8 @@ use Rattle.vd_ring.specs.declared.device.DeviceView.{DeviceView}
 use Rattle.vd_ring.specs.History.{takes, gives, running, taken_head, with_head, occurs, IsWhole}
 use Rattle.vd_ring.specs.Control.{StoresAck}
 use Rattle.vd_ring.proofs.Counts.{one_below, one_small, occurs_from, Contains_from}
-use Rattle.vd_split_ring.specs.SplitWords.{used_from, tables_from, commands_from, acks_from, ack_word, is_whole, shows, shown_from}
-use Rattle.vd_split_ring.specs.SplitDevice.{DeviceNextAt, device_after_at, device_takes}
+use Rattle.vd_split_ring.specs.SplitWords.{used_from, tables_from, commands_from, acks_from, ack_word}
+use Rattle.vd_split_ring.specs.SplitDevice.{DeviceNextAt, device_after_at}
 use Rattle.vd_split_ring.proofs.Areas.{areas}
 use Rattle.vd_split_ring.proofs.ControlFacts.{device_controls}
 use Rattle.vd_split_ring.proofs.DeviceViews.{device_frame}

@@ -60,7 +60,7 @@ entry_goes e e2 v r w head is st none found =
               wide = st.wide;
               shown = st.shown;
               kick = st.kick;
-        signals = record { is_armed = st.signals.is_armed; hears = st.signals.hears; rings = st.signals.rings; few = omega (arith, st.signals.few); awake = subst (λ t. DeviceStepArmed t e.armed) is st.signals.awake };
+              signals = record { is_armed = st.signals.is_armed; hears = st.signals.hears; rings = st.signals.rings; few = omega (arith, st.signals.few); awake = subst (λ t. DeviceStepArmed t e.armed) is st.signals.awake };
               doing = record {
                 word = w;
                 words = [];

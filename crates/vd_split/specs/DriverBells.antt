@@ -1,26 +1,23 @@
 -- The stores of event words: each is next in a view that the end stands for, and the end stands for the view after it.
-use Rattle.std.proofs.Common.{◌≡◌, ℕ, ◌+◌, ◌-◌, ◌*◌, ◌/◌, ◌%◌, ◌<◌, ◌≤◌, ◌==◌, ◌⊎◌, Bool, true, false, Option, Some, None, List, length, if◌then◌else◌, slice_index, slice_set, refl, sym, ap, ◌∙◌, subst, arith, inl, inr}
+use Rattle.std.proofs.Common.{◌≡◌, ℕ, ◌+◌, ◌*◌, ◌/◌, ◌%◌, ◌<◌, ◌≤◌, Bool, true, false, Option, Some, None, List, length, if◌then◌else◌, slice_index, slice_set, refl, sym, ap, ◌∙◌, subst, arith}
 use Rattle.std.proofs.lemmas.List.{length-set}
 use Rattle.std.specs.Vec.{with_item}
-use Rattle.vd_bits.specs.Lanes.{lane16, set_lane16}
-use Rattle.vd_bits.specs.Event.{need_event}
-use Rattle.vd_words.specs.declared.access.Access.{Access}
-use Rattle.vd_words.specs.declared.access.Access.TheVariants.{Load, Store}
+use Rattle.vd_bits.specs.Lanes.{set_lane16}
+use Rattle.vd_words.specs.declared.access.Access.TheVariants.{Store}
 use Rattle.vd_words.specs.declared.access.Op.{Op}
 use Rattle.vd_words.specs.declared.access.Op.TheVariants as op
 use Rattle.vd_model.specs.declared.features.Features.{Features}
-use Rattle.vd_ring.specs.declared.act.DriverAct.{DriverAct}
 use Rattle.vd_ring.specs.declared.act.DriverAct.TheVariants as act
 use Rattle.vd_ring.specs.declared.frame.Frame.{Frame}
 use Rattle.vd_ring.specs.declared.driver.DriverNow.{DriverNow}
 use Rattle.vd_ring.specs.declared.driver.DriverNow.TheVariants as now
 use Rattle.vd_ring.specs.declared.driver.DriverView.{DriverView}
-use Rattle.vd_ring.specs.History.{offers, collects}
-use Rattle.vd_split_ring.specs.SplitWords.{avail_from, used_from, kick_at, call_at, width, lane_word, with_lane, event_lane, driver_event_lane, device_event_word, device_event_lane, armed_value, wants, bell_word, shows, shown_from}
-use Rattle.vd_split_ring.specs.SplitDriver.{DriverNextAt, DriverNext, driver_after_at, driver_after, driver_act_at, driver_act, driver_wakes}
+use Rattle.vd_ring.specs.History.{collects}
+use Rattle.vd_split_ring.specs.SplitWords.{avail_from, kick_at, width, lane_word, with_lane, driver_event_lane, armed_value}
+use Rattle.vd_split_ring.specs.SplitDriver.{DriverNextAt, driver_after_at, driver_after, driver_act_at}
 use Rattle.vd_split_ring.proofs.Areas.{areas, lane_inside}
-use Rattle.vd_split_ring.proofs.Bells.{driver_event_low, limit_low}
-use Rattle.vd_layout.specs.Begun.{IsDriverOp, DriverOp, DriverPublished}
+use Rattle.vd_split_ring.proofs.Bells.{driver_event_low}
+use Rattle.vd_layout.specs.Begun.{IsDriverOp, DriverOp}
 use Rattle.vd_layout.specs.Driver.{DriverSays}
 use Rattle.vd_split.specs.declared.driver.SplitDriver.{SplitDriver}
 use Rattle.vd_split.specs.declared.driver.DriverStep.{DriverStep}
@@ -28,7 +25,7 @@ use Rattle.vd_split.specs.declared.driver.DriverStep.TheVariants as step
 use Rattle.vd_split.specs.DriverEnd.{DriverStands, DriverStepStands, DriverStepArmed, driver_owes, driver_begun, driver_left, Wakes, not_armed, is_armed}
 use Rattle.vd_split.specs.DriverSteps.{Goes}
 use Rattle.vd_split.specs.Parts.{Copies, own_lane, own_value, all_words}
-use Rattle.vd_split.specs.Plans.{copies_set, copies_other}
+use Rattle.vd_split.specs.Plans.{copies_set}
 
 -- the end after such a step, and the view
 pub stands_with : (e g : SplitDriver) (v : DriverView) (t : DriverStep) (b x : Bool) (h k : ℕ) (stored : List ℕ) (d : DriverNow) (at : Option ℕ) (h' k' n : ℕ) (x' : Bool) → DriverStands e v → Copies g.area.items (avail_from v.frame) ((v.frame.size + 6) / 4) stored → length stored ≡ width v.frame

@@ -1,12 +1,11 @@
 -- The laws of the driver's end of a split ring.
-use Rattle.std.proofs.Common.{◌≡◌, ℕ, ◌+◌, ◌-◌, ◌/◌, ◌%◌, ◌<◌, ◌≤◌, Bool, true, false, if◌then◌else◌, List, [], ◌∷◌, length, slice_set, refl, sym, ap, ◌∙◌, subst, arith}
+use Rattle.std.proofs.Common.{◌≡◌, ℕ, ◌+◌, ◌-◌, ◌/◌, ◌%◌, ◌<◌, ◌≤◌, false, List, [], ◌∷◌, length, slice_set, refl, sym, ap, ◌∙◌, subst, arith}
 use Rattle.std.specs.Prelude.{unwrap_or}
 use Rattle.std.proofs.lemmas.List.{length-set}
 use Rattle.vd_model.specs.declared.chain.Piece.{Piece}
 use Rattle.vd_model.specs.Chains.{needs}
 use Rattle.vd_words.specs.declared.access.Access.{Access}
 use Rattle.vd_words.specs.declared.access.Access.TheVariants.{Load, Store}
-use Rattle.vd_words.specs.declared.access.Op.{Op}
 use Rattle.vd_words.specs.declared.access.Op.TheVariants as op
 use Rattle.vd_ring.specs.declared.frame.Frame.{Frame}
 use Rattle.vd_ring.specs.declared.driver.DriverDone.{DriverDone}
@@ -19,7 +18,7 @@ use Rattle.vd_ring.specs.History.{collects, open_at, open_size, chain}
 use Rattle.vd_ring.specs.Control.{StoresCommand, last_collected}
 use Rattle.vd_ring.specs.Places.{Places}
 use Rattle.vd_ring.proofs.Counts.{sum_same}
-use Rattle.vd_split_ring.specs.SplitWords.{avail_from, tables_from, commands_from, command_word, shows, shown_from}
+use Rattle.vd_split_ring.specs.SplitWords.{avail_from, tables_from, commands_from, command_word}
 use Rattle.vd_split_ring.specs.SplitDriver.{CanOffer, DriverNextAt, driver_after_at}
 use Rattle.vd_split_ring.proofs.Areas.{areas}
 use Rattle.vd_split_ring.proofs.ControlFacts.{driver_controls}

@@ -15,3 +15,4 @@ pub mod Tracked
 pub mod DriverBells
 pub mod DeviceBells
 pub mod Telling
+pub mod Kept

@@ -1,5 +1,5 @@
 -- Places that run round a ring, copies of an area, and the order of an offer's stores.
-use Rattle.std.specs.Prelude.{◌≡◌, ℕ, ◌+◌, ◌*◌, ◌/◌, ◌%◌, ◌<◌, ◌==◌, nat_lt, Bool, List, length, if◌then◌else◌, slice_index}
+use Rattle.std.specs.Prelude.{◌≡◌, ℕ, ◌+◌, ◌*◌, ◌/◌, ◌<◌, ◌==◌, nat_lt, Bool, List, length, if◌then◌else◌, slice_index}
 use Rattle.vd_bits.specs.Lanes.{lane16}
 use Rattle.vd_event.specs.declared.rule.EventRule.TheVariants as rule
 use Rattle.vd_event.specs.Words.{arm_word}

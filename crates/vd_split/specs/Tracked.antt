@@ -35,7 +35,7 @@ abbrev pub plain_features : Features
 plain_features = record { indirect = false; event_idx = false; in_order = false }
 
 abbrev pub start_frame : ℕ → Frame
-start_frame n = plain_frame split_layout 0 n plain_features false
+start_frame n = plain_frame split_layout 0 n plain_features false None
 
 abbrev pub start_driver : ℕ → DriverView
 start_driver n = fresh_driver (start_frame n) (split_layout.width (start_frame n))

@@ -1,6 +1,6 @@
 //! The device's end.
-use arrayvec::ArrayVec;
-use vd_model::{Features, Piece};
+use crate::pieces::Pieces;
+use vd_model::Features;
 
 mod advance;
 mod end;
@@ -61,7 +61,7 @@ pub struct SplitDevice {
     pub(crate) heard: u64,
     pub(crate) bells: u64,
     // what a take has loaded so far
-    pub(crate) pieces: ArrayVec<Piece, 16>,
+    pub(crate) pieces: Pieces,
     pub(crate) addr: u64,
     pub(crate) doing: DeviceStep,
 }

@@ -1,11 +1,11 @@
 //! The driver's end.
-use arrayvec::ArrayVec;
+use crate::pieces::Pieces;
+use crate::places::Places;
 use circular_buffer::HeapCircularBuffer;
-use vd_model::{Features, Piece};
-
 pub(crate) use make::kick_place;
 pub(crate) use signal::wanted;
 pub(crate) use sleep::{own_lane, own_value};
+use vd_model::Features;
 
 mod advance;
 mod collect;
@@ -40,7 +40,7 @@ pub enum DriverStep {
 #[derive(Drop)]
 pub struct Slot {
     pub number: u32,
-    pub places: ArrayVec<u32, 16>,
+    pub places: Places,
 }
 
 /// The driver's end of a split ring.
@@ -66,6 +66,6 @@ pub struct SplitDriver {
     pub(crate) heard: u64,
     pub(crate) bells: u64,
     // the chain of an offer in progress
-    pub(crate) pieces: ArrayVec<Piece, 16>,
+    pub(crate) pieces: Pieces,
     pub(crate) doing: DriverStep,
 }

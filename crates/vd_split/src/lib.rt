@@ -5,6 +5,8 @@ mod descriptors;
 mod device;
 mod driver;
 mod layout;
+mod pieces;
+mod places;
 
 pub use device::SplitDevice;
 pub use driver::SplitDriver;

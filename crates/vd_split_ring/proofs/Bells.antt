@@ -1,5 +1,5 @@
 -- What an event word and a bell that stand in the ring's words say.
-use Rattle.std.proofs.Common.{◌≡◌, ℕ, ◌+◌, ◌%◌, ◌<◌, ◌≤◌, ◌==◌, Bool, true, false, Option, Some, None, List, length, if◌then◌else◌, nat_lt, slice_index, refl, sym, ap, ◌∙◌, subst, arith, inl, inr}
+use Rattle.std.proofs.Common.{◌≡◌, ℕ, ◌+◌, ◌%◌, ◌<◌, ◌≤◌, ◌==◌, Bool, true, false, Option, Some, List, length, if◌then◌else◌, nat_lt, slice_index, refl, ap, ◌∙◌, arith, inr}
 use Rattle.std.proofs.lemmas.Bool.Decides.{nat_tests}
 use Rattle.vd_bits.specs.Lanes.{lane16}
 use Rattle.vd_bits.specs.Event.{need_event}
@@ -7,13 +7,11 @@ use Rattle.vd_ring.specs.declared.frame.Frame.{Frame}
 use Rattle.vd_ring.specs.declared.driver.DriverView.{DriverView}
 use Rattle.vd_ring.specs.declared.device.DeviceView.{DeviceView}
 use Rattle.vd_ring.specs.Frames.{limit}
-use Rattle.vd_ring.specs.History.{offers, gives}
-use Rattle.vd_ring.specs.Signals.{owing}
-use Rattle.vd_ring.specs.Sleep.{driver_owed, device_owed, gives_made}
+use Rattle.vd_ring.specs.History.{offers}
+use Rattle.vd_ring.specs.Sleep.{gives_made}
 use Rattle.vd_ring.proofs.Quiet.{few_gives}
-use Rattle.vd_split_ring.specs.SplitWords.{IsLawful, used_from, kick_at, call_at, lane_at, lane_word, event_lane, driver_event_lane, device_event_word, device_event_lane, armed_value, wants}
+use Rattle.vd_split_ring.specs.SplitWords.{IsLawful, used_from, kick_at, call_at, lane_at, event_lane, driver_event_lane, device_event_word, device_event_lane, armed_value, wants}
 use Rattle.vd_split_ring.specs.SplitRing.{Ring, DriverSignals, DeviceSignals, IsRange}
-use Rattle.vd_split_ring.proofs.Areas.{lane_inside}
 
 -- ---- the check
 

@@ -1,5 +1,5 @@
 -- The device's accesses of event words and bells keep the ring invariant.
-use Rattle.std.proofs.Common.{◌≡◌, ◌≢◌, ℕ, ◌+◌, ◌%◌, ◌<◌, ◌≤◌, ◌==◌, Bool, true, false, Option, Some, None, List, [], ◌∷◌, length, if◌then◌else◌, slice_index, slice_set, refl, sym, ap, ◌∙◌, subst, arith, inl, inr}
+use Rattle.std.proofs.Common.{◌≡◌, ◌≢◌, ℕ, ◌+◌, ◌%◌, ◌<◌, ◌≤◌, ◌==◌, Bool, true, false, Option, Some, None, List, length, if◌then◌else◌, slice_index, slice_set, refl, sym, ap, ◌∙◌, subst, arith, inl, inr}
 use Rattle.std.proofs.lemmas.Bool.{eqb-false}
 use Rattle.std.proofs.lemmas.List.{get_or-set_same}
 use Rattle.std.proofs.lemmas.Nat.{mod_below}
@@ -21,7 +21,7 @@ use Rattle.vd_ring.specs.Signals.{Signals}
 use Rattle.vd_ring.specs.Signals as signal
 use Rattle.vd_ring.proofs.DeviceLists.{counts}
 use Rattle.vd_ring.proofs.DeviceAcks.{acks_elsewhere}
-use Rattle.vd_split_ring.specs.SplitWords.{IsLawful, IsDevices, width, used_from, kick_at, call_at, ack_word, id_word, len_word, lane_at, lane_word, driver_event_lane, device_event_word, device_event_lane, armed_value, wants, bell_word, shows, shown_from}
+use Rattle.vd_split_ring.specs.SplitWords.{width, used_from, call_at, ack_word, id_word, len_word, lane_word, driver_event_lane, device_event_word, device_event_lane, armed_value, wants, bell_word, shows, shown_from}
 use Rattle.vd_split_ring.specs.SplitDevice.{StoresCall, StoresAvailEvent, StoresNoNotify, device_checks, device_rings, device_arms, device_looks_again, device_hears}
 use Rattle.vd_split_ring.specs.SplitRing.{Ring, DeviceWords, DeviceSignals, DeviceDoing, DeviceArmed, chains_out, chains_in, entries_out, entries_in}
 use Rattle.vd_split_ring.proofs.Areas.{areas, acks_follow, device_stores, lane_inside, other_word, shows_same, shows_more}
@@ -295,6 +295,7 @@ hears_at ws d e g false is r eq = woken d.frame.features.event_idx refl
   where
     some : (a h : ℕ) → a ≢ h → h ≤ a → 1 ≤ a
     some a h ne le = omega (arith, ne)
+
     woken : (k : Bool) → d.frame.features.event_idx ≡ k → Ring ws d (record e { frame = d.frame; heard = g; armed = None; doing = if k then Idle else Disarming op.Hear })
     woken true on =
         let E : DeviceView = record e { frame = d.frame; doing = Idle } in
@@ -324,7 +325,7 @@ disarms ws d e now next p x r doing is_armed kicks calls n =
     subst (λ i. Ring (slice_set ws i x) d (record e { frame = d.frame; stored = slice_set e.stored i x; armed = None; doing = next }) × (i < width f)) (sym n.place)
     (subst (λ z. Ring (slice_set ws q z) d (record e { frame = d.frame; stored = slice_set e.stored q z; armed = None; doing = next }) × (q < width f)) (sym (n.word ∙ ap word n.place)) (
       event_store ws d E q y next None r (omega arith) (omega arith) (words_flags f d.done e.done e.stored 1 r.lawful.some_place (omega arith) (omega (arith, areas f)) r.device_words)
-      (flags_stored f e.armed None e.bells 1 e.stored n.flagged r.lawful.some_place (omega arith) (λ s a. absurd cc) (omega (arith, areas f)) r.device_signals) (doing (slice_set e.stored q y)) kicks calls is_armed,
+          (flags_stored f e.armed None e.bells 1 e.stored n.flagged r.lawful.some_place (omega arith) (λ s a. absurd cc) (omega (arith, areas f)) r.device_signals) (doing (slice_set e.stored q y)) kicks calls is_armed,
       omega (arith, areas f),
     ))
 

@@ -1,5 +1,5 @@
 -- Each access of the device that is next keeps the ring invariant, and what it tells.
-use Rattle.std.proofs.Common.{◌≡◌, ℕ, ◌%◌, ◌<◌, true, false, Option, None, List, [], ◌∷◌, ◌++◌, length, slice_index, slice_set, refl, sym, ap, ◌∙◌, subst, arith, inl, inr}
+use Rattle.std.proofs.Common.{◌≡◌, ℕ, ◌%◌, ◌<◌, true, false, Option, List, [], ◌∷◌, ◌++◌, length, slice_index, slice_set, refl, sym, ap, ◌∙◌, subst, arith, inl, inr}
 use Rattle.vd_bits.specs.Lanes.{lane16}
 use Rattle.vd_words.specs.declared.access.Access.{Access}
 use Rattle.vd_words.specs.declared.access.Access.TheVariants.{Load, Store}

@@ -1,10 +1,9 @@
 -- The driver's accesses of event words and bells keep the ring invariant.
-use Rattle.std.proofs.Common.{◌≡◌, ◌≢◌, ℕ, ◌+◌, ◌%◌, ◌<◌, ◌≤◌, ◌==◌, Bool, true, false, Option, Some, None, List, [], ◌∷◌, length, if◌then◌else◌, slice_index, slice_set, refl, sym, ap, ◌∙◌, subst, arith, inl, inr, ◌⊎◌}
+use Rattle.std.proofs.Common.{◌≡◌, ◌≢◌, ℕ, ◌+◌, ◌%◌, ◌<◌, ◌≤◌, ◌==◌, Bool, true, false, Option, Some, None, List, length, if◌then◌else◌, slice_index, slice_set, refl, sym, ap, ◌∙◌, subst, arith, inl, inr, ◌⊎◌}
 use Rattle.std.proofs.lemmas.Bool.{eqb-false}
 use Rattle.std.proofs.lemmas.List.{get_or-set_same, get_or-set_other}
 use Rattle.std.proofs.lemmas.Nat.{mod_below}
 use Rattle.vd_bits.specs.Lanes.{lane16}
-use Rattle.vd_words.specs.declared.access.Op.{Op}
 use Rattle.vd_words.specs.declared.access.Op.TheVariants as op
 use Rattle.vd_ring.specs.declared.frame.Frame.{Frame}
 use Rattle.vd_ring.specs.declared.driver.DriverDone.{DriverDone}
@@ -19,13 +18,13 @@ use Rattle.vd_ring.specs.Signals.{Signals}
 use Rattle.vd_ring.specs.Signals as signal
 use Rattle.vd_ring.proofs.ControlSteps.{commands_elsewhere}
 use Rattle.vd_ring.proofs.ListSteps.{given_within}
-use Rattle.vd_split_ring.specs.SplitWords.{IsLawful, width, used_from, kick_at, call_at, command_word, ack_word, lane_at, lane_word, with_lane, entry_lane, event_lane, driver_event_lane, device_event_word, device_event_lane, armed_value, wants, bell_word, shows, shown_from}
-use Rattle.vd_split_ring.specs.SplitDriver.{StoresKick, StoresUsedEvent, StoresNoInterrupt, stores, driver_checks, driver_rings, driver_arms, driver_wakes, driver_looks_again, driver_hears}
-use Rattle.vd_split_ring.specs.SplitRing.{Ring, Words, DriverWords, DriverSignals, DriverDoing, chains_out, chains_in, entries_out, entries_in, DriverArmed, IsRange, EndsGive}
+use Rattle.vd_split_ring.specs.SplitWords.{IsLawful, width, used_from, kick_at, command_word, ack_word, lane_at, lane_word, with_lane, entry_lane, event_lane, driver_event_lane, device_event_word, device_event_lane, armed_value, wants, bell_word, shows, shown_from}
+use Rattle.vd_split_ring.specs.SplitDriver.{StoresKick, StoresUsedEvent, StoresNoInterrupt, driver_checks, driver_rings, driver_arms, driver_looks_again, driver_hears}
+use Rattle.vd_split_ring.specs.SplitRing.{Ring, Words, DriverWords, DriverSignals, DriverDoing, chains_out, chains_in, entries_out, entries_in, DriverArmed, EndsGive}
 use Rattle.vd_split_ring.proofs.Areas.{areas, acks_follow, driver_stores, area_no_descriptor, lane_same, lane_other, lane_past, lane_inside, shows_same, shows_more}
-use Rattle.vd_split_ring.proofs.DriverParts.{open_past, driver_words_past, signals_past}
+use Rattle.vd_split_ring.proofs.DriverParts.{open_past, driver_words_past}
 use Rattle.vd_split_ring.proofs.DriverCollects.{counts_given}
-use Rattle.vd_split_ring.proofs.Bells.{wants_armed, device_event, driver_event_low, device_event_inside}
+use Rattle.vd_split_ring.proofs.Bells.{wants_armed, device_event, device_event_inside}
 
 -- the parts that such an access changes
 record DriverSide (ws : List ℕ) (d : DriverView) (e : DeviceView) : Type 0 where
@@ -247,15 +246,19 @@ arms_at ws d e b r unarmed is =
     either : (c : Bool) → ((if c then event_lane d.frame else 0) ≡ 0) ⊎ ((if c then event_lane d.frame else 0) ≡ event_lane d.frame)
     either true = inr refl
     either false = inl refl
+
     low : (c : Bool) → (if c then event_lane d.frame else 0) ≤ d.frame.size + 2
     low true = omega arith
     low false = omega arith
+
     index : (c : Bool) → 1 ≢ (if c then event_lane d.frame else 0)
     index true = λ e. omega arith
     index false = λ e. omega arith
+
     value : (c : Bool) → (if c then length (collects d.done) % 65536 else 0) < 65536
     value true = omega arith
     value false = omega arith
+
     stored : (c : Bool) → d.frame.features.event_idx ≡ c → used_from d.frame ≤ length d.stored → DriverSignals d.frame d.armed d.bells d.stored
         → let j = if c then event_lane d.frame else 0 in DriverSignals d.frame (Some (length (collects d.done))) d.bells (slice_set d.stored (lane_word d.frame j) (with_lane d.frame d.stored j (if c then length (collects d.done) % 65536 else 0)))
     stored true on far g = event_stored d.frame d.armed d.bells (length (collects d.done)) d.stored on far g

@@ -105,6 +105,7 @@ second v r n true c idx = record {
     none : Wakes (record v { doing = now.Arming }) op.Arm r false → ⊥
     none (inl a) = cc a.2
     none (inr b) = cc b.0
+
     awake_not : (Wakes (record v { doing = now.Arming }) op.Arm r false × (v.frame.features.event_idx ≡ true)) ⊎ (now.Arming ≡ now.Disarming op.Arm) ⊎ (op.Arm ≡ op.Disarm) → ⊥
     awake_not (inl a) = none a.0
     awake_not (inr (inl b)) = cc b
@@ -143,6 +144,7 @@ hears v r more true c eq idx = record {
     none : Wakes (record v { doing = now.Idle }) op.Hear r more → ⊥
     none (inl a) = cc a.0
     none (inr b) = b.2 (eqb-true r v.heard eq)
+
     awake_not : (Wakes (record v { doing = now.Idle }) op.Hear r more × (v.frame.features.event_idx ≡ true)) ⊎ (now.Idle ≡ now.Disarming op.Hear) ⊎ (op.Hear ≡ op.Disarm) → ⊥
     awake_not (inl a) = none a.0
     awake_not (inr (inl b)) = cc b

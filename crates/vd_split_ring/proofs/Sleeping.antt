@@ -1,5 +1,5 @@
 -- What the ring invariant says of sleeping sides: the signals of both directions, what Asleep says, and what a hearing adds.
-use Rattle.std.proofs.Common.{◌≡◌, ◌≢◌, ℕ, ◌+◌, ◌-◌, ◌<◌, ◌≤◌, ◌==◌, ◌%◌, ◌++◌, Bool, true, false, Option, Some, None, List, [], ◌∷◌, length, if◌then◌else◌, slice_index, refl, sym, ap, ◌∙◌, subst, arith}
+use Rattle.std.proofs.Common.{◌≡◌, ◌≢◌, ℕ, ◌+◌, ◌-◌, ◌≤◌, ◌==◌, ◌%◌, ◌++◌, Bool, true, false, None, List, [], ◌∷◌, length, if◌then◌else◌, slice_index, refl, sym, ap, ◌∙◌, subst, arith}
 use Rattle.std.specs.List.{sum_by}
 use Rattle.std.proofs.lemmas.Bool.{eqb-true, eqb-false}
 use Rattle.std.proofs.lemmas.List.Sums.{sum_by-cons}
@@ -26,12 +26,10 @@ use Rattle.vd_ring.specs.declared.device.DeviceNow.TheVariants as device
 use Rattle.vd_ring.specs.declared.device.DeviceView.{DeviceView}
 use Rattle.vd_ring.specs.History.{offers, collects, takes, gives, chain}
 use Rattle.vd_ring.specs.Signals.{Signals}
-use Rattle.vd_ring.specs.Sleep.{position, used_position, span, gives_made, driver_owed, device_owed, driver_idle, device_idle, RingSignals, DriverWaits, DeviceWaits, driver_disarming, device_disarming, driver_hearings, device_hearings, driver_woken, device_woken}
+use Rattle.vd_ring.specs.Sleep.{position, used_position, gives_made, driver_owed, device_owed, driver_idle, device_idle, RingSignals, DriverWaits, DeviceWaits, driver_disarming, device_disarming, driver_hearings, device_hearings, driver_woken, device_woken}
 use Rattle.vd_split_ring.specs.SplitWords.{put, kick_at, call_at, shows, shown_from, wants, device_event_lane, driver_event_lane, is_whole, chain_of}
 use Rattle.vd_split_ring.specs.SplitDriver.{DriverNextAt, DriverNext, driver_after_at, driver_after, driver_act_at, driver_act, driver_wakes}
-use Rattle.vd_split_ring.specs.SplitDriver.{woken_act as driver_woken_act}
 use Rattle.vd_split_ring.specs.SplitDevice.{DeviceNextAt, DeviceNext, device_after_at, device_after, device_act_at, device_act, device_wakes, device_takes}
-use Rattle.vd_split_ring.specs.SplitDevice.{woken_act as device_woken_act}
 use Rattle.vd_split_ring.specs.SplitRing.{Ring}
 use Rattle.vd_split_ring.proofs.Bells.{call_stands, kick_stands}
 
@@ -85,9 +83,10 @@ driver_asleep_at ws d e driver.Idle op.Hear (Load p) r h is =
     let v : DriverView = record d { doing = driver.Idle } in let g : ℕ = slice_index ws p in
     let on : (g == d.heard) ≡ true = driver_same (g == d.heard) d.frame.features.event_idx is in
     let at : p ≡ call_at d.frame = h.1 in
-    let same : g ≡ d.heard = eqb-true g d.heard on in
-    (ap (λ (b : Bool). if b then v else record v { heard = g; armed = None; doing = driver_wakes d.frame op.Hear }) on,
-      record { idle = refl; at = h.0.0; armed = h.0.1; heard = sym same ∙ ap (λ q. slice_index ws q) at ∙ call_stands ws v e r })
+    let same : g ≡ d.heard = eqb-true g d.heard on in (
+      ap (λ (b : Bool). if b then v else record v { heard = g; armed = None; doing = driver_wakes d.frame op.Hear }) on,
+      record { idle = refl; at = h.0.0; armed = h.0.1; heard = sym same ∙ ap (λ q. slice_index ws q) at ∙ call_stands ws v e r },
+    )
 driver_asleep_at ws d e driver.Idle op.Collect (Load p) r h is = absurd (driver_no _ (driver_looked (shows (slice_index ws p) (length (collects d.done)))) is)
 driver_asleep_at ws d e driver.Arming op.Arm (Load p) r h is = absurd (driver_no _ (driver_again driver_act.Armed (shows (slice_index ws p) (length (collects d.done))) d.frame.features.event_idx refl) is)
 driver_asleep_at ws d e (driver.Entered puts) op.Offer (Store p x) r h is = absurd (driver_no _ refl is)
@@ -135,9 +134,10 @@ device_asleep_at ws d e device.Idle op.Hear (Load p) r h is =
     let v : DeviceView = record e { frame = d.frame; doing = device.Idle } in let g : ℕ = slice_index ws p in
     let on : (g == e.heard) ≡ true = device_same (g == e.heard) d.frame.features.event_idx is in
     let at : p ≡ kick_at d.frame = h.1 in
-    let same : g ≡ e.heard = eqb-true g e.heard on in
-    (ap (λ (b : Bool). if b then v else record v { heard = g; armed = None; doing = device_wakes d.frame op.Hear }) on,
-      record { idle = refl; at = h.0.0; armed = h.0.1; heard = sym same ∙ ap (λ q. slice_index ws q) at ∙ kick_stands ws d v r })
+    let same : g ≡ e.heard = eqb-true g e.heard on in (
+      ap (λ (b : Bool). if b then v else record v { heard = g; armed = None; doing = device_wakes d.frame op.Hear }) on,
+      record { idle = refl; at = h.0.0; armed = h.0.1; heard = sym same ∙ ap (λ q. slice_index ws q) at ∙ kick_stands ws d v r },
+    )
 device_asleep_at ws d e device.Idle op.Take (Load p) r h is = absurd (device_no _ (device_looked (shows (slice_index ws p) (length (takes e.done)))) is)
 device_asleep_at ws d e (device.Taking (g ∷ w ∷ us)) op.Take (Load p) r h is =
     let all : List ℕ = us ++ slice_index ws p ∷ [] in absurd (device_no _ (device_took (is_whole d.frame all) (length (takes e.done)) (chain_of d.frame all)) is)

@@ -1,6 +1,6 @@
 -- The accesses of a split ring's device: which may be made next, the view after one, what its answer tells, and what the end's step
 -- answers.
-use Rattle.std.specs.Prelude.{Bool, ◌≡◌, ◌≢◌, ℕ, ◌+◌, ◌-◌, ◌/◌, ◌%◌, ◌<◌, ◌≤◌, true, false, not, List, [], ◌∷◌, ◌++◌, length, take, Option, None, Some, if◌then◌else◌, ◌==◌, slice_index, slice_set}
+use Rattle.std.specs.Prelude.{Bool, ◌≡◌, ◌≢◌, ℕ, ◌+◌, ◌-◌, ◌/◌, ◌%◌, ◌<◌, ◌≤◌, true, false, not, List, [], ◌∷◌, ◌++◌, length, take, None, Some, if◌then◌else◌, ◌==◌, slice_index, slice_set}
 use Rattle.std.specs.List.{All, Contains}
 use Rattle.vd_bits.specs.Lanes.{lane16, set_lane16, lane32, set_lane32}
 use Rattle.vd_model.specs.declared.chain.Piece.{Piece}

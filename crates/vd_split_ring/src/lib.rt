@@ -17,4 +17,6 @@ pub use driver_laws::{
     driver_offered_law,
 };
 pub use laws::{account_law, agreement_law, fresh_law, looks_law, seen_law, spelling_law};
-pub use signal_laws::{answers_law, asleep_law, bells_law, hears_law, signals_law, sleep_law, unarmed_law};
+pub use signal_laws::{
+    answers_law, asleep_law, bells_law, hears_law, signals_law, sleep_law, unarmed_law,
+};

@@ -2,7 +2,7 @@
 ghost use Rattle.std.specs.Prelude.{◌≡◌, ◌<◌, ◌≤◌, ◌+◌, ◌++◌, ◌∷◌, [], ℕ, true, false, length};
 ghost use Rattle.vd_packed_ring.specs.PackedWords.{goes_on, id_of};
 ghost use Rattle.vd_packed_ring.specs.PackedChains.{piece_of};
-ghost use Rattle.vd_packed.specs.Loaded.{HasSeen, HasSecond, HasMore, HasTaken, MayTake};
+ghost use Rattle.vd_packed.specs.Loaded.{HasSeen, HasMore, HasTaken, MayTake};
 ghost use Rattle.vd_packed.specs.Seconds.{shows_available};
 ghost use Rattle.vd_packed.specs.Telling.{TakesNone};
 
@@ -38,7 +38,8 @@ impl PackedDevice {
         ensures moved { result ≡ Told.Moved }
         ensures second { self.new ≡ record self.old { second = word; doing = DeviceStep.Address } }
     {
-        self.second = word;
+        let second = word;
+        self.second = second;
         self.doing = DeviceStep::Address;
         Told::Moved
     }

@@ -14,7 +14,7 @@ pub(super) fn runs_at(running: &[Option<u32>], head: u32, number: u32) -> bool
 }
 
 /// The head below `size` of a running chain. It is looked for at the guessed head first.
-pub(super) fn find_head(running: &[Option<u32>], size: u32, guess: u32, number: u32) -> Option<u32>
+pub(crate) fn find_head(running: &[Option<u32>], size: u32, guess: u32, number: u32) -> Option<u32>
     ensures { MatchOption result ((h : ℕ) → h < size → number_at running.now h ≢ Some number) (λ h. number_at running.now h ≡ Some number) }
 {
     if runs_at(running, guess, number) {

@@ -23,12 +23,11 @@ impl PackedDevice {
     {
         let word = port.access(Op::Give, Access::Load(2 * self.size));
         let new = self.used_position;
-        let asked = asks(self.size, new - count as u64, new, word);
-        self.doing = if asked {
-            DeviceStep::Ring
-        } else {
-            DeviceStep::Idle
-        };
+        if asks(self.size, new - count as u64, new, word) {
+            self.doing = DeviceStep::Ring;
+            return Told::Moved;
+        }
+        self.doing = DeviceStep::Idle;
         Told::Moved
     }
 

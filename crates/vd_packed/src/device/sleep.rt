@@ -101,7 +101,10 @@ impl PackedDevice {
         ensures did { (v : DeviceView) → DeviceStands self.old v → IsOwn P.port device_side port.old v → IsDeviceStep P.port packed_device port.old port.new v self.old self.new (act_of result self.new.pieces.items) }
         ensures none { TakesNone result }
     {
-        port.access(op, Access::Store(2 * self.size + 1, disarmed_word(self.size)));
+        port.access(
+            op,
+            Access::Store(2 * self.size + 1, disarmed_word(self.size)),
+        );
         self.armed = false;
         self.doing = DeviceStep::Idle;
         Told::Awake

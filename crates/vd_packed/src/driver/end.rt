@@ -103,10 +103,8 @@ impl PackedDriver {
         ensures { (v : DriverView) → DriverStands self.old v → IsOwn P.port driver_side port.old v → IsDriverStep P.port packed_driver port.old port.new v self.old self.new result }
     {
         match self.doing {
-            DriverStep::Idle
-            | DriverStep::Describe(_)
-            | DriverStep::Publish
-            | DriverStep::Look => unreachable!(),
+            DriverStep::Idle | DriverStep::Describe(_) | DriverStep::Publish | DriverStep::Look =>
+                unreachable!(),
             DriverStep::Check(count) => self.check(port, count),
             DriverStep::Ring => self.ring(port),
             DriverStep::Arm => self.arm(port),

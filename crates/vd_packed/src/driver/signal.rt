@@ -22,12 +22,11 @@ impl PackedDriver {
     {
         let word = port.access(Op::Offer, Access::Load(2 * self.size + 1));
         let new = self.next_position;
-        let asked = asks(self.size, new - count as u64, new, word);
-        self.doing = if asked {
-            DriverStep::Ring
-        } else {
-            DriverStep::Idle
-        };
+        if asks(self.size, new - count as u64, new, word) {
+            self.doing = DriverStep::Ring;
+            return DriverAct::Moved;
+        }
+        self.doing = DriverStep::Idle;
         DriverAct::Moved
     }
 

@@ -1,38 +1,7 @@
 //! The format of VIRTIO 1.2, 2.8, written anew in the fields of descriptors, for rings of up to 8 places: what stands
 //! there after each whole operation.
-use vd_model::{Chain, Piece};
-
-/// How many pieces chain number `k` has, 1 to 4 and at most the size.
-pub fn pieces_of(size: u32, k: u32) -> u32 {
-    let n = (mixed(k) & 3).wrapping_add(1);
-    if n < size { n } else { size }
-}
-
-/// Piece `i` of chain number `k`.
-pub fn piece_of(size: u32, k: u32, i: u32) -> Piece {
-    let x = mixed(k.wrapping_mul(4).wrapping_add(i));
-    Piece {
-        addr: (x as u64) << 20,
-        len: (x & 0xffff).wrapping_add(1),
-        write: i >= mixed(k) >> 4 & 7 || (i.wrapping_add(1) == pieces_of(size, k) && x & 1 == 1),
-    }
-}
-
-/// Chain number `k`.
-pub fn chain_of(size: u32, k: u32) -> Chain {
-    let mut c = Chain::new(piece_of(size, k, 0));
-    for i in 1..pieces_of(size, k) {
-        let _ = c.push(piece_of(size, k, i));
-    }
-    c
-}
-
-/// A number with its bits mixed.
-pub fn mixed(k: u32) -> u32 {
-    let x = (k ^ k >> 15).wrapping_mul(0x2c1b_3c6d);
-    let y = (x ^ x >> 12).wrapping_mul(0x297a_2d39);
-    y ^ y >> 15
-}
+use super::chains::{piece_of, pieces_of};
+use super::sleepers::{AWAKE, Sleeper};
 
 const NEXT: u16 = 1;
 
@@ -60,13 +29,19 @@ const EMPTY: Descriptor = Descriptor {
 
 /// A side's place in the ring and its wrap counter.
 #[derive(Copy, Clone)]
-struct Counter {
-    place: u32,
-    wrap: bool,
+pub(super) struct Counter {
+    pub(super) place: u32,
+    pub(super) wrap: bool,
 }
 
+/// The first place of the first lap.
+pub(super) const START: Counter = Counter {
+    place: 0,
+    wrap: true,
+};
+
 impl Counter {
-    fn step(self, size: u32) -> Counter {
+    pub(super) fn step(self, size: u32) -> Counter {
         if self.place.wrapping_add(1) == size {
             Counter {
                 place: 0,
@@ -92,7 +67,10 @@ impl Counter {
 /// A ring's descriptors, and who holds what.
 #[derive(Drop)]
 pub struct Format {
-    size: u32,
+    pub(super) size: u32,
+    pub(super) event_idx: bool,
+    pub(super) driver: Sleeper,
+    pub(super) device: Sleeper,
     ring: [Descriptor; 8],
     // the free ids, and how many descriptors no chain has
     free: [u32; 8],
@@ -101,8 +79,10 @@ pub struct Format {
     space: u32,
     // the next offer's, take's and give's
     avail: Counter,
-    next: Counter,
+    pub(super) next: Counter,
     used: Counter,
+    // where the next used descriptor is looked for
+    pub(super) back_at: Counter,
     // the chain of each id, and the id of each chain offered and not taken
     numbers: [u32; 8],
     shown: [u32; 8],
@@ -116,21 +96,21 @@ pub struct Format {
 }
 
 impl Format {
-    pub fn new(size: u32) -> Format {
-        let start = Counter {
-            place: 0,
-            wrap: true,
-        };
+    pub fn new(size: u32, event_idx: bool) -> Format {
         Format {
             size,
+            event_idx,
+            driver: AWAKE,
+            device: AWAKE,
             ring: [EMPTY; 8],
             free: [0, 1, 2, 3, 4, 5, 6, 7],
             free_from: 0,
             free_count: size,
             space: size,
-            avail: start,
-            next: start,
-            used: start,
+            avail: START,
+            next: START,
+            used: START,
+            back_at: START,
             numbers: [0; 8],
             shown: [0; 8],
             running: [0; 8],
@@ -143,10 +123,17 @@ impl Format {
         }
     }
 
-    /// Word `i`: the bytes of two words a descriptor, the lowest first; behind them 0.
+    /// Word `i`: the bytes of two words a descriptor, the lowest first; behind them the event words and the bells.
     pub fn word(&self, i: u32) -> u64 {
-        if i >= self.size.wrapping_mul(2) {
-            return 0;
+        let end = self.size.wrapping_mul(2);
+        if i >= end {
+            return match i.wrapping_sub(end) {
+                0 => self.driver.event as u64,
+                1 => self.device.event as u64,
+                2 => self.driver.bells as u64,
+                3 => self.device.bells as u64,
+                _ => 0,
+            };
         }
         let d = self.ring[(i >> 1 & 7) as usize];
         if i & 1 == 0 {
@@ -178,6 +165,7 @@ impl Format {
         self.free_from = self.queued(1);
         self.free_count = self.free_count.wrapping_sub(1);
         self.space = self.space.wrapping_sub(n);
+        let first = self.avail;
         for i in 0..n {
             let piece = piece_of(self.size, k, i);
             let next = if i.wrapping_add(1) < n { NEXT } else { 0 };
@@ -194,6 +182,7 @@ impl Format {
         self.numbers[(id & 7) as usize] = k;
         self.shown[(k & 7) as usize] = id;
         self.offered = k.wrapping_add(1);
+        self.ring_device(first, n);
     }
 
     pub fn take(&mut self) {
@@ -228,9 +217,12 @@ impl Format {
         self.ring[at].len = len;
         self.ring[at].id = (id & 0xffff) as u16;
         self.ring[at].flags = write | made;
-        self.used = self.used.steps(pieces_of(self.size, number), self.size);
+        let n = pieces_of(self.size, number);
+        let first = self.used;
+        self.used = first.steps(n, self.size);
         self.back[(self.given & 7) as usize] = (id, len);
         self.given = self.given.wrapping_add(1);
+        self.ring_driver(first, n);
     }
 
     /// The number, the length and the id of the chain that comes back next.
@@ -240,7 +232,9 @@ impl Format {
         let at = self.queued(self.free_count);
         self.free[(at & 7) as usize] = id;
         self.free_count = self.free_count.wrapping_add(1);
-        self.space = self.space.wrapping_add(pieces_of(self.size, number));
+        let n = pieces_of(self.size, number);
+        self.space = self.space.wrapping_add(n);
+        self.back_at = self.back_at.steps(n, self.size);
         self.collected = self.collected.wrapping_add(1);
         (number, len, id)
     }
@@ -259,6 +253,7 @@ impl Format {
         self.taken = self.given;
         self.next = self.used;
         self.runs = 0;
+        self.disarm_device();
     }
 
     /// The base of a ring that rests.

@@ -42,7 +42,7 @@ fn one_piece_stands_in_the_words(rt: HostRuntime) -> Result<(), Fail> {
     assert!(rt;
         words_are(
             &rig,
-            &[0x1000, 0x0080_0000_0000_000a, 0, 0, 0, 0, 0, 0, 0, 0]
+            &[0x1000, 0x0080_0000_0000_000a, 0, 0, 0, 0, 0, 0, 1, 0]
         )
     );
     assert!(rt; matches!(rig.take(), Some(DeviceAct::Taken(0, _))));
@@ -50,7 +50,7 @@ fn one_piece_stands_in_the_words(rt: HostRuntime) -> Result<(), Fail> {
     assert!(rt;
         words_are(
             &rig,
-            &[0x1000, 0x8080_0000_0000_0000, 0, 0, 0, 0, 0, 0, 0, 0]
+            &[0x1000, 0x8080_0000_0000_0000, 0, 0, 0, 0, 0, 0, 1, 1]
         )
     );
     Ok(())
@@ -65,7 +65,7 @@ fn a_second_chain_goes_round_the_end(rt: HostRuntime) -> Result<(), Fail> {
     assert!(rt; rig.base() == Some(Base(0x8000_8000)));
     assert!(rt; matches!(rig.resume(Base(0x8000_8000)), Some(Ok(()))));
     assert!(rt; matches!(rig.take(), Some(DeviceAct::Nothing)));
-    assert!(rt; rig.collect() == DriverAct::Nothing);
+    assert!(rt; rig.collect() == Some(DriverAct::Nothing));
     assert!(rt; rig.offer(&chain) == Some(DriverAct::Offered(0)));
     let first = [
         0x1000,
@@ -75,10 +75,11 @@ fn a_second_chain_goes_round_the_end(rt: HostRuntime) -> Result<(), Fail> {
         0,
         0,
         0,
-        0,
+        0x1_0000,
         0,
         0,
     ];
+    // the device, which has rested, wants no bell
     assert!(rt; words_are(&rig, first.as_slice()));
     // the second waits for room
     assert!(rt; !rig.room(&chain));
@@ -100,8 +101,8 @@ fn a_second_chain_goes_round_the_end(rt: HostRuntime) -> Result<(), Fail> {
         len: 10,
         head: 0,
     };
-    assert!(rt; rig.collect() == back);
-    assert!(rt; rig.collect() == DriverAct::Nothing);
+    assert!(rt; rig.collect() == Some(back));
+    assert!(rt; rig.collect() == Some(DriverAct::Nothing));
     assert!(rt; rig.offer(&chain) == Some(DriverAct::Offered(1)));
     let second = [
         0x2000,
@@ -111,9 +112,9 @@ fn a_second_chain_goes_round_the_end(rt: HostRuntime) -> Result<(), Fail> {
         0x1000,
         0x0081_0001_0000_000a,
         0,
+        0x1_0000,
         0,
-        0,
-        0,
+        1,
     ];
     assert!(rt; words_are(&rig, second.as_slice()));
     assert!(rt; matches!(rig.take(), Some(DeviceAct::Taken(1, _))));
@@ -137,6 +138,76 @@ fn a_second_chain_goes_round_the_end(rt: HostRuntime) -> Result<(), Fail> {
     assert!(rt; rig.idle() == (true, true));
     assert!(rt; rig.size() == (3, 3));
     assert!(rt; rig.features() == (PLAIN, PLAIN));
+    Ok(())
+}
+
+/// Chain number `k` goes to the device and back.
+fn passes<L: Layout>(rig: &mut Rig<L>, k: u32) -> bool {
+    rig.offer(&Chain::new(IN)) == Some(DriverAct::Offered(k))
+        && matches!(rig.take(), Some(DeviceAct::Taken(_, _)))
+        && matches!(rig.give(k, 10), Some(DeviceAct::Given(_)))
+        && matches!(rig.collect(), Some(DriverAct::Collected { .. }))
+}
+
+/// With EVENT_IDX a side that has been armed is rung for the descriptor that its event word names, in its lap. The word stays once it is
+/// awake.
+#[test]
+fn an_event_word_names_one_descriptor(rt: HostRuntime) -> Result<(), Fail> {
+    let indexed = Features {
+        indirect: false,
+        event_idx: true,
+        in_order: false,
+    };
+    let mut rig = Rig::<Packed>::new(rt.alloc(), 0, 3, indexed)?;
+    for k in 0..3u32 {
+        assert!(rt; passes(&mut rig, k));
+    }
+    // no side has named a descriptor yet
+    assert!(rt; (rig.word(8), rig.word(9)) == (3, 3));
+    assert!(rt; matches!(rig.arm_device(), Some(DeviceAct::Armed)));
+    assert!(rt; rig.arm_driver() == Some(DriverAct::Armed));
+    assert!(rt; (rig.word(6), rig.word(7)) == (0x2_0000, 0x2_0000));
+    // the bells of the first lap were not heard yet
+    assert!(rt; matches!(rig.hear_device(), Some(DeviceAct::Awake)));
+    assert!(rt; rig.hear_driver() == Some(DriverAct::Awake));
+    assert!(rt; matches!(rig.arm_device(), Some(DeviceAct::Armed)));
+    assert!(rt; matches!(rig.hear_device(), Some(DeviceAct::Asleep)));
+    assert!(rt; rig.take().is_none());
+    assert!(rt; rig.offer(&Chain::new(IN)) == Some(DriverAct::Offered(3)));
+    assert_eq!(rt; rig.word(8), 4);
+    assert!(rt; matches!(rig.hear_device(), Some(DeviceAct::Awake)));
+    assert!(rt; rig.offer(&Chain::new(IN)) == Some(DriverAct::Offered(4)));
+    assert_eq!(rt; rig.word(8), 4);
+    assert!(rt; matches!(rig.arm_device(), Some(DeviceAct::Awake)));
+    for k in 3..5u32 {
+        assert!(rt; matches!(rig.take(), Some(DeviceAct::Taken(_, _))));
+        assert!(rt; matches!(rig.give(k, 10), Some(DeviceAct::Given(_))));
+    }
+    // the one at place 0 is rung for, that at place 1 isn't
+    assert_eq!(rt; rig.word(9), 4);
+    Ok(())
+}
+
+/// Without EVENT_IDX a side is rung for each chain until it sets the flags DISABLE, which it does when it wakes, and when it rests.
+#[test]
+fn a_flag_asks_for_no_signal(rt: HostRuntime) -> Result<(), Fail> {
+    let mut rig = Rig::<Packed>::new(rt.alloc(), 0, 3, PLAIN)?;
+    assert!(rt; passes(&mut rig, 0));
+    assert!(rt; passes(&mut rig, 1));
+    assert!(rt; (rig.word(8), rig.word(9)) == (2, 2));
+    assert!(rt; rig.arm_driver() == Some(DriverAct::Armed));
+    assert_eq!(rt; rig.word(6), 0);
+    assert!(rt; rig.disarm_driver() == Some(DriverAct::Awake));
+    assert_eq!(rt; rig.word(6), 0x1_0000);
+    assert!(rt; passes(&mut rig, 2));
+    assert!(rt; (rig.word(8), rig.word(9)) == (3, 2));
+    assert!(rt; matches!(rig.arm_device(), Some(DeviceAct::Armed)));
+    assert_eq!(rt; rig.word(7), 0);
+    assert!(rt; matches!(rig.rest(), Some(DeviceAct::Rested)));
+    assert!(rt; rig.armed() == (false, false));
+    assert_eq!(rt; rig.word(7), 0x1_0000);
+    assert!(rt; rig.offer(&Chain::new(IN)) == Some(DriverAct::Offered(3)));
+    assert_eq!(rt; rig.word(8), 3);
     Ok(())
 }
 
@@ -166,7 +237,7 @@ fn a_rest_takes_chains_back(rt: HostRuntime) -> Result<(), Fail> {
         len: 0,
         head: 1,
     };
-    assert!(rt; rig.collect() == back);
+    assert!(rt; rig.collect() == Some(back));
     Ok(())
 }
 

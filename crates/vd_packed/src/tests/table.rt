@@ -1,19 +1,18 @@
 //! Both ends against the format, over many operations.
-use super::format::{Format, chain_of, mixed, piece_of, pieces_of};
+use super::chains::{chain_of, mixed, piece_of, pieces_of};
+use super::format::Format;
 use super::rig::Rig;
 use crate::Packed;
 use std::test::*;
 use vd_layout::{BadBase, DeviceAct, DriverAct, Layout};
 use vd_model::{Base, Chain, Features};
 
-/// What one case does: the ring's size, how many eighths of the gives are out of order, whether it rests, and how many
-/// operations there are.
+/// What one case does: the ring's size, how many eighths of the gives are out of order, and whether it rests.
 #[derive(Drop)]
 struct Case {
     size: u32,
     disorder: u32,
     rests: bool,
-    operations: u32,
 }
 
 /// Whether every word of the ring is as the format has it.
@@ -42,13 +41,13 @@ fn is_chain(size: u32, k: u32, c: &Chain) -> bool {
 
 fn offer<L: Layout>(rig: &mut Rig<L>, format: &mut Format, size: u32) -> bool {
     let k = format.offered;
-    let room = format.room();
+    let may = format.room() && !format.armed().0;
     match rig.offer(&chain_of(size, k)) {
         Some(answer) => {
             format.offer();
-            room && answer == DriverAct::Offered(k)
+            may && answer == DriverAct::Offered(k)
         }
-        None => !room,
+        None => !may,
     }
 }
 
@@ -61,7 +60,8 @@ fn take<L: Layout>(rig: &mut Rig<L>, format: &mut Format, size: u32) -> bool {
             shown && number == k && is_chain(size, k, &c)
         }
         Some(DeviceAct::Nothing) => !shown,
-        _ => false,
+        Some(_) => false,
+        None => format.armed().1,
     }
 }
 
@@ -76,22 +76,24 @@ fn give<L: Layout>(rig: &mut Rig<L>, format: &mut Format, j: u32, len: u32) -> b
             format.give(i, len);
             number == k
         }
-        _ => false,
+        Some(_) => false,
+        None => format.armed().1,
     }
 }
 
 fn collect<L: Layout>(rig: &mut Rig<L>, format: &mut Format) -> bool {
     let shown = format.collected != format.given;
     match rig.collect() {
-        DriverAct::Collected { number, len, head } => {
+        Some(DriverAct::Collected { number, len, head }) => {
             if shown {
                 format.collect() == (number, len, head)
             } else {
                 false
             }
         }
-        DriverAct::Nothing => !shown,
-        _ => false,
+        Some(DriverAct::Nothing) => !shown,
+        Some(_) => false,
+        None => format.armed().0,
     }
 }
 
@@ -114,20 +116,68 @@ fn rest<L: Layout>(rig: &mut Rig<L>, format: &mut Format) -> bool {
     rig.resume(kept) == Some(Ok(()))
 }
 
+/// The driver arms where it isn't armed; else it hears the bell, or is disarmed.
+fn sleep_driver<L: Layout>(rig: &mut Rig<L>, format: &mut Format, disarms: bool) -> bool {
+    if !format.armed().0 {
+        let armed = format.arm_driver();
+        let answer = if armed {
+            DriverAct::Armed
+        } else {
+            DriverAct::Awake
+        };
+        return rig.arm_driver() == Some(answer);
+    }
+    if disarms {
+        format.disarm_driver();
+        return rig.disarm_driver() == Some(DriverAct::Awake);
+    }
+    let woken = format.hear_driver();
+    let answer = if woken {
+        DriverAct::Awake
+    } else {
+        DriverAct::Asleep
+    };
+    rig.hear_driver() == Some(answer)
+}
+
+/// The device does.
+fn sleep_device<L: Layout>(rig: &mut Rig<L>, format: &mut Format, disarms: bool) -> bool {
+    if !format.armed().1 {
+        return if format.arm_device() {
+            matches!(rig.arm_device(), Some(DeviceAct::Armed))
+        } else {
+            matches!(rig.arm_device(), Some(DeviceAct::Awake))
+        };
+    }
+    if disarms {
+        format.disarm_device();
+        return matches!(rig.disarm_device(), Some(DeviceAct::Awake));
+    }
+    if format.hear_device() {
+        matches!(rig.hear_device(), Some(DeviceAct::Awake))
+    } else {
+        matches!(rig.hear_device(), Some(DeviceAct::Asleep))
+    }
+}
+
 /// One operation, chosen by a number.
 fn operate<L: Layout>(rig: &mut Rig<L>, format: &mut Format, case: &Case, x: u32) -> bool {
     let which = x & 31;
-    if which < 10 {
+    if which < 8 {
         offer(rig, format, case.size)
-    } else if which < 17 {
+    } else if which < 14 {
         take(rig, format, case.size)
-    } else if which < 24 {
+    } else if which < 20 {
         let j = if x >> 5 & 7 < case.disorder {
             x >> 8 & 7
         } else {
             0
         };
         give(rig, format, j, x >> 11)
+    } else if which < 23 {
+        sleep_driver(rig, format, x >> 5 & 3 == 0)
+    } else if which < 26 {
+        sleep_device(rig, format, x >> 5 & 3 == 0)
     } else if which < 31 || !case.rests {
         collect(rig, format)
     } else {
@@ -138,29 +188,29 @@ fn operate<L: Layout>(rig: &mut Rig<L>, format: &mut Format, case: &Case, x: u32
 #[test]
 fn words_are_as_the_format_has_them(rt: HostRuntime) -> Result<(), Fail> {
     for size in [2, 3, 5, 7] {
-        for (in_order, disorder, rests) in [
-            (false, 0, true),
-            (false, 4, true),
-            (false, 8, false),
-            (true, 0, true),
+        for (event_idx, in_order, disorder, rests) in [
+            (false, false, 0, true),
+            (false, false, 8, false),
+            (true, false, 4, true),
+            (true, true, 0, true),
         ] {
             let f = Features {
                 indirect: false,
-                event_idx: false,
+                event_idx,
                 in_order,
             };
             let case = Case {
                 size,
                 disorder,
                 rests,
-                operations: 4000,
             };
             let mut rig = Rig::<Packed>::new(rt.alloc(), 0, size, f)?;
-            let mut format = Format::new(size);
-            for i in 0..case.operations {
+            let mut format = Format::new(size, event_idx);
+            for i in 0..6000u32 {
                 assert!(rt; operate(&mut rig, &mut format, &case, mixed(i)));
                 assert!(rt; words_agree(&rig, &format));
                 assert!(rt; rig.whole() == format.whole());
+                assert!(rt; rig.armed() == format.armed());
             }
             assert!(rt;
                 rig.counts()
@@ -172,7 +222,10 @@ fn words_are_as_the_format_has_them(rt: HostRuntime) -> Result<(), Fail> {
                         format.runs()
                     )
             );
-            assert!(rt; format.collected > 100);
+            assert!(rt; format.collected > 50);
+            let (kicks, calls) = format.rung();
+            assert!(rt; kicks > 20);
+            assert!(rt; calls > 20);
         }
     }
     Ok(())

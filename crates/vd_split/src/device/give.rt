@@ -16,13 +16,7 @@ use vd_words::{Access, Op, Port};
 impl SplitDevice {
     /// The store of the next entry's id: the chain's head.
     #[inline(always)]
-    pub(super) fn name<P: Port>(
-        &mut self,
-        port: &mut P,
-        number: u32,
-        head: u32,
-        len: u32,
-    ) -> Told
+    pub(super) fn name<P: Port>(&mut self, port: &mut P, number: u32, head: u32, len: u32) -> Told
         requires now { self.old.doing ≡ DeviceStep.Name number head len }
         requires own { (v : DeviceView) × DeviceStands self.old v × IsOwn P.port device_side port.old v }
         ensures { (v : DeviceView) → DeviceStands self.old v → IsOwn P.port device_side port.old v → IsDeviceStep P.port split_device port.old port.new v self.old self.new (act_of result self.new.pieces.items) }

@@ -9,7 +9,7 @@ ghost use Rattle.vd_split.specs.DeviceEnd.{DeviceStands};
 use super::{DeviceStep, SplitDevice};
 use crate::descriptors::zero_words;
 use crate::driver::kick_place;
-use arrayvec::ArrayVec;
+use crate::pieces::Pieces;
 use std::alloc::{AllocError, Global};
 use vd_model::Features;
 
@@ -57,7 +57,7 @@ impl SplitDevice {
             armed: false,
             heard: 0,
             bells: 0,
-            pieces: ArrayVec::new(),
+            pieces: Pieces::new(),
             addr: 0,
             doing: DeviceStep::Idle,
         })

@@ -10,8 +10,8 @@ ghost use Rattle.vd_split.specs.Telling.{act_of};
 ghost use Rattle.vd_split.specs.Parts.{event_offset, event_lane};
 
 use super::{DeviceStep, SplitDevice, Told};
-use crate::driver::own_value;
 use crate::descriptors::{shows_count, used_area};
+use crate::driver::own_value;
 use vd_bits::set_lane16;
 use vd_words::{Access, Op, Port};
 

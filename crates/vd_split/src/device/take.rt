@@ -11,7 +11,6 @@ ghost use Rattle.vd_split.specs.Telling.{act_of};
 
 use super::{DeviceStep, SplitDevice, Told};
 use crate::descriptors::{next_place, shows_count};
-use arrayvec::ArrayVec;
 use vd_bits::lane16;
 use vd_model::Piece;
 use vd_words::{Access, Op, Port};
@@ -109,13 +108,7 @@ impl SplitDevice {
 
     /// The load of its second word, by which a whole chain is taken.
     #[inline(always)]
-    pub(super) fn second<P: Port>(
-        &mut self,
-        port: &mut P,
-        word: u64,
-        head: u32,
-        place: u32,
-    ) -> Told
+    pub(super) fn second<P: Port>(&mut self, port: &mut P, word: u64, head: u32, place: u32) -> Told
         requires now { self.old.doing ≡ DeviceStep.Second word head place }
         requires own { (v : DeviceView) × DeviceStands self.old v × IsOwn P.port device_side port.old v }
         ensures did { (v : DeviceView) → DeviceStands self.old v → IsOwn P.port device_side port.old v → IsDeviceStep P.port split_device port.old port.new v self.old self.new (act_of result self.new.pieces.items) }

@@ -1,13 +1,11 @@
 //! What the driver's end offers its holder.
-ghost use Rattle.std.specs.Prelude.{◌≡◌, ◌≤◌, length};
 ghost use Rattle.vd_split.specs.DriverEnd.{split_driver};
 ghost use Rattle.vd_split.specs.DriverLaws.{driver_laws};
 
 use super::{DriverStep, SplitDriver};
 use crate::descriptors::place_at;
-use arrayvec::ArrayVec;
 use vd_layout::DriverEnd;
-use vd_model::{Chain, Features, Piece};
+use vd_model::{Chain, Features};
 use vd_ring::DriverAct;
 use vd_words::Port;
 
@@ -49,7 +47,7 @@ impl DriverEnd for SplitDriver {
     }
 
     fn begin_offer(&mut self, c: &Chain) {
-        copy_pieces(&mut self.pieces, c.pieces());
+        self.pieces.fill(c.pieces());
         self.doing = DriverStep::Describe(0);
     }
 
@@ -72,17 +70,5 @@ impl DriverEnd for SplitDriver {
     #[inline(always)]
     fn step<P: Port>(&mut self, port: &mut P) -> DriverAct {
         self.advance(port)
-    }
-}
-
-/// Puts these pieces in place of those that are there.
-fn copy_pieces(to: &mut ArrayVec<Piece, 16>, from: &[Piece])
-    requires { length from.now ≤ 16 }
-    ensures { to.new.items ≡ from.now }
-{
-    to.clear();
-    match to.try_extend_from_slice(from) {
-        Ok(()) => {}
-        Err(_) => unreachable!(),
     }
 }

@@ -10,7 +10,8 @@ ghost use Rattle.vd_split.specs.Parts.{all_words};
 use super::{DriverStep, Slot, SplitDriver};
 use crate::descriptors::zero_words;
 use crate::layout::all_words;
-use arrayvec::ArrayVec;
+use crate::pieces::Pieces;
+use crate::places::Places;
 use circular_buffer::HeapCircularBuffer;
 use std::alloc::{AllocError, Global};
 use vd_model::Features;
@@ -34,7 +35,7 @@ fn empty_slots(alloc: Global, size: u32) -> Result<Vec<Slot>, AllocError>
     for _ in 0..size {
         slots.push(Slot {
             number: 0,
-            places: ArrayVec::new(),
+            places: Places::new(),
         })?;
     }
     Ok(slots)
@@ -78,7 +79,7 @@ impl SplitDriver {
             armed: false,
             heard: 0,
             bells: 0,
-            pieces: ArrayVec::new(),
+            pieces: Pieces::new(),
             doing: DriverStep::Idle,
         })
     }

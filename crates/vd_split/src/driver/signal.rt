@@ -22,7 +22,10 @@ fn rings(rule: EventRule, old: u64, new: u64, event: u16) -> bool
     requires near { new - old ≤ reach rule }
     ensures { IsTrue result ↔ Rings rule old new event }
 {
-    matches!(Due::new(rule, old, new).check(u32::from(event)), Answer::Ring)
+    matches!(
+        Due::new(rule, old, new).check(u32::from(event)),
+        Answer::Ring
+    )
 }
 
 /// Whether this event word asks for one.

@@ -27,7 +27,7 @@ impl<L: Layout> Model for Rig<L> {
 
     ghost view = { λ r. tt };
 
-    ghost invariant = { λ r. IsRig L.Driver.driver L.Device.device L.layout r.driver r.device r.words.words r.count r.asleep };
+    ghost invariant = { λ r. IsRig L.Driver.driver L.Device.device L.layout r.driver r.device r.words r.count r.asleep };
 }
 
 impl<L: Layout> Rig<L> {

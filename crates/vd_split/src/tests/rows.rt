@@ -42,7 +42,9 @@ fn one_piece_stands_in_the_words(rt: HostRuntime) -> Result<(), Fail> {
     assert!(rt;
         words_are(
             &rig,
-            &[0x1000, 0xa, 0, 0, 0, 0, 0, 0, 0x10000, 0, 0, 0, 0, 0, 0, 1, 0]
+            &[
+                0x1000, 0xa, 0, 0, 0, 0, 0, 0, 0x10000, 0, 0, 0, 0, 0, 0, 1, 0
+            ]
         )
     );
     assert!(rt; matches!(rig.take(), Some(DeviceAct::Taken(0, _))));

@@ -1,4 +1,4 @@
-use Rattle.std.proofs.Common.{ℕ, slice_index_or, ◌+◌, ◌*◌, None, sym, subst}
+use Rattle.std.proofs.Common.{ℕ, slice_index_or, ◌+◌, ◌*◌, None, sym, ◌∙◌, subst, arith}
 use Rattle.std.specs.Vec.{with_item}
 use Rattle.vd_words.specs.declared.access.Access.TheVariants.{Store}
 use Rattle.vd_words.specs.declared.access.Op.TheVariants as op
@@ -8,7 +8,7 @@ use Rattle.vd_packed.specs.declared.device.DeviceStep.TheVariants as step
 use Rattle.vd_packed.specs.declared.device.PackedDevice.{PackedDevice}
 use Rattle.vd_packed.specs.declared.spot.Spot.{Spot}
 use Rattle.vd_packed.specs.DeviceEnd.{IsCount}
-use Rattle.vd_packed.specs.DeviceGiving.{Goes, made, give_facts, give_goes}
+use Rattle.vd_packed.specs.DeviceGiving.{Goes, made, give_facts, give_goes, give_position}
 use Rattle.vd_packed.proofs.device.PackedDevice.give.Goals as goal
 
 pub access-requires : goal.access-requires
@@ -18,8 +18,11 @@ access-requires g c =
     c.requires.own.2.may op.Give (Store (2 * e.used.place + 1) x)
     (give_goes e v 0 c.args.number c.args.head c.args.len x (slice_index_or e.counts.items c.args.head 0) c.requires.now c.requires.own.1 c.used_word-word.ensures (facts.3 0)).next
 
-pub overflow_add-self-2 : goal.overflow_add-self-2
-overflow_add-self-2 g c = ?
+pub overflow_add-self-3 : goal.overflow_add-self-3
+overflow_add-self-3 g c =
+    let e : PackedDevice = c.args.self.now in let v : DeviceView = c.requires.own.0 in let n : ℕ = c.index-count.result.now in
+    let counted = (give_facts e v c.args.number c.args.head c.args.len c.requires.now c.requires.own.1).3 n in
+    omega (arith, give_position e v c.args.number n c.requires.own.1 (c.index-count.ensures ∙ counted.0) (omega (arith, c.fits-self)))
 
 pub returns-clause-did : goal.returns-clause-did
 returns-clause-did g c = λ v st own.

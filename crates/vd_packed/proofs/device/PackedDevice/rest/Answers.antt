@@ -22,6 +22,6 @@ returns-clause-did g c = λ v st own.
     let e2 : PackedDevice = record e { running = with_items e.running ws } in
     let many : length ws ≡ length e.running.items = c.clear.ensures.kept ∙ ap (λ (xs : List (Option ℕ)). length xs) c.deref_mut.ensures.value in
     let same = filled e ws many in
-    made g.P.Port.port c.args.port.now c.access.new.self e (record e { taken = e.given; next = e.used; next_position = e.used_position; running = e2.running; doing = step.Resting }) v op.Rest (Load (2 * e.next.place + 1)) c.access.result act.Rested
-    (rest_goes e e2 v c.access.result c.requires.now st (ap (λ (xs : List (Option ℕ)). length xs) same ∙ many) (λ h. ap (λ (xs : List (Option ℕ)). number_at xs h) same ∙ c.clear.ensures.none h))
-    c.access.ensures
+    made g.P.Port.port c.args.port.now c.access-self.new.self e (record e { taken = e.given; next = e.used; next_position = e.used_position; running = e2.running; doing = step.Resting }) v op.Rest (Load (2 * e.next.place + 1)) c.access-self.result act.Rested
+    (rest_goes e e2 v c.access-self.result c.requires.now st (ap (λ (xs : List (Option ℕ)). length xs) same ∙ many) (λ h. ap (λ (xs : List (Option ℕ)). number_at xs h) same ∙ c.clear.ensures.none h))
+    c.access-self.ensures

@@ -16,6 +16,6 @@ access-word-requires g c =
 pub returns-clause-did : goal.returns-clause-did
 returns-clause-did g c = λ v st own.
     let e : PackedDevice = c.args.self.now in let x : ℕ = c.access-word.result in let s = c.loaded_second in
-    made g.P.Port.port c.args.port.now c.access-word.new.port e s.new.self v op.Take (Load (2 * e.at.place + 1)) x (act_of s.result s.new.self.pieces.items)
+    made g.P.Port.port c.args.port.now c.access-word.new.self e s.new.self v op.Take (Load (2 * e.at.place + 1)) x (act_of s.result s.new.self.pieces.items)
     (subst (λ t. Goes e s.new.self v op.Take (Load (2 * e.at.place + 1)) x (act_of t s.new.self.pieces.items)) (sym s.ensures.moved)
     (subst (λ (h : PackedDevice). Goes e h v op.Take (Load (2 * e.at.place + 1)) x act.Moved) (sym s.ensures.second) (second_goes e v x c.requires.now st))) c.access-word.ensures

@@ -1,4 +1,4 @@
-use Rattle.std.proofs.Common.{◌≡◌, ℕ, ◌*◌, false, slice_index, ap, ◌∙◌}
+use Rattle.std.proofs.Common.{ℕ, ◌*◌, false, ap, ◌∙◌}
 use Rattle.std.proofs.lemmas.List.{get_or_read}
 use Rattle.std.specs.Vec.{with_item}
 use Rattle.vd_bits.specs.Lanes.{set_lane16}

@@ -3,7 +3,7 @@ use Rattle.vd_packed.specs.Rig.{begun_driver, finished_driver}
 use Rattle.vd_packed.proofs.tests.rig.Rig.collect.Goals as goal
 
 pub finish_driver_beside-requires-clause-on : goal.finish_driver_beside-requires-clause-on
-finish_driver_beside-requires-clause-on g c κs within =
+finish_driver_beside-requires-clause-on g c =
     let h = c.self.invariant in
     (h.frame, c.port.result.at.now.words, refl, begun_driver g.L.Driver.DriverEnd.driver g.L.Device.DeviceEnd.device g.L.Layout.layout c.self.inside.driver c.begin_collect.new.self c.self.inside.device c.port.result.at.now.words c.self.inside.words.words c.self.inside.count c.self.inside.asleep h (c.begin_collect.ensures.stands h.on.view h.on.drives) (ap (λ z. z.words) c.port.ensures.words))
 

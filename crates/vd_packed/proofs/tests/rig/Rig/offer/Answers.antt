@@ -11,7 +11,7 @@ begin_offer-requires-clause-may g c =
     (h.on.view, h.on.drives, may)
 
 pub finish_driver_beside-requires-clause-on : goal.finish_driver_beside-requires-clause-on
-finish_driver_beside-requires-clause-on g c κs within =
+finish_driver_beside-requires-clause-on g c =
     let h = c.self.invariant in
     let n = c.offered.ensures h.on.view h.on.drives in
     let room = c.room.ensures h.on.view h.on.drives in
