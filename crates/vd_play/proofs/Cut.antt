@@ -10,7 +10,7 @@ use Rattle.vd_ring.specs.declared.driver.DriverView.{DriverView}
 use Rattle.vd_ring.specs.declared.device.DeviceView.{DeviceView}
 use Rattle.vd_bus.specs.Device.{IsRefused, IsBegun, chains_of, lens_of}
 use Rattle.vd_machine.specs.File.{Plan}
-use Rattle.vd_play.specs.Journal.{queue_script, queue_chains, queue_epochs, epoch_events, attach_event, suspend_event, journal_events, HasLen}
+use Rattle.vd_play.specs.Journal.{queue_script, queue_chains, queue_epochs, epoch_events, attach_event, suspend_event, journal_events, journal_chains, HasLen}
 use Rattle.vd_play.specs.Lane.{IsKept, events_before, begun_at}
 use Rattle.vd_play.specs.Played.{IsCut}
 use Rattle.vd_play.specs.Progress.{IsStopped, IsPassing, StoppedWith, InEpochWith}
@@ -18,6 +18,7 @@ use Rattle.vd_play.specs.Setting.{Setting, IsLawful}
 use Rattle.vd_play.proofs.Bounds.{bounded, flat_more}
 use Rattle.vd_play.proofs.Keep.{prefix_of}
 use Rattle.vd_play.proofs.Lists.{prefix_through}
+use Rattle.vd_play.proofs.Passed.{pass_events, all_chains}
 use Rattle.vd_play.proofs.Returns.{some_returned}
 
 front_of : {A B : Type 0} (f : A → List B) (xs : List A) (k : ℕ) → IsPrefix (flat_map f (take k xs)) (flat_map f xs)
@@ -33,7 +34,7 @@ module _ {D E G X C : Type 0} (s : Setting D E G X C) (law : IsLawful s) (plan :
       let back = some_returned v.frame v.done w.done (lens_of (s.party.begun device)) (s.guest.returned guest) (law.layout.lists words.words v w k.ring) p.account.given (law.guest.returned guest v (queue_script plan q) k.part.holds k.part.script k.queue.plain) in
       record {
         events = events;
-        chains = subst (λ zs. IsPrefix zs (queue_chains plan q)) (sym p.account.chains) (prefix_of s law plan q words guest v w k);
+        chains = subst (λ zs. IsPrefix (chains_of (s.party.begun device)) zs) (sym (all_chains plan q k.queue.chained k.queue.passing)) (subst (λ zs. IsPrefix zs (queue_chains plan q)) (sym p.account.chains) (prefix_of s law plan q words guest v w k));
         each = p.account.each;
         once = back.0;
         returned = back.1;
@@ -52,7 +53,7 @@ module _ {D E G X C : Type 0} (s : Setting D E G X C) (law : IsLawful s) (plan :
       let c : IsCut s plan q guest device = cut_still k words still guest device p in
       record {
         events = subst (λ zs. IsPrefix zs (journal_events s.device s.layout plan q)) (sym r.events) c.events;
-        chains = subst (λ (bs : List Begun). IsPrefix (chains_of bs) (queue_chains plan q)) (sym r.begun) c.chains;
+        chains = subst (λ (bs : List Begun). IsPrefix (chains_of bs) (journal_chains plan q)) (sym r.begun) c.chains;
         each = subst (λ (bs : List Begun). All IsBegun bs) (sym r.begun) c.each;
         once = c.once;
         returned = subst (λ (bs : List Begun). All (HasLen (lens_of bs)) (s.guest.returned guest)) (sym r.begun) c.returned;
@@ -63,7 +64,8 @@ module _ {D E G X C : Type 0} (s : Setting D E G X C) (law : IsLawful s) (plan :
       let e = s.device in
       let l = s.layout in
       let b = bounded (length (queue_chains plan q)) (queue_epochs plan q) k p.kept.driven.queue.chained p.serves.epoch in
-      let whole : epoch_events e l plan q b.epoch ≡ attach_event e l plan q (begun_at plan q k) ∷ suspend_event e l plan q b.epoch.end ∷ [] = ap (λ n. attach_event e l plan q n ∷ suspend_event e l plan q b.epoch.end ∷ []) b.first in
+      let mode = p.kept.driven.queue.passing.at k b.epoch b.is in
+      let whole : epoch_events e l plan q b.epoch ≡ attach_event e l plan q (begun_at plan q k) ∷ suspend_event e l plan q b.epoch.end ∷ [] = pass_events e l plan q b.epoch mode.0 mode.1 ∙ ap (λ n. attach_event e l plan q n ∷ suspend_event e l plan q b.epoch.end ∷ []) b.first in
       let more : events_before e l plan q (k + 1) ≡ events_before e l plan q k ++ attach_event e l plan q (begun_at plan q k) ∷ suspend_event e l plan q b.epoch.end ∷ [] = flat_more (epoch_events e l plan q) (queue_epochs plan q) k b.epoch b.is ∙ ap (λ zs. events_before e l plan q k ++ zs) whole in
       let front : IsPrefix (events_before e l plan q k ++ attach_event e l plan q (begun_at plan q k) ∷ []) (journal_events e l plan q) = prefix_through _ (events_before e l plan q (k + 1)) _ (subst (λ zs. IsPrefix (events_before e l plan q k ++ attach_event e l plan q (begun_at plan q k) ∷ []) zs) (sym more) (attach_front (events_before e l plan q k) (attach_event e l plan q (begun_at plan q k)) (suspend_event e l plan q b.epoch.end))) (front_of (epoch_events e l plan q) (queue_epochs plan q) (k + 1)) in
       cut_kept words guest device p.view p.device_view p.kept (subst (λ zs. IsPrefix zs (journal_events e l plan q)) (sym p.serves.events) front)

@@ -16,6 +16,7 @@ use Rattle.vd_play.specs.Progress.{IsStopped, InEpochWith}
 use Rattle.vd_play.specs.Setting.{Setting, IsLawful}
 use Rattle.vd_play.proofs.Keep.{prefix_of, begun_of}
 use Rattle.vd_play.proofs.Lists.{prefix_take, prefix_whole}
+use Rattle.vd_play.proofs.Passed.{all_chains}
 use Rattle.vd_play.proofs.Returns.{all_returned}
 
 module _ {D E G X C : Type 0} (s : Setting D E G X C) (law : IsLawful s) (plan : Plan) (q : ℕ) where
@@ -36,7 +37,7 @@ module _ {D E G X C : Type 0} (s : Setting D E G X C) (law : IsLawful s) (plan :
       record {
         journal = record {
           events = p.rests.events ∙ ap (events_before s.device s.layout plan q) (sym last) ∙ ap (flat_map (epoch_events s.device s.layout plan q)) (take-length (queue_epochs plan q));
-          chains = p.kept.account.chains ∙ prefix_whole (takes w.done) (queue_chains plan q) (prefix_of s law plan q words guest v w d) taken;
+          chains = p.kept.account.chains ∙ prefix_whole (takes w.done) (queue_chains plan q) (prefix_of s law plan q words guest v w d) taken ∙ sym (all_chains plan q d.queue.chained d.queue.passing);
           each = p.kept.account.each;
         };
         free = p.rests.free;

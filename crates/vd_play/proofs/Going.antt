@@ -20,6 +20,7 @@ use Rattle.vd_play.specs.Turns.{CanDrive, GuestTurn, GuestTurns, DeviceTurn}
 use Rattle.vd_play.proofs.Bounds.{Bounded, bounded, flat_more}
 use Rattle.vd_play.proofs.Keep.{kept_guest, kept_device, kept_still, begun_of, base_of}
 use Rattle.vd_play.proofs.Pace.{guest_paced, device_paced, attaches_more}
+use Rattle.vd_play.proofs.Passed.{pass_events}
 use Rattle.vd_play.proofs.Quiet.{offers_le, no_quiet, all_back}
 
 two_more : (es es' old : List Event) (a b b' : Event) → es ≡ old ++ a ∷ [] → es' ≡ es ++ b ∷ [] → b ≡ b' → es' ≡ old ++ (a ∷ b' ∷ [])
@@ -113,7 +114,8 @@ module _ {D E G X C : Type 0} (s : Setting D E G X C) (law : IsLawful s) (plan :
       let stands : s.device.stands end u.run.view = z.stands u.run.view u.run.holds in
       let base = base_of s law plan q words2 end guest1 t.run.view u.run.view (begun_at plan q (k + 1)) x.kept.driven stands (inl z.rests) taken in
       let last : Suspend (length (s.party.begun device2)) (record { 0 = s.device.base end }) ≡ suspend_event s.device s.layout plan q (begun_at plan q (k + 1)) = ap (λ j. Suspend j (record { 0 = s.device.base end })) many ∙ ap (λ y. Suspend (begun_at plan q (k + 1)) y) base in
-      let whole : epoch_events s.device s.layout plan q bound.epoch ≡ attach_event s.device s.layout plan q (begun_at plan q k) ∷ suspend_event s.device s.layout plan q (begun_at plan q (k + 1)) ∷ [] = ap (λ j. attach_event s.device s.layout plan q j ∷ suspend_event s.device s.layout plan q bound.epoch.end ∷ []) bound.first ∙ ap (λ j. attach_event s.device s.layout plan q (begun_at plan q k) ∷ suspend_event s.device s.layout plan q j ∷ []) bound.end in
+      let mode = p.kept.driven.queue.passing.at k bound.epoch bound.is in
+      let whole : epoch_events s.device s.layout plan q bound.epoch ≡ attach_event s.device s.layout plan q (begun_at plan q k) ∷ suspend_event s.device s.layout plan q (begun_at plan q (k + 1)) ∷ [] = pass_events s.device s.layout plan q bound.epoch mode.0 mode.1 ∙ ap (λ j. attach_event s.device s.layout plan q j ∷ suspend_event s.device s.layout plan q bound.epoch.end ∷ []) bound.first ∙ ap (λ j. attach_event s.device s.layout plan q (begun_at plan q k) ∷ suspend_event s.device s.layout plan q j ∷ []) bound.end in
       let events = two_more (s.party.events device2) (s.party.events device3) (events_before s.device s.layout plan q k) _ _ _ (u.run.served.events ∙ m.events) z.noted.events last in
       let counted : attaches (s.party.events device3) ≡ attaches (s.party.events device2) = ap attaches z.noted.events ∙ attaches_more (s.party.events device2) _ ∙ (let e : attaches (s.party.events device2) + 0 ≡ attaches (s.party.events device2) = omega arith in e) in
       let total : steps s guest1 device3 ≡ steps s guest device + (a + b) = omega (arith, x.counted, z.noted.counts.0) in (

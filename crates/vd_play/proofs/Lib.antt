@@ -16,3 +16,4 @@ pub mod Sums
 pub mod Lasting
 pub mod Untouched
 pub mod Making
+pub mod Passed

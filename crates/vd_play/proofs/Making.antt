@@ -3,6 +3,7 @@ use Rattle.std.proofs.Common.{◌≡◌, ℕ, ◌+◌, ◌*◌, ◌<◌, ◌≤�
 use Rattle.std.specs.List.{All}
 use Rattle.std.proofs.lemmas.List.Elements.{All-nil, All-head, All-tail, All-append, All-replicate}
 use Rattle.vd_model.specs.Chains.{IsChain}
+use Rattle.vd_model.specs.declared.base.Mode.TheVariants.{Pass}
 use Rattle.vd_model.specs.declared.record.Begun.{Begun}
 use Rattle.vd_model.specs.declared.record.Run.{Run}
 use Rattle.vd_model.specs.declared.record.Script.{Script}
@@ -27,7 +28,7 @@ use Rattle.vd_play.specs.Prepared.{IsEmptyGuest, IsEmptyDevice}
 use Rattle.vd_play.specs.Progress.{IsStopped}
 use Rattle.vd_play.specs.Setting.{Setting, IsLawful}
 use Rattle.vd_bus.specs.Pace.{attaches}
-use Rattle.vd_play.proofs.Bounds.{chained, chains_count, many_epochs}
+use Rattle.vd_play.proofs.Bounds.{chained, passing, chains_count, many_epochs}
 
 -- the rules that a machine keeps, as far as a queue needs them
 pub record Keeps (plan : Plan) : Type 0 where
@@ -36,6 +37,7 @@ pub record Keeps (plan : Plan) : Type 0 where
   pub inside : all_lie plan.regions plan.queues ≡ true
   pub counted : few plan.queues ≡ true
   pub unswitched : length plan.switches ≡ 0
+  pub passing : plan.start ≡ Pass
 
 no_items : {A : Type 0} (xs : List A) → length xs ≡ 0 → xs ≡ []
 no_items [] h = refl
@@ -55,6 +57,7 @@ queue_is l plan q k below are =
       epochs = omega (arith, many_epochs plan (length (queue_chains plan q)), k.unswitched);
       few = omega (arith, chains_count (queue_script plan q).runs, queue_is_short plan.queues d q k.counted below);
       chained = chained plan (length (queue_chains plan q)) k.unswitched;
+      passing = passing plan (length (queue_chains plan q)) k.unswitched k.passing;
       fits = runs_fit f (queue_script plan q).runs (λ j e within.
           let r = run_at (most_pieces plan.features plan.size) plan.regions plan.queues d e q j k.fitted k.inside below within in record {
             chain = are j e within;

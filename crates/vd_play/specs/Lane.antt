@@ -16,7 +16,7 @@ use Rattle.vd_bus.specs.declared.event.Event.{Event}
 use Rattle.vd_bus.specs.Device.{IsBegun, chains_of, lens_of}
 use Rattle.vd_bus.specs.Orders.{IsData}
 use Rattle.vd_machine.specs.File.{Plan}
-use Rattle.vd_play.specs.Epochs.{AreChained, begun_before}
+use Rattle.vd_play.specs.Epochs.{AreChained, ArePassing, begun_before}
 use Rattle.vd_play.specs.Journal.{queue_script, queue_chains, queue_epochs, guest_frame, epoch_events, attach_event}
 use Rattle.vd_play.specs.Setting.{Setting}
 
@@ -28,6 +28,7 @@ pub record IsQueue (l : LayoutModel) (plan : Plan) (q : ℕ) : Type 0 where
   pub sized : 2 ≤ plan.size
   pub epochs : length (queue_epochs plan q) ≤ 18
   pub chained : AreChained (length (queue_chains plan q)) (queue_epochs plan q)
+  pub passing : ArePassing (queue_epochs plan q)
   pub fits : All (Fits (guest_frame l plan q)) (queue_chains plan q)
 
 -- the guest's part: it has loaded the queue's script, and holds the driver's end of the queue's ring

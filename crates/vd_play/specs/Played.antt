@@ -10,13 +10,13 @@ use Rattle.vd_machine.specs.File.{Plan}
 use Rattle.vd_play.specs.declared.bench.Bench.{Bench}
 use Rattle.vd_play.specs.declared.epoch.PlayFault.{PlayFault}
 use Rattle.vd_play.specs.declared.epoch.PlayFault.TheVariants.{Device}
-use Rattle.vd_play.specs.Journal.{journal_events, queue_script, queue_chains, returned_numbers, HasLen, IsReturned}
+use Rattle.vd_play.specs.Journal.{journal_events, journal_chains, queue_script, queue_chains, returned_numbers, HasLen, IsReturned}
 use Rattle.vd_play.specs.Setting.{Setting}
 
 -- the device's journal is the one that the machine orders, with the lengths that the device gave
 pub record IsJournal {D E G X C : Type 0} (s : Setting D E G X C) (plan : Plan) (q : ℕ) (device : X) : Type 0 where
   pub events : s.party.events device ≡ journal_events s.device s.layout plan q
-  pub chains : chains_of (s.party.begun device) ≡ queue_chains plan q
+  pub chains : chains_of (s.party.begun device) ≡ journal_chains plan q
   pub each : All IsBegun (s.party.begun device)
 
 -- queue q was played to its end: its journal is whole, and its guest has offered its whole script, got each chain back, and was
@@ -33,7 +33,7 @@ pub record IsPlayed {D E G X C : Type 0} (s : Setting D E G X C) (plan : Plan) (
 -- back once, and has the length that was given for it
 pub record IsCut {D E G X C : Type 0} (s : Setting D E G X C) (plan : Plan) (q : ℕ) (guest : G) (device : X) : Type 0 where
   pub events : IsPrefix (s.party.events device) (journal_events s.device s.layout plan q)
-  pub chains : IsPrefix (chains_of (s.party.begun device)) (queue_chains plan q)
+  pub chains : IsPrefix (chains_of (s.party.begun device)) (journal_chains plan q)
   pub each : All IsBegun (s.party.begun device)
   pub once : (k : ℕ) → occurs k (returned_numbers (s.guest.returned guest)) ≤ 1
   pub returned : All (HasLen (lens_of (s.party.begun device))) (s.guest.returned guest)

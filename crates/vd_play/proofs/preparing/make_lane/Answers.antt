@@ -21,7 +21,7 @@ returns-clause-ok g c =
     let plan : Plan = view m in
     let q : ℕ = c.args.queue in
     let s : Script = c.index-as_slice-queue.result in
-    let rules : Keeps plan = record { sized = m.sized; fitted = m.fitted; inside = m.inside; counted = m.counted; unswitched = m.unswitched } in
+    let rules : Keeps plan = record { sized = m.sized; fitted = m.fitted; inside = m.inside; counted = m.counted; unswitched = m.unswitched; passing = m.passing } in
     let at = slice_get_read c.as_slice.result.now _ q s refl (omega (arith, ap length c.as_slice.ensures, c.requires.queue)) c.index-as_slice-queue.is in
     let here : queue_script plan q ≡ s = ap (λ (qs : List Script). Rattle.std.proofs.Common.slice_index_or qs q (script [])) (sym c.as_slice.ensures) ∙ get_or_from_slice_get c.as_slice.result.now q s (script []) at in
     let runs : c.as_slice-2.result.now ≡ (queue_script plan q).runs = c.as_slice-2.ensures ∙ ap (λ (z : Script). z.runs) (sym here) in
