@@ -71,7 +71,8 @@ ring_of q ep = by_mode ep.mode q (16 * (ep.number + 1) + q)
 
 -- in the mode shadow a device finds each region at the lowest iovas that those before it leave
 abbrev pub shadow_map : Plan → List Mapping
-shadow_map plan = unwrap_or (laid (map (λ (r : Region). (r.addr, r.size)) plan.regions) (record { first = plan.first; last = plan.last; mappings = [] })) []
+shadow_map plan =
+    unwrap_or (laid (map (λ (r : Region). (r.addr, r.size)) plan.regions) (record { first = plan.first; last = plan.last; mappings = [] })) []
 
 -- a shadow ring has no bounds
 abbrev pub shadow_frame : LayoutModel → Plan → ℕ → Frame
@@ -97,7 +98,8 @@ epoch_suspend e l plan q ep =
 
 -- the device is reset where the epoch begins with a renewal; it is attached, and suspended once the epoch's chains are begun
 abbrev pub epoch_events : {E : Type 0} → DeviceModel E → LayoutModel → Plan → ℕ → Epoch → List Event
-epoch_events e l plan q ep = (if ep.renewed then Reset ep.first ∷ [] else []) ++ epoch_attach e l plan q ep ∷ epoch_suspend e l plan q ep ∷ []
+epoch_events e l plan q ep =
+    (if ep.renewed then Reset ep.first ∷ [] else []) ++ epoch_attach e l plan q ep ∷ epoch_suspend e l plan q ep ∷ []
 
 -- the events of a queue's device, and the chains that it begins
 abbrev pub journal_events : {E : Type 0} → DeviceModel E → LayoutModel → Plan → ℕ → List Event

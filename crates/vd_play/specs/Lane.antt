@@ -38,7 +38,8 @@ pub record Drives {D E G X C : Type 0} (s : Setting D E G X C) (plan : Plan) (q 
   pub framed : v.frame ≡ guest_frame s.layout plan q
 
 -- the guest on its ring, which has the queue's number
-pub record IsDriven {D E G X C : Type 0} (s : Setting D E G X C) (plan : Plan) (q : ℕ) (words : RingWords) (guest : G) (v : DriverView) (w : DeviceView) : Type 0 where
+pub record IsDriven {D E G X C : Type 0} (s : Setting D E G X C) (plan : Plan) (q : ℕ) (words : RingWords) (guest : G)
+    (v : DriverView) (w : DeviceView) : Type 0 where
   pub queue : IsQueue s.layout plan q
   pub numbered : words.ring ≡ q
   pub ring : s.layout.ring words.words v w
@@ -56,7 +57,8 @@ pub record Account (begun : List Begun) (w : DeviceView) : Type 0 where
   pub given : All (HasGiven (lens_of begun)) (gives w.done)
 
 -- the guest's part, the account, and what was reserved: the machine's window, and room for all chains
-pub record IsKept {D E G X C : Type 0} (s : Setting D E G X C) (plan : Plan) (q : ℕ) (words : RingWords) (guest : G) (device : X) (v : DriverView) (w : DeviceView) : Type 0 where
+pub record IsKept {D E G X C : Type 0} (s : Setting D E G X C) (plan : Plan) (q : ℕ) (words : RingWords) (guest : G) (device : X)
+    (v : DriverView) (w : DeviceView) : Type 0 where
   pub driven : IsDriven s plan q words guest v w
   pub account : Account (s.party.begun device) w
   pub window : s.party.window device ≡ plan.window
@@ -88,6 +90,7 @@ pub record Serves {D E G X C : Type 0} (s : Setting D E G X C) (plan : Plan) (q 
   pub for_data : IsData by.queue
   pub from : (by.at ≡ begun_at plan q k) × (by.from ≡ begun_at plan q k)
   pub to : by.at + by.count ≡ begun_at plan q (k + 1)
-  pub events : s.party.events device ≡ events_before s.device s.layout plan q k ++ attach_event s.device s.layout plan q (begun_at plan q k) ∷ []
+  pub events : s.party.events device ≡ events_before s.device s.layout plan q k
+      ++ attach_event s.device s.layout plan q (begun_at plan q k) ∷ []
   pub room : length (queue_epochs plan q) + length (queue_epochs plan q) ≤ s.party.event_room device + k + k + 1
   pub live : s.party.is_done device → ⊥

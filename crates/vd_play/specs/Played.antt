@@ -42,7 +42,8 @@ pub record IsCut {D E G X C : Type 0} (s : Setting D E G X C) (plan : Plan) (q :
 
 -- so it is with the parties of each queue
 abbrev pub EachQueue : {G V : Type 0} → (ℕ → G → V → Type 0) → Plan → Bench G V → Type 0
-EachQueue P plan bench = (q : ℕ) (guest : _) (device : _) → q < length plan.queues → slice_get bench.guests.items q ≡ Some guest → slice_get bench.devices.items q ≡ Some device → P q guest device
+EachQueue P plan bench = (q : ℕ) (guest : _) (device : _) → q < length plan.queues → slice_get bench.guests.items q ≡ Some guest
+    → slice_get bench.devices.items q ≡ Some device → P q guest device
 
 abbrev pub AllPlayed : {D E G X C : Type 0} → Setting D E G X C → Plan → Bench G X → Type 0
 AllPlayed s plan bench = EachQueue (IsPlayed s plan) plan bench
@@ -64,8 +65,10 @@ HasNoFault m old new = map m.faults new.devices.items ≡ map m.faults old.devic
 -- the device of queue q, one of n, refused an attach: its count of faults went up by one, and no other has changed
 pub record IsFaultOf {G X C : Type 0} (m : DeviceParty X C) (n q : ℕ) (old new : Bench G X) : Type 0 where
   pub queue : q < n
-  pub rose : (x y : X) → slice_get old.devices.items q ≡ Some x → slice_get new.devices.items q ≡ Some y → m.faults y ≡ raised 1 (m.faults x)
-  pub others : (k : ℕ) (x y : X) → k ≢ q → slice_get old.devices.items k ≡ Some x → slice_get new.devices.items k ≡ Some y → m.faults y ≡ m.faults x
+  pub rose : (x y : X) → slice_get old.devices.items q ≡ Some x → slice_get new.devices.items q ≡ Some y
+      → m.faults y ≡ raised 1 (m.faults x)
+  pub others : (k : ℕ) (x y : X) → k ≢ q → slice_get old.devices.items k ≡ Some x → slice_get new.devices.items k ≡ Some y
+      → m.faults y ≡ m.faults x
 
 -- the queue whose device refused
 abbrev pub faulty : PlayFault → ℕ

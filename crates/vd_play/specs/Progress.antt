@@ -48,7 +48,8 @@ most_steps plan = 1024 * (work plan + rings plan * plan.size)
 -- ---- a lane
 
 -- the bells that the guest and the device heard are in their views, and both have kept their pace
-pub record IsPaced {D E G X C : Type 0} (s : Setting D E G X C) (n most : ℕ) (guest : G) (device : X) (v : DriverView) (w : DeviceView) : Type 0 where
+pub record IsPaced {D E G X C : Type 0} (s : Setting D E G X C) (n most : ℕ) (guest : G) (device : X) (v : DriverView)
+    (w : DeviceView) : Type 0 where
   pub guest_heard : s.guest.heard guest ≤ driver_hearings v
   pub guest_low : s.guest.accesses guest ≤ guest_bound n
   pub device_heard : s.party.heard device ≤ device_hearings w
@@ -56,7 +57,8 @@ pub record IsPaced {D E G X C : Type 0} (s : Setting D E G X C) (n most : ℕ) (
   pub times : attaches (s.party.events device) ≤ most
 
 -- before epoch k; where all chains were begun, each of r rounds has made a step that was no look, or the guest is done
-pub record IsStopped {D E G X C : Type 0} (s : Setting D E G X C) (plan : Plan) (q k r : ℕ) (words : RingWords) (end : E) (guest : G) (device : X) : Type 0 where
+pub record IsStopped {D E G X C : Type 0} (s : Setting D E G X C) (plan : Plan) (q k r : ℕ) (words : RingWords) (end : E) (guest : G)
+    (device : X) : Type 0 where
   pub view : DriverView
   pub device_view : DeviceView
   pub kept : IsKept s plan q words guest device view device_view
@@ -66,7 +68,8 @@ pub record IsStopped {D E G X C : Type 0} (s : Setting D E G X C) (plan : Plan) 
   pub late : length (queue_chains plan q) ≤ length (takes device_view.done) → s.guest.is_done guest ⊎ (r ≤ steps s guest device)
 
 -- in epoch k, the device attached to the guest's ring; each of r rounds has made a step that was no look
-pub record IsPassing {D E G X C : Type 0} (s : Setting D E G X C) (plan : Plan) (q k r : ℕ) (words : RingWords) (guest : G) (device : X) : Type 0 where
+pub record IsPassing {D E G X C : Type 0} (s : Setting D E G X C) (plan : Plan) (q k r : ℕ) (words : RingWords) (guest : G)
+    (device : X) : Type 0 where
   pub view : DriverView
   pub device_view : DeviceView
   pub kept : IsKept s plan q words guest device view device_view

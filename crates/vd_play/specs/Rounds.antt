@@ -12,15 +12,18 @@ use Rattle.vd_play.specs.Setting.{Setting}
 
 -- a lane is one round further, and its parties have made so many steps that were no looks
 abbrev pub LaneGoes : {D E G X C : Type 0} → Setting D E G X C → Lane E → Lane E → G → G → X → X → ℕ → Type 0
-LaneGoes s a a' b b' x x' made = (plan : Plan) (q : ℕ) (on : Bool) (k r : ℕ) → InEpoch s plan q on k r a b x → InEpoch s plan q on k (r + 1) a' b' x' × (steps s b' x' ≡ steps s b x + made)
+LaneGoes s a a' b b' x x' made = (plan : Plan) (q : ℕ) (on : Bool) (k r : ℕ) → InEpoch s plan q on k r a b x
+    → InEpoch s plan q on k (r + 1) a' b' x' × (steps s b' x' ≡ steps s b x + made)
 
 -- all lanes are one round further
 abbrev pub RoundGoes : {D E G X C : Type 0} → Setting D E G X C → List (Lane E) → List (Lane E) → Bench G X → Bench G X → ℕ → Type 0
-RoundGoes s lanes lanes' bench bench' made = (plan : Plan) (on : Bool) (k r : ℕ) → AllInEpoch s plan on k r lanes bench → AllInEpoch s plan on k (r + 1) lanes' bench' × (all_steps s bench' ≡ all_steps s bench + made)
+RoundGoes s lanes lanes' bench bench' made = (plan : Plan) (on : Bool) (k r : ℕ) → AllInEpoch s plan on k r lanes bench
+    → AllInEpoch s plan on k (r + 1) lanes' bench' × (all_steps s bench' ≡ all_steps s bench + made)
 
 -- an epoch has come to its end
 abbrev pub EpochGoes : {D E G X C : Type 0} → Setting D E G X C → List (Lane E) → List (Lane E) → Bench G X → Bench G X → ℕ → Type 0
-EpochGoes s lanes lanes' bench bench' made = (plan : Plan) (k : ℕ) → AllInEpoch s plan true k 0 lanes bench → AllStopped s plan (k + 1) lanes' bench' × (all_steps s bench' ≡ all_steps s bench + made)
+EpochGoes s lanes lanes' bench bench' made = (plan : Plan) (k : ℕ) → AllInEpoch s plan true k 0 lanes bench
+    → AllStopped s plan (k + 1) lanes' bench' × (all_steps s bench' ≡ all_steps s bench + made)
 
 -- k is the closing epoch of each queue
 abbrev pub IsLast : Plan → ℕ → Type 0

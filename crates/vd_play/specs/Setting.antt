@@ -13,7 +13,8 @@ pub record Setting (D E G X C : Type 0) : Type 1 where
   pub guest : GuestParty G
   pub party : DeviceParty X C
 
-abbrev pub setting_of : {D E G X C : Type 0} → DriverModel D → DeviceModel E → LayoutModel → GuestParty G → DeviceParty X C → Setting D E G X C
+abbrev pub setting_of : {D E G X C : Type 0} → DriverModel D → DeviceModel E → LayoutModel → GuestParty G → DeviceParty X C
+    → Setting D E G X C
 setting_of d e l g m = record { driver = d; device = e; layout = l; guest = g; party = m }
 
 -- their laws

@@ -33,10 +33,12 @@ fn attach<'a, L: Layout, V: Device<L>>(
     requires can { CanAttach L.Device.device V.party queue count lane.old.still device.old }
     ensures words { lane.new.words ≡ lane.old.words }
     ensures ok { IfOk result (λ _. (lane.new.still ≡ None) × ((end : _) → lane.old.still ≡ Some end
-        → IsAttach L.Device.device V.party (pass_order L.Device.device (view m.now) queue count end) None end device.old device.new)) }
+        → IsAttach L.Device.device V.party (pass_order L.Device.device (view m.now) queue count end) None
+        end device.old device.new)) }
     ensures carried { V.party.carried device.new ≡ V.party.carried device.old }
     ensures faults { OnOk result (V.party.faults device.new ≡ V.party.faults device.old) }
-    ensures err { IfErr result (λ f. (f ≡ PlayFault.Device queue) × (lane.new.still ≡ lane.old.still) × IsRefused V.party device.old device.new) }
+    ensures err { IfErr result (λ f. (f ≡ PlayFault.Device queue) × (lane.new.still ≡ lane.old.still)
+        × IsRefused V.party device.old device.new) }
 {
     let Some(end) = lane.still.take() else {
         unreachable!()
@@ -64,14 +66,17 @@ pub(crate) fn attach_all<L: Layout, G: Guest<L>, V: Device<L>>(
     requires many { length floor.old.lanes.items ≡ length m.now.queues }
     requires parties { HasLanes (length m.now.queues) bench.old }
     requires epoch { epoch < length m.now.switches + 2 }
-    requires lanes { AllStopped (setting_of L.Driver.driver L.Device.device L.layout G.party V.party) (view m.now) epoch floor.old.lanes.items bench.old }
+    requires lanes { AllStopped (setting_of L.Driver.driver L.Device.device L.layout G.party V.party) (view m.now) epoch
+        floor.old.lanes.items bench.old }
     ensures many { length floor.new.lanes.items ≡ length floor.old.lanes.items }
     ensures keeps { KeepsBench V.party (length m.now.queues) bench.old bench.new }
-    ensures lanes { IfOk result (λ _. AllInEpoch (setting_of L.Driver.driver L.Device.device L.layout G.party V.party) (view m.now) true epoch 0 floor.new.lanes.items bench.new) }
+    ensures lanes { IfOk result (λ _. AllInEpoch (setting_of L.Driver.driver L.Device.device L.layout G.party V.party) (view m.now)
+        true epoch 0 floor.new.lanes.items bench.new) }
     ensures counted { IfOk result (λ _. all_steps (setting_of L.Driver.driver L.Device.device L.layout G.party V.party) bench.new
         ≡ all_steps (setting_of L.Driver.driver L.Device.device L.layout G.party V.party) bench.old) }
     ensures faults { IfOk result (λ _. HasNoFault V.party bench.old bench.new) }
-    ensures cut { IfErr result (λ f. EachLane (λ q a b x. IsCut (setting_of L.Driver.driver L.Device.device L.layout G.party V.party) (view m.now) q b x)
+    ensures cut { IfErr result (λ f. EachLane
+        (λ q a b x. IsCut (setting_of L.Driver.driver L.Device.device L.layout G.party V.party) (view m.now) q b x)
         floor.new.lanes.items bench.new.guests.items bench.new.devices.items) }
     ensures fault { IfErr result (λ f. IsFaultOf V.party (length m.now.queues) (faulty f) bench.old bench.new) }
 {

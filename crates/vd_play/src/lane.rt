@@ -22,7 +22,8 @@ pub(crate) fn lane_round<L: Layout, G: Guest<L>, V: Device<L>>(
     requires { (plan : Plan) × (q : ℕ) × (on : Bool) × (k : ℕ) × (r : ℕ)
         × InEpoch (setting_of L.Driver.driver L.Device.device L.layout G.party V.party) plan q on k r lane.old guest.old device.old }
     ensures few { result ≤ 8 }
-    ensures goes { LaneGoes (setting_of L.Driver.driver L.Device.device L.layout G.party V.party) lane.old lane.new guest.old guest.new device.old device.new result }
+    ensures goes { LaneGoes (setting_of L.Driver.driver L.Device.device L.layout G.party V.party)
+        lane.old lane.new guest.old guest.new device.old device.new result }
     ensures carried { V.party.carried device.new ≡ V.party.carried device.old }
     ensures faults { V.party.faults device.new ≡ V.party.faults device.old }
 {

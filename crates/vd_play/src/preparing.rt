@@ -41,7 +41,8 @@ fn make_lane<L: Layout, G: Guest<L>, V: Device<L>>(
     requires queue { queue < length m.now.queues }
     requires guest { IsEmptyGuest G.party guest.old }
     requires device { IsEmptyDevice V.party device.old }
-    ensures ok { IfOk result (λ lane. Stopped (setting_of L.Driver.driver L.Device.device L.layout G.party V.party) (view m.now) queue 0 lane guest.new device.new) }
+    ensures ok { IfOk result (λ lane. Stopped (setting_of L.Driver.driver L.Device.device L.layout G.party V.party) (view m.now)
+        queue 0 lane guest.new device.new) }
     ensures guest { IsUnused G.party guest.new }
     ensures device { IsUnchanged V.party device.old device.new }
 {
@@ -70,7 +71,8 @@ pub fn prepare<L: Layout, G: Guest<L>, V: Device<L>>(
     requires layout { IsOfLayout L.layout (view m.now) }
     requires parties { HasLanes (length m.now.queues) bench.old }
     requires empty { IsEmptyBench G.party V.party bench.old }
-    ensures ok { IfOk result (λ floor. IsPrepared (setting_of L.Driver.driver L.Device.device L.layout G.party V.party) (view m.now) floor.lanes.items bench.new) }
+    ensures ok { IfOk result (λ floor. IsPrepared (setting_of L.Driver.driver L.Device.device L.layout G.party V.party) (view m.now)
+        floor.lanes.items bench.new) }
     ensures keeps { KeepsBench V.party (length m.now.queues) bench.old bench.new }
     ensures untouched { IsUntouched G.party V.party bench.old bench.new }
 {

@@ -54,7 +54,8 @@ fn round<L: Layout, G: Guest<L>, V: Device<L>>(
     ensures few { result ≤ 64 }
     ensures keeps { KeepsBench V.party (length floor.old.lanes.items) bench.old bench.new }
     ensures faults { HasNoFault V.party bench.old bench.new }
-    ensures goes { RoundGoes (setting_of L.Driver.driver L.Device.device L.layout G.party V.party) floor.old.lanes.items floor.new.lanes.items bench.old bench.new result }
+    ensures goes { RoundGoes (setting_of L.Driver.driver L.Device.device L.layout G.party V.party)
+        floor.old.lanes.items floor.new.lanes.items bench.old bench.new result }
 {
     let mut made = 0;
     for i in 0..floor.lanes.len() {
@@ -82,7 +83,8 @@ pub(crate) fn run_epoch<L: Layout, G: Guest<L>, V: Device<L>>(
     ensures few { result ≤ 274877906944 }
     ensures keeps { KeepsBench V.party (length floor.old.lanes.items) bench.old bench.new }
     ensures faults { HasNoFault V.party bench.old bench.new }
-    ensures goes { EpochGoes (setting_of L.Driver.driver L.Device.device L.layout G.party V.party) floor.old.lanes.items floor.new.lanes.items bench.old bench.new result }
+    ensures goes { EpochGoes (setting_of L.Driver.driver L.Device.device L.layout G.party V.party)
+        floor.old.lanes.items floor.new.lanes.items bench.old bench.new result }
 {
     let mut made = 0;
     for turn in 0..ROUNDS {
@@ -109,7 +111,8 @@ pub(crate) fn drain<L: Layout, G: Guest<L>, V: Device<L>>(
     ensures keeps { KeepsBench V.party (length floor.old.lanes.items) bench.old bench.new }
     ensures faults { HasNoFault V.party bench.old bench.new }
     ensures done { AllDone G.party (length floor.old.lanes.items) bench.new }
-    ensures goes { Drains (setting_of L.Driver.driver L.Device.device L.layout G.party V.party) floor.old.lanes.items floor.new.lanes.items bench.old bench.new result }
+    ensures goes { Drains (setting_of L.Driver.driver L.Device.device L.layout G.party V.party)
+        floor.old.lanes.items floor.new.lanes.items bench.old bench.new result }
 {
     let mut made = 0;
     for turn in 0..ROUNDS {

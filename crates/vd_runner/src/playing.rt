@@ -25,8 +25,8 @@ fn status_of(fault: PlayFault) -> Status
     }
 }
 
-/// Plays the machine with the parties of the bench, by the turns of the seed where there is one, and writes its report to the sink. All memory is taken before the
-/// first step of a ring.
+/// Plays the machine with the parties of the bench, by the turns of the seed where there is one, and writes its report to
+/// the sink. All memory is taken before the first step of a ring.
 pub fn play_on<L: Layout, K: Sink, G: Guest<L>, V: Device<L>>(
     alloc: Global,
     m: &Machine,
@@ -37,7 +37,8 @@ pub fn play_on<L: Layout, K: Sink, G: Guest<L>, V: Device<L>>(
 ) -> Status
     requires layout { IsOfLayout L.layout (view m.now) }
     requires empty { IsEmptyBench G.party V.party bench.old }
-    ensures answer { PlaysTo (setting_of L.Driver.driver L.Device.device L.layout G.party V.party) (view m.now) brief bench.old bench.new
+    ensures answer { PlaysTo (setting_of L.Driver.driver L.Device.device L.layout G.party V.party) (view m.now) brief
+        bench.old bench.new
         (K.held sink.old) (K.held sink.new) (K.faults sink.old) (K.faults sink.new) result }
     ensures nothing { has_played result ≡ false → IsUntouched G.party V.party bench.old bench.new }
 {

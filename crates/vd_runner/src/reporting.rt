@@ -27,8 +27,10 @@ pub fn report<L: Layout, K: Sink, G: Guest<L>, V: Device<L>>(
 ) -> Result<(), Failed>
     requires parties { HasLanes (length m.now.queues) bench.now }
     requires played { AllPlayed (setting_of L.Driver.driver L.Device.device L.layout G.party V.party) (view m.now) bench.now }
-    ensures ok { OnOk result (Appends (K.held sink.old) (K.held sink.new) (report (view m.now) brief (all_lens V.party (view m.now) bench.now))) }
-    ensures err { OnErr result (AppendsFront (K.held sink.old) (K.held sink.new) (report (view m.now) brief (all_lens V.party (view m.now) bench.now))) }
+    ensures ok { OnOk result (Appends (K.held sink.old) (K.held sink.new)
+        (report (view m.now) brief (all_lens V.party (view m.now) bench.now))) }
+    ensures err { OnErr result (AppendsFront (K.held sink.old) (K.held sink.new)
+        (report (view m.now) brief (all_lens V.party (view m.now) bench.now))) }
     ensures cause { HasCause (K.faults sink.old) (K.faults sink.new) result }
 {
     let mut drained = 0u64;
