@@ -114,16 +114,17 @@ impl<'a, L: Layout, V: Device<L>> Device<L> for RecordingDevice<'a, V> {
         self.inner.reserve(alloc, window, events, chains)
     }
 
-    fn attach(
+    fn attach<'b>(
         &mut self,
         order: &Order,
         end: L::Device,
-        control: Option<&Self>,
+        control: Option<&'b Self>,
     ) -> Result<(), Refused<L>> {
-        match control {
-            Some(other) => self.inner.attach(order, end, Some(&other.inner)),
-            None => self.inner.attach(order, end, None),
-        }
+        let inner: Option<&'b V> = match control {
+            Some(other) => Some(&other.inner),
+            None => None,
+        };
+        self.inner.attach(order, end, inner)
     }
 
     fn step<P: Port>(&mut self, port: &mut P) -> Move {
