@@ -1,5 +1,5 @@
 -- The words of a chain's table are read as the chain.
-use Rattle.std.proofs.Common.{◌≡◌, ℕ, zero, suc, ◌+◌, ◌-◌, ◌*◌, ◌/◌, ◌^◌, ◌<◌, ◌≤◌, ◌==◌, nat_lt, nat_le, Bool, true, false, not, ◌&&◌, ◌||◌, List, [], ◌∷◌, ◌++◌, length, drop, refl, ap, sym, ◌∙◌, arith, Result, Ok, is_err, inl, inr, add-one, add-zero, zero-add, get_or}
+use Rattle.std.proofs.Common.{◌≡◌, ◌≢◌, ◌%◌, ℕ, zero, suc, ◌+◌, ◌-◌, ◌*◌, ◌/◌, ◌^◌, ◌<◌, ◌≤◌, ◌==◌, nat_lt, nat_le, Bool, true, false, not, ◌&&◌, ◌||◌, List, [], ◌∷◌, ◌++◌, length, drop, refl, ap, sym, ◌∙◌, arith, Result, Ok, is_err, inl, inr, add-one, add-zero, zero-add, get_or}
 use Rattle.std.proofs.lemmas.List.{append-nil, at_drop_all}
 use Rattle.std.proofs.lemmas.List.FromFn.{fill_by_all}
 use Rattle.std.proofs.lemmas.Bool.{cases_lt, lt-ltb, le-ltb, lt-leb, ne_eqb, and_left, and_right, or_from}
@@ -100,6 +100,13 @@ packed_indirect false = refl
 
 pub second_is : (kind : TableKind) (c : List Piece) (i : ℕ) → i < length c → second_at (table_words kind c) i ≡ second_word kind (get_or c i blank) (nat_lt (i + 1) (length c)) i
 second_is kind c i h = word_at kind 0 c i h ∙ ap (second_word kind (get_or c i blank) (nat_lt (i + 1) (length c))) (zero-add i)
+
+-- a word by its number
+pub even_word : (kind : TableKind) (c : List Piece) (at : ℕ) → at % 2 ≡ 0 → at < 2 * length c → get_or (table_words kind c) at 0 ≡ (get_or c (at / 2) blank).addr
+even_word kind c at even h = let e : at ≡ 2 * (at / 2) = omega arith in ap (λ (n : ℕ). get_or (table_words kind c) n 0) e ∙ addr_at kind 0 c (at / 2) (omega arith)
+
+pub odd_word : (kind : TableKind) (c : List Piece) (at : ℕ) → at % 2 ≢ 0 → at < 2 * length c → get_or (table_words kind c) at 0 ≡ second_word kind (get_or c (at / 2) blank) (nat_lt (at / 2 + 1) (length c)) (at / 2)
+odd_word kind c at odd h = let e : at ≡ 2 * (at / 2) + 1 = omega arith in ap (λ (n : ℕ). get_or (table_words kind c) n 0) e ∙ second_is kind c (at / 2) (omega arith)
 
 len_small : (c : List Piece) → IsChain c → (i : ℕ) → i < length c → (get_or c i blank).len < 2 ^ 32
 len_small c chain i h = (chain.3 i blank h).1

@@ -8,7 +8,7 @@ mod write;
 
 pub use descriptor::TableKind;
 pub use read::{TableFault, read_table};
-pub use write::write_plan;
+pub use write::{table_word, write_plan};
 
 #[cfg(test)]
 mod tests;

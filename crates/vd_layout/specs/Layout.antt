@@ -52,10 +52,9 @@ pub record IsMadeWith (l : LayoutModel) (n : ℕ) (f : Features) (c : Bool) (g :
   pub features : g.features ≡ f
   pub control : g.control ≡ c
 
--- what a ring is made with today: no tables
+-- a ring may have this size; any features will do
 pub record CanMake (l : LayoutModel) (size : ℕ) (f : Features) : Type 0 where
   pub lawful : l.lawful_size size ≡ true
-  pub direct : f.indirect ≡ false
 
 -- both ends of a fresh ring
 pub record IsFresh {D E : Type 0} (d : DriverModel D) (e : DeviceModel E) (l : LayoutModel) (size : ℕ) (f : Features) (control : Bool) (x : D) (y : E) : Type 0 where

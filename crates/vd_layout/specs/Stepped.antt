@@ -2,7 +2,7 @@
 -- names, and what then stands in the words.
 use Rattle.std.proofs.Common.{◌≡◌, ℕ, List, sym, ◌∙◌, subst}
 use Rattle.vd_words.specs.Model.{PortModel, IsLawfulPort}
-use Rattle.vd_words.specs.Step.{answered, written}
+use Rattle.vd_words.specs.Step.{written}
 use Rattle.vd_ring.specs.declared.act.DriverAct.{DriverAct}
 use Rattle.vd_ring.specs.declared.act.DriverAct.TheVariants as driver_act
 use Rattle.vd_ring.specs.declared.act.DeviceAct.{DeviceAct}

@@ -1,6 +1,6 @@
 -- A chain stays lawful where the address of one piece is set.
-use Rattle.std.proofs.Common.{◌≡◌, ℕ, ◌<◌, ◌≤◌, ◌^◌, List, length, slice_set, slice_index_or, drop, sym, ◌∙◌, ap, subst, arith, inl, inr}
-use Rattle.std.specs.List.{All, refill}
+use Rattle.std.proofs.Common.{◌≡◌, ℕ, ◌<◌, ◌^◌, List, length, slice_set, slice_index_or, drop, sym, ◌∙◌, ap, subst, arith, inl, inr}
+use Rattle.std.specs.List.{refill}
 use Rattle.std.proofs.lemmas.Bool.{cases_eq}
 use Rattle.std.proofs.lemmas.List.{get_or-set_same, get_or-set_other, get_or_default, take_at}
 use Rattle.std.proofs.lemmas.List.Elements.{All-set, All-get_or}

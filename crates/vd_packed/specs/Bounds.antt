@@ -3,7 +3,7 @@ use Rattle.std.proofs.Common.{ℕ, suc, ◌*◌, ◌<◌, ◌≤◌, Bool, true,
 use Rattle.std.specs.List.{sum_by}
 use Rattle.std.proofs.lemmas.List.Sums.{sum_by-cons}
 use Rattle.vd_model.specs.declared.chain.Piece.{Piece}
-use Rattle.vd_model.specs.Chains.{needs}
+use Rattle.vd_model.specs.Chains.{IsChain, needs}
 use Rattle.vd_ring.specs.declared.frame.Frame.{Frame}
 use Rattle.vd_ring.specs.declared.frame.Used.{Used}
 use Rattle.vd_ring.specs.declared.driver.DriverDone.{DriverDone}
@@ -11,9 +11,7 @@ use Rattle.vd_ring.specs.Frames.{limit}
 use Rattle.vd_ring.specs.History.{offers, chain, chain_at}
 use Rattle.vd_ring.specs.Places.{Places}
 use Rattle.vd_ring.proofs.HeldPlaces.{chain_fits}
-use Rattle.vd_packed_ring.specs.PackedWords.{IsBuilt}
 use Rattle.vd_packed_ring.specs.PackedPositions.{opos}
-use Rattle.vd_packed_ring.proofs.Spelled.{needs_pieces}
 
 pub few_each : (g : List Piece → ℕ) (cs : List (List Piece)) → ((k : ℕ) → k < length cs → g (chain_at cs k) ≤ 16) → sum_by g cs ≤ 16 * length cs
 few_each g [] each = omega arith
@@ -23,9 +21,17 @@ pub few_used : (g : Used → ℕ) (us : List Used) → ((u : Used) → g u ≤ 1
 few_used g [] each = omega arith
 few_used g (u ∷ us) each = omega (arith, sum_by-cons g u us, each u, few_used g us each)
 
+-- a chain takes 16 places at most
+pub needs_few : (f : Frame) (c : List Piece) → IsChain c → needs f.features c ≤ 16
+needs_few f c is = at f.features.indirect
+  where
+    at : (b : Bool) → (if b then 1 else length c) ≤ 16
+    at true = omega arith
+    at false = is.1
+
 -- the driver's position
-pub opos_few : (f : Frame) (o : List DriverDone) → IsBuilt f → Places f o → opos f o ≤ 16 * length (offers o)
-opos_few f o b p = few_each (needs f.features) (offers o) (λ k low. omega (arith, needs_pieces f (chain o k) b, (chain_fits f o k p low).chain.1))
+pub opos_few : (f : Frame) (o : List DriverDone) → Places f o → opos f o ≤ 16 * length (offers o)
+opos_few f o p = few_each (needs f.features) (offers o) (λ k low. needs_few f (chain o k) (chain_fits f o k p low).chain)
 
 -- a ring's limit has 32 bits
 pub limit_small : (f : Frame) → limit f ≤ 4294967295

@@ -1,5 +1,5 @@
 -- For which views the device's end of a packed ring stands, and what it has begun.
-use Rattle.std.specs.Prelude.{◌≡◌, ℕ, ◌+◌, ◌-◌, ◌*◌, ◌<◌, ◌≤◌, ◌&&◌, not, nat_eq, nat_lt, Bool, true, false, List, [], ◌∷◌, ◌++◌, length, Option, None, Some, if◌then◌else◌, slice_index_or}
+use Rattle.std.specs.Prelude.{◌≡◌, ℕ, ◌+◌, ◌-◌, ◌*◌, ◌/◌, ◌<◌, ◌≤◌, ◌&&◌, not, nat_eq, nat_lt, Bool, true, false, List, [], ◌∷◌, ◌++◌, length, Option, None, Some, if◌then◌else◌, slice_index_or}
 use Rattle.std.proofs.Common.{ap, ◌∙◌}
 use Rattle.vd_model.specs.declared.chain.Piece.{Piece}
 use Rattle.vd_model.specs.Chains.{needs}
@@ -12,8 +12,8 @@ use Rattle.vd_ring.specs.declared.device.DeviceNow.TheVariants as now
 use Rattle.vd_ring.specs.declared.device.DeviceView.{DeviceView}
 use Rattle.vd_ring.specs.Frames.{limit}
 use Rattle.vd_ring.specs.History.{takes, gives, heads, running, taken_head, chain_at, numbers, occurs, IsWhole}
-use Rattle.vd_packed_ring.specs.PackedWords.{kick_at}
-use Rattle.vd_packed_ring.specs.PackedChains.{pieces_in}
+use Rattle.vd_packed_ring.specs.PackedWords.{kick_at, id_of, len_of, names_table}
+use Rattle.vd_packed_ring.specs.PackedChains.{pieces_of, pieces_in, has_table}
 use Rattle.vd_packed_ring.specs.PackedPositions.{tpos, upos, base_of}
 use Rattle.vd_packed_ring.specs.PackedDevice.{device_side, device_act, device_shows}
 use Rattle.vd_layout.specs.Begun.{DeviceOp}
@@ -73,10 +73,28 @@ pub record IsTaking (f : Frame) (s : List DeviceDone) (pieces : List Piece) (spo
   pub whole : List ℕ
   pub is : d ≡ now.Taking (word ∷ words)
   pub parts : word ∷ words ≡ whole ++ more
+  pub direct : has_table f (word ∷ words) ≡ false
   pub limited : length (takes s) < limit f
   pub spelled : pieces_in whole ≡ pieces
   pub even : length whole ≡ 2 * length pieces
   pub here : IsAt spot f.size (tpos f s + length pieces)
+
+-- a take has loaded the two words of a descriptor that names a table, the words of whole pieces of that and then `more`; the next
+-- descriptor is at this spot
+pub record IsTabling (f : Frame) (s : List DeviceDone) (pieces : List Piece) (second : ℕ) (spot : Spot) (more : List ℕ) (d : DeviceNow) : Type 0 where
+  pub addr : ℕ
+  pub words : List ℕ
+  pub whole : List ℕ
+  pub is : d ≡ now.Taking (second ∷ addr ∷ words)
+  pub parts : words ≡ whole ++ more
+  pub has : (f.features.indirect && names_table second) ≡ true
+  pub limited : length (takes s) < limit f
+  pub spelled : pieces_of whole ≡ pieces
+  pub even : length whole ≡ 2 * length pieces
+  pub here : IsAt spot f.size (tpos f s + 1)
+  pub inside : id_of second < f.size
+  pub left : length pieces < len_of second / 16
+  pub few : len_of second / 16 ≤ 16
 
 abbrev pub DeviceStepStands : DeviceStep → List Piece → ℕ → Spot → Frame → List DeviceDone → DeviceNow → Type 0
 DeviceStepStands step.Idle ps w spot f s d = d ≡ now.Idle
@@ -84,6 +102,8 @@ DeviceStepStands step.Resting ps w spot f s d = (d ≡ now.Idle) × (running s �
 DeviceStepStands step.Look ps w spot f s d = d ≡ now.Idle
 DeviceStepStands step.Address ps w spot f s d = IsTaking f s ps spot (w ∷ []) d
 DeviceStepStands step.Second ps w spot f s d = IsTaking f s ps spot [] d
+DeviceStepStands step.TableAddress ps w spot f s d = IsTabling f s ps w spot [] d
+DeviceStepStands (step.TableSecond a) ps w spot f s d = IsTabling f s ps w spot (a ∷ []) d
 DeviceStepStands (step.Give k h n) ps w spot f s d = (d ≡ now.Idle) × IsNext f s k h n
 DeviceStepStands (step.Check n) ps w spot f s d = (old : ℕ) × (d ≡ now.Checking old (upos f s)) × (old + n ≡ upos f s) × (0 < n) × (n ≤ f.size)
 DeviceStepStands step.Ring ps w spot f s d = (old : ℕ) × (new : ℕ) × (d ≡ now.Ringing old new)
@@ -125,6 +145,8 @@ IsSignal step.Resting = ⊥
 IsSignal step.Look = ⊥
 IsSignal step.Address = ⊥
 IsSignal step.Second = ⊥
+IsSignal step.TableAddress = ⊥
+IsSignal (step.TableSecond a) = ⊥
 IsSignal (step.Give k h n) = ⊥
 IsSignal _ = Unit {0}
 
@@ -159,6 +181,8 @@ device_begun step.Resting = DeviceOp.idle
 device_begun step.Look = DeviceOp.take
 device_begun step.Address = DeviceOp.take
 device_begun step.Second = DeviceOp.take
+device_begun step.TableAddress = DeviceOp.take
+device_begun (step.TableSecond a) = DeviceOp.take
 device_begun (step.Give k h n) = DeviceOp.give k n
 device_begun (step.Check n) = DeviceOp.signal
 device_begun step.Ring = DeviceOp.signal
@@ -175,9 +199,11 @@ device_begun step.RestLook = DeviceOp.rest
 abbrev pub device_left : DeviceStep → ℕ → ℕ
 device_left step.Idle n = 0
 device_left step.Resting n = 0
-device_left step.Look n = 34
-device_left step.Address n = 2 * (16 - n) + 1
-device_left step.Second n = 2 * (16 - n) + 2
+device_left step.Look n = 36
+device_left step.Address n = 2 * (16 - n) + 3
+device_left step.Second n = 2 * (16 - n) + 4
+device_left step.TableAddress n = 2 * (16 - n) + 2
+device_left (step.TableSecond a) n = 2 * (16 - n) + 1
 device_left (step.Give k h l) n = 3
 device_left (step.Check k) n = 2
 device_left step.Ring n = 1

@@ -29,7 +29,8 @@ use Rattle.vd_packed.specs.declared.device.PackedDevice.{PackedDevice}
 use Rattle.vd_packed.specs.declared.device.DeviceStep.{DeviceStep}
 use Rattle.vd_packed.specs.declared.device.DeviceStep.TheVariants as step
 use Rattle.vd_packed.specs.declared.spot.Spot.{Spot}
-use Rattle.vd_packed.specs.DeviceEnd.{HoldsRunning, number_at, IsNext, IsTaking, DeviceStands, DeviceStepStands, DeviceStepArmed, device_owes, not_armed, is_armed, device_begun, device_left, is_resting, is_idle, packed_device}
+use Rattle.vd_packed.specs.DeviceEnd.{HoldsRunning, number_at, IsNext, IsTaking, IsTabling, DeviceStands, DeviceStepStands, DeviceStepArmed, device_owes, not_armed, is_armed, device_begun, device_left, is_resting, is_idle, packed_device}
+use Rattle.vd_packed_ring.proofs.DeviceStaying.{device_stays}
 use Rattle.vd_packed.specs.Places.{base_at_spot}
 use Rattle.vd_packed.specs.Spots.{base_word}
 
@@ -60,6 +61,8 @@ rests_at step.Resting ps w p f s d h e = h.0
 rests_at step.Look ps w p f s d h e = absurd (cc e)
 rests_at step.Address ps w p f s d h e = absurd (cc e)
 rests_at step.Second ps w p f s d h e = absurd (cc e)
+rests_at step.TableAddress ps w p f s d h e = absurd (cc e)
+rests_at (step.TableSecond a) ps w p f s d h e = absurd (cc e)
 rests_at (step.Give k h n) ps w p f s d x e = absurd (cc e)
 rests_at step.Rest ps w p f s d h e = absurd (cc e)
 rests_at (step.Check m) ps w p f s d h e = absurd (cc e)
@@ -78,6 +81,8 @@ ends_at step.Resting n h = refl
 ends_at step.Look n h = absurd (omega arith)
 ends_at step.Address n h = absurd (omega arith)
 ends_at step.Second n h = absurd (omega arith)
+ends_at step.TableAddress n h = absurd (omega arith)
+ends_at (step.TableSecond a) n h = absurd (omega arith)
 ends_at (step.Give k h l) n x = absurd (omega arith)
 ends_at step.Rest n h = absurd (omega arith)
 ends_at (step.Check m) n h = absurd (omega arith)
@@ -97,6 +102,8 @@ resting_idle step.Idle e = absurd (cc e)
 resting_idle step.Look e = absurd (cc e)
 resting_idle step.Address e = absurd (cc e)
 resting_idle step.Second e = absurd (cc e)
+resting_idle step.TableAddress e = absurd (cc e)
+resting_idle (step.TableSecond a) e = absurd (cc e)
 resting_idle (step.Give k h l) e = absurd (cc e)
 resting_idle step.Rest e = absurd (cc e)
 resting_idle (step.Check m) e = absurd (cc e)
@@ -121,6 +128,8 @@ fresh_idle step.Resting m n e = absurd (cc e)
 fresh_idle step.Look m n e = absurd (cc e)
 fresh_idle step.Address m n e = absurd (cc e)
 fresh_idle step.Second m n e = absurd (cc e)
+fresh_idle step.TableAddress m n e = absurd (cc e)
+fresh_idle (step.TableSecond a) m n e = absurd (cc e)
 fresh_idle (step.Give k h l) m n e = absurd (cc e)
 fresh_idle step.Rest m n e = absurd (cc e)
 fresh_idle (step.Check k) m n e = absurd (cc e)
@@ -193,10 +202,28 @@ taking_loaded f s ps p more d l i y t = record {
   whole = t.whole;
   is = t.is;
   parts = t.parts;
+  direct = t.direct;
   limited = t.limited;
   spelled = t.spelled;
   even = t.even;
   here = t.here;
+}
+
+tabling_loaded : (f : Frame) (s : List DeviceDone) (ps : List Piece) (w : ℕ) (p : Spot) (more : List ℕ) (d : DeviceNow) (l i y : ℕ) → IsTabling f s ps w p more d → IsTabling f (LoadCommand l i y ∷ s) ps w p more d
+tabling_loaded f s ps w p more d l i y t = record {
+  addr = t.addr;
+  words = t.words;
+  whole = t.whole;
+  is = t.is;
+  parts = t.parts;
+  has = t.has;
+  limited = t.limited;
+  spelled = t.spelled;
+  even = t.even;
+  here = t.here;
+  inside = t.inside;
+  left = t.left;
+  few = t.few;
 }
 
 step_loaded : (t : DeviceStep) (ps : List Piece) (w : ℕ) (p : Spot) (f : Frame) (s : List DeviceDone) (d : DeviceNow) (l i y : ℕ) → DeviceStepStands t ps w p f s d → DeviceStepStands t ps w p f (LoadCommand l i y ∷ s) d
@@ -205,6 +232,8 @@ step_loaded step.Resting ps w p f s d l i y x = x
 step_loaded step.Look ps w p f s d l i y x = x
 step_loaded step.Address ps w p f s d l i y x = taking_loaded f s ps p (w ∷ []) d l i y x
 step_loaded step.Second ps w p f s d l i y x = taking_loaded f s ps p [] d l i y x
+step_loaded step.TableAddress ps w p f s d l i y x = tabling_loaded f s ps w p [] d l i y x
+step_loaded (step.TableSecond a) ps w p f s d l i y x = tabling_loaded f s ps w p (a ∷ []) d l i y x
 step_loaded (step.Give k h n) ps w p f s d l i y x = (x.0, next_loaded f s k h n l i y x.1)
 step_loaded step.Rest ps w p f s d l i y x = x
 step_loaded (step.Check m) ps w p f s d l i y x = x
@@ -238,10 +267,28 @@ taking_stored f s ps p more d l y t = record {
   whole = t.whole;
   is = t.is;
   parts = t.parts;
+  direct = t.direct;
   limited = t.limited;
   spelled = t.spelled;
   even = t.even;
   here = t.here;
+}
+
+tabling_stored : (f : Frame) (s : List DeviceDone) (ps : List Piece) (w : ℕ) (p : Spot) (more : List ℕ) (d : DeviceNow) (l y : ℕ) → IsTabling f s ps w p more d → IsTabling f (StoreAck l y ∷ s) ps w p more d
+tabling_stored f s ps w p more d l y t = record {
+  addr = t.addr;
+  words = t.words;
+  whole = t.whole;
+  is = t.is;
+  parts = t.parts;
+  has = t.has;
+  limited = t.limited;
+  spelled = t.spelled;
+  even = t.even;
+  here = t.here;
+  inside = t.inside;
+  left = t.left;
+  few = t.few;
 }
 
 step_stored : (t : DeviceStep) (ps : List Piece) (w : ℕ) (p : Spot) (f : Frame) (s : List DeviceDone) (d : DeviceNow) (l y : ℕ) → DeviceStepStands t ps w p f s d → DeviceStepStands t ps w p f (StoreAck l y ∷ s) d
@@ -250,6 +297,8 @@ step_stored step.Resting ps w p f s d l y x = x
 step_stored step.Look ps w p f s d l y x = x
 step_stored step.Address ps w p f s d l y x = taking_stored f s ps p (w ∷ []) d l y x
 step_stored step.Second ps w p f s d l y x = taking_stored f s ps p [] d l y x
+step_stored step.TableAddress ps w p f s d l y x = tabling_stored f s ps w p [] d l y x
+step_stored (step.TableSecond a) ps w p f s d l y x = tabling_stored f s ps w p (a ∷ []) d l y x
 step_stored (step.Give k h n) ps w p f s d l y x = (x.0, next_stored f s k h n l y x.1)
 step_stored step.Rest ps w p f s d l y x = x
 step_stored (step.Check m) ps w p f s d l y x = x
@@ -302,6 +351,7 @@ device_laws = record {
   framed = λ v o a r. device_frame v o a r;
   stays_unarmed = device_unarmed;
   looks = device_looks;
+  stays = device_stays;
   armed = λ e v st on. (tpos v.frame v.done, is_armed e v st on);
   not_armed = λ e v st off. not_armed e v st off;
   unarmed_still = still_unarmed;

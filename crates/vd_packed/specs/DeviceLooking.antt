@@ -52,7 +52,7 @@ nothing_goes e v w is st off =
         doing = n.0;
       };
       is = sym (ap (λ t. device_act_at t v op.Take (Load p) w) n.0 ∙ ap (λ (b : Bool). if b then act.Moved else act.Nothing) none);
-      left = subst (λ t. 0 < device_left t (length e.pieces.items)) (sym is) (let z : 0 < 34 = omega arith in z);
+      left = subst (λ t. 0 < device_left t (length e.pieces.items)) (sym is) (let z : 0 < 36 = omega arith in z);
       says = subst (λ t. DeviceSays packed_words act.Nothing (device_begun t) DeviceOp.idle f s (device_after v op.Take (Load p) w).done) (sym is) (refl, refl, ap (λ (y : DeviceView). y.done) is_after);
       rests = refl;
     }
@@ -85,6 +85,7 @@ look_goes e e2 v w is st on empty told =
           whole = [];
           is = refl;
           parts = refl;
+          direct = refl;
           limited = tells.0;
           spelled = sym empty;
           even = ap (λ (l : List Piece). 2 * length l) (sym empty);
@@ -92,7 +93,7 @@ look_goes e e2 v w is st on empty told =
         };
       };
       is = sym (ap (λ t. device_act_at t v op.Take (Load p) w) n.0 ∙ ap (λ (b : Bool). if b then act.Moved else act.Nothing) shows);
-      left = subst (λ t. 2 * (16 - length e2.pieces.items) + 1 < device_left t (length e.pieces.items)) (sym is) (omega (arith, ap (λ (l : List Piece). length l) empty));
+      left = subst (λ t. 2 * (16 - length e2.pieces.items) + 3 < device_left t (length e.pieces.items)) (sym is) (omega (arith, ap (λ (l : List Piece). length l) empty));
       says = subst (λ t. DeviceSays packed_words act.Moved (device_begun t) DeviceOp.take f s (device_after v op.Take (Load p) w).done) (sym is) (refl, ap (λ (y : DeviceView). y.done) is_after);
       rests = refl;
     }

@@ -13,31 +13,33 @@ use Rattle.vd_ring.specs.declared.device.DeviceDone.{DeviceDone}
 use Rattle.vd_ring.specs.declared.device.DeviceDone.TheVariants.{Take}
 use Rattle.vd_ring.specs.declared.device.DeviceNow.TheVariants as now
 use Rattle.vd_ring.specs.declared.device.DeviceView.{DeviceView}
+use Rattle.vd_ring.specs.Frames.{limit}
 use Rattle.vd_ring.specs.History.{takes, gives, heads, running, taken_head, chain_at, used_at, occurs}
 use Rattle.vd_ring.proofs.Counts.{one, one_same, one_other, one_more, one_above, occurs_push, Contains_from}
 use Rattle.vd_ring.proofs.ListSteps.{number_in}
 use Rattle.vd_packed_ring.specs.PackedWords.{id_of, goes_on}
-use Rattle.vd_packed_ring.specs.PackedChains.{piece_of, last_id, loaded_head, is_whole, chain_of}
+use Rattle.vd_packed_ring.specs.PackedChains.{piece_of, last_id, is_tabled, loaded_head, is_whole, chain_of}
 use Rattle.vd_packed_ring.specs.PackedPositions.{tpos, upos}
-use Rattle.vd_packed_ring.specs.PackedDevice.{IsNewHead, device_after, device_after_at, device_takes, device_act_at}
-use Rattle.vd_packed_ring.proofs.Positions.{sum_entries}
-use Rattle.vd_packed_ring.proofs.Spelled.{needs_pieces, chain_is, head_is}
+use Rattle.vd_packed_ring.specs.PackedDevice.{IsNewHead, BeginsChain, DeviceNext, device_after, device_after_at, device_takes, device_act_at}
+use Rattle.vd_packed_ring.proofs.Positions.{needs_some, sum_entries}
 use Rattle.vd_layout.specs.Begun.{DeviceOp, IsDeviceOp}
 use Rattle.vd_layout.specs.Device.{DeviceSays, IsTaken}
 use Rattle.vd_packed.specs.declared.device.PackedDevice.{PackedDevice}
 use Rattle.vd_packed.specs.declared.device.DeviceStep.TheVariants as step
 use Rattle.vd_packed.specs.declared.device.Told.{Told}
+use Rattle.vd_packed.specs.declared.spot.Spot.{Spot}
 use Rattle.vd_packed.specs.declared.device.Told.TheVariants as told
 use Rattle.vd_packed.specs.Telling.{act_of}
 use Rattle.vd_packed.specs.DriverEnd.{packed_words}
 use Rattle.vd_packed.specs.DeviceEnd.{TakesOnce, HoldsRunning, number_at, not_armed, DeviceStands, device_begun, device_left}
 use Rattle.vd_packed.specs.DeviceGiving.{Goes, at_step}
 use Rattle.vd_packed.specs.Places.{same_at}
-use Rattle.vd_packed.specs.Spots.{forward}
-use Rattle.vd_packed.specs.DeviceTaking.{Loaded, address_next, is_ended, few_pieces, spelled_more, spot_more, more_goes, whole_chain}
-use Rattle.vd_packed.specs.Bounds.{few_each, limit_small}
+use Rattle.vd_packed.specs.Spots.{IsAt, forward}
+use Rattle.vd_packed.specs.DeviceTaking.{Loaded, head_direct, address_next, is_direct, is_ended, spot_more, more_goes, whole_chain}
+use Rattle.vd_packed.specs.Bounds.{few_each, limit_small, needs_few}
 use Rattle.vd_packed.specs.Loaded.{HasMore, HasTaken, MayTake}
 use Rattle.vd_packed.specs.Loads.{id_last}
+use Rattle.vd_packed.specs.Tabling.{direct_needs}
 
 -- it leaves the position of what was given
 take_upos : (f : Frame) (s : List DeviceDone) (c : List Piece) (h : ℕ) → TakesOnce s → upos f (Take c h ∷ s) ≡ upos f s
@@ -124,7 +126,7 @@ holds_more table counts guesses guesses' h n f s c held new guess sized few some
 told_head : (e : PackedDevice) (v : DeviceView) (x : ℕ) → (l : Loaded e v x) → DeviceStands e v → goes_on e.second ≡ false → l.told.head ≡ id_of e.second
 told_head e v x l st off =
     let ws : List ℕ = l.had.word ∷ l.had.words ++ x ∷ [] in
-    sym (l.told.complete (is_ended e v x st l ∙ ap not off)).2 ∙ (head_is v.frame ws st.made.built ∙ (ap last_id l.words ∙ id_last l.had.whole e.second x (length e.pieces.items) l.had.even))
+    sym (l.told.complete (is_ended e v x st l ∙ ap not off)).2 ∙ (head_direct v.frame ws l.direct ∙ (ap last_id l.words ∙ id_last l.had.whole e.second x (length e.pieces.items) l.had.even))
 
 taken_few : (f : Frame) (s : List DeviceDone) (c : List Piece) (h : ℕ) → needs f.features c ≤ 16 → ((k : ℕ) → needs f.features (chain_at (takes s) k) ≤ 16) → (k : ℕ) → needs f.features (chain_at (takes (Take c h ∷ s)) k) ≤ 16
 taken_few f s c h short few k = elim (cases_lt k (length (takes s))) [
@@ -135,94 +137,105 @@ taken_few f s c h short few k = elim (cases_lt k (length (takes s))) [
   ]
 ]
 
-address_last : (e e2 : PackedDevice) (v : DeviceView) (h x n : ℕ) (cs : List Piece) → (l : Loaded e v x) → DeviceStands e v → e.doing ≡ step.Address → goes_on e.second ≡ false → h ≡ id_of e.second
-    → cs ≡ e.pieces.items ++ piece_of x e.second ∷ [] → n ≡ length e.pieces.items + 1 → 0 < length e2.guesses.items
-    → Goes e (record e { taken = e.taken + 1; next = forward e.at 1 e.size; next_position = e.next_position + n; running = with_item e.running h (Some e.taken); counts = with_item e.counts h n; guesses = e2.guesses; pieces = e2.pieces; at = forward e.at 1 e.size; doing = step.Idle }) v op.Take (Load (2 * e.at.place)) x (act.Taken e.taken cs)
-address_last e e2 v h x n cs l st is off named spelled many guesses =
+-- the last load of a chain of n descriptors, which end at this spot
+pub takes_last : (e e2 : PackedDevice) (v : DeviceView) (p h x n w : ℕ) (ws : List ℕ) (spot : Spot) (cs : List Piece) → DeviceStands e v → v.doing ≡ now.Taking (w ∷ ws) → DeviceNext v op.Take (Load p)
+    → device_begun e.doing ≡ DeviceOp.take → (e.armed ≡ false) × (e.bells + 0 ≤ e.given) → 0 < device_left e.doing (length e.pieces.items) → (told : BeginsChain v.frame v.done (w ∷ ws ++ x ∷ [])) → is_whole v.frame (w ∷ ws ++ x ∷ []) ≡ true
+    → length (takes v.done) < limit v.frame → cs ≡ told.chain → told.head ≡ h → n ≡ needs v.frame.features cs → IsAt spot v.frame.size (tpos v.frame v.done + n) → 0 < length e2.guesses.items
+    → Goes e (record e { taken = e.taken + 1; next = spot; next_position = e.next_position + n; running = with_item e.running h (Some e.taken); counts = with_item e.counts h n; guesses = e2.guesses; pieces = e2.pieces; at = spot; doing = step.Idle }) v op.Take (Load p) x (act.Taken e.taken cs)
+takes_last e e2 v p h x n w ws spot cs st had next begun u some told end limited is_told head count here guesses =
     let f : Frame = v.frame in let s : List DeviceDone = v.done in let t : ℕ = length (takes s) in
-    let had = l.had in let w : ℕ = had.word in let ws : List ℕ = had.words in
-    let p : ℕ = 2 * e.at.place in
-    let end : is_whole f (w ∷ ws ++ x ∷ []) ≡ true = is_ended e v x st l ∙ ap not off in
-    let is_chain : chain_of f (w ∷ ws ++ x ∷ []) ≡ cs = chain_is f (w ∷ ws ++ x ∷ []) st.made.built ∙ (spelled_more e v x l ∙ sym spelled) in
-    let is_told : cs ≡ l.told.chain = spelled ∙ whole_chain e v x off st l in
-    let head : l.told.head ≡ h = told_head e v x l st off ∙ sym named in
-    let new : IsNewHead f s h = subst (λ k. IsNewHead f s k) head l.told.is_new in
-    let is_head : loaded_head f (w ∷ ws ++ x ∷ []) ≡ h = (l.told.complete end).2 ∙ head in
+    let is_chain : chain_of f (w ∷ ws ++ x ∷ []) ≡ cs = (told.complete end).1 ∙ sym is_told in
+    let new : IsNewHead f s h = subst (λ k. IsNewHead f s k) head told.is_new in
+    let is_head : loaded_head f (w ∷ ws ++ x ∷ []) ≡ h = (told.complete end).2 ∙ head in
     let longer = length_push (takes s) cs in
-    let count : needs f.features cs ≡ length e.pieces.items + 1 = needs_pieces f cs st.made.built ∙ (ap (λ (ps : List Piece). length ps) spelled ∙ length_push e.pieces.items (piece_of x e.second)) in
-    let few : needs f.features cs ≤ f.size = subst (λ (c : List Piece). needs f.features c ≤ f.size) (sym is_told) l.told.fits.size in
-    let short : needs f.features cs ≤ 16 = omega (arith, count, few_pieces e v x st l) in
+    let few : needs f.features cs ≤ f.size = subst (λ (c : List Piece). needs f.features c ≤ f.size) (sym is_told) told.fits.size in
+    let one : 1 ≤ needs f.features cs = subst (λ (c : List Piece). 1 ≤ needs f.features c) (sym is_told) (needs_some f told.chain told.fits) in
+    let short : needs f.features cs ≤ 16 = subst (λ (c : List Piece). needs f.features c ≤ 16) (sym is_told) (needs_few f told.chain told.fits.chain) in
     let s2 : List DeviceDone = Take cs h ∷ s in
     let past : tpos f s2 ≡ tpos f s + needs f.features cs = Rattle.std.proofs.lemmas.List.Sums.sum_by_push (needs f.features) (takes s) cs in
     let v2 : DeviceView = record v { done = s2; shown = false; doing = now.Idle } in
     let is_after : device_after v op.Take (Load p) x ≡ v2 =
-    ap (λ u. device_after_at u v op.Take (Load p) x) had.is ∙ (ap (λ b. if b then device_takes v (w ∷ ws ++ x ∷ []) else record v { doing = now.Taking (w ∷ ws ++ x ∷ []) }) end
+    ap (λ z. device_after_at z v op.Take (Load p) x) had ∙ (ap (λ b. if b then device_takes v (w ∷ ws ++ x ∷ []) else record v { doing = now.Taking (w ∷ ws ++ x ∷ []) }) end
     ∙ (ap (λ (c : List Piece). record v { done = Take c (loaded_head f (w ∷ ws ++ x ∷ [])) ∷ s; shown = false; doing = now.Idle }) is_chain ∙ ap (λ k. record v { done = Take cs k ∷ s; shown = false; doing = now.Idle }) is_head)) in
-    let spot = spot_more e v x st l in
-    let u = at_step e v step.Address is st in
-    let e' : PackedDevice = record e { taken = e.taken + 1; next = forward e.at 1 e.size; next_position = e.next_position + n; running = with_item e.running h (Some e.taken); counts = with_item e.counts h n; guesses = e2.guesses; pieces = e2.pieces; at = forward e.at 1 e.size; doing = step.Idle } in
+    let e' : PackedDevice = record e { taken = e.taken + 1; next = spot; next_position = e.next_position + n; running = with_item e.running h (Some e.taken); counts = with_item e.counts h n; guesses = e2.guesses; pieces = e2.pieces; at = spot; doing = step.Idle } in
     record {
-      of_it = subst (λ d. IsDeviceOp (device_begun d) op.Take) (sym is) refl;
-      next = (address_next e v is st).0;
+      of_it = subst (λ o. IsDeviceOp o op.Take) (sym begun) refl;
+      next = next;
       stands = subst (λ z. DeviceStands e' z) (sym is_after) record {
         made = st.made;
         counts = record {
           takes = omega (arith, st.counts.takes, longer);
           gives = st.counts.gives;
-          next_at = same_at (forward e.at 1 e.size) f.size (tpos f s + (length e.pieces.items + 1)) (tpos f s2) (omega (arith, past, count)) spot;
+          next_at = same_at spot f.size (tpos f s + n) (tpos f s2) (omega (arith, past, count)) here;
           used_at = same_at e.used f.size (upos f s) (upos f s2) (sym (take_upos f s cs h st.holds.once)) st.counts.used_at;
-          next_is = omega (arith, st.counts.next_is, past, count, many);
+          next_is = omega (arith, st.counts.next_is, past, count);
           used_is = st.counts.used_is ∙ sym (take_upos f s cs h st.holds.once);
           few = taken_few f s cs h short st.counts.few;
         };
         holds = subst (λ k. HoldsRunning (slice_set e.running.items h (Some k)) (slice_set e.counts.items h n) (length e2.guesses.items) f s2) (sym st.counts.takes)
-            (holds_more e.running.items e.counts.items (length e.guesses.items) (length e2.guesses.items) h n f s cs st.holds new guesses (many ∙ sym count) few (omega (arith, count)));
+            (holds_more e.running.items e.counts.items (length e.guesses.items) (length e2.guesses.items) h n f s cs st.holds new guesses count few one);
         kick = st.kick;
-        signals = record { is_armed = not_armed e v st u.1 ∙ sym (ap (λ (y : Bool). if y then Some (tpos f s2) else None) u.1); hears = st.signals.hears; rings = st.signals.rings; few = u.2; awake = tt };
+        signals = record { is_armed = not_armed e v st u.0 ∙ sym (ap (λ (y : Bool). if y then Some (tpos f s2) else None) u.0); hears = st.signals.hears; rings = st.signals.rings; few = u.1; awake = tt };
         doing = refl;
       };
-      is = ap (λ k. act.Taken k cs) st.counts.takes ∙ (ap (act.Taken t) (sym is_chain) ∙ sym (ap (λ d. device_act_at d v op.Take (Load p) x) had.is ∙ ap (λ b. if b then act.Taken t (chain_of f (w ∷ ws ++ x ∷ [])) else act.Moved) end));
-      left = subst (λ d. 0 < device_left d (length e.pieces.items)) (sym is) (omega arith);
-      says = subst (λ d. DeviceSays packed_words (act.Taken e.taken cs) (device_begun d) DeviceOp.idle f s (device_after v op.Take (Load p) x).done) (sym is) (
+      is = ap (λ k. act.Taken k cs) st.counts.takes ∙ (ap (act.Taken t) (sym is_chain) ∙ sym (ap (λ d. device_act_at d v op.Take (Load p) x) had ∙ ap (λ b. if b then act.Taken t (chain_of f (w ∷ ws ++ x ∷ [])) else act.Moved) end));
+      left = some;
+      says = subst (λ o. DeviceSays packed_words (act.Taken e.taken cs) o DeviceOp.idle f s (device_after v op.Take (Load p) x).done) (sym begun) (
         h,
         refl,
         refl,
         st.counts.takes,
         ap (λ (y : DeviceView). y.done) is_after,
         subst (λ (c : List Piece). IsTaken packed_words f s c h) (sym is_told) record {
-          fits = l.told.fits;
-          limited = had.limited;
-          room = l.told.room;
+          fits = told.fits;
+          limited = limited;
+          room = told.room;
           inside = new.inside;
           apart = new.apart;
-          control = λ on. subst (λ k. Rattle.vd_ring.specs.Control.IsControlChain (packed_words.command f k) (packed_words.ack f k) l.told.chain) head (l.told.control on);
+          control = λ on. subst (λ k. Rattle.vd_ring.specs.Control.IsControlChain (packed_words.command f k) (packed_words.ack f k) told.chain) head (told.control on);
         },
       );
       rests = refl;
     }
 
-pub taken_goes : (e e' : PackedDevice) (v : DeviceView) (x : ℕ) → (l : Loaded e v x) → DeviceStands e v → e.doing ≡ step.Address → goes_on e.second ≡ false → HasTaken x (id_of e.second) e e' → Goes e e' v op.Take (Load (2 * e.at.place)) x (act.Taken e.taken e'.pieces.items)
-taken_goes e e' v x l st is off h = subst (λ (g : PackedDevice). Goes e g v op.Take (Load (2 * e.at.place)) x (act.Taken e.taken e'.pieces.items)) (sym h.kept)
-    (address_last e e' v (id_of e.second) x (length e.pieces.items + 1) e'.pieces.items l st is off refl h.pushed refl (omega (arith, h.guesses, st.holds.guessed)))
+-- how many descriptors a chain without a table has
+pub direct_count : (e : PackedDevice) (v : DeviceView) (x : ℕ) (cs : List Piece) → (l : Loaded e v x) → DeviceStands e v → cs ≡ e.pieces.items ++ piece_of x e.second ∷ [] → cs ≡ l.told.chain → length e.pieces.items + 1 ≡ needs v.frame.features cs
+direct_count e v x cs l st spelled is_told =
+    let off = subst (λ (c : List Piece). is_tabled v.frame c ≡ false) (sym is_told) (is_direct e v x st l) in
+    let many : length cs ≡ length e.pieces.items + 1 = ap (λ (ps : List Piece). length ps) spelled ∙ length_push e.pieces.items (piece_of x e.second) in
+    sym (direct_needs v.frame cs (omega (arith, many)) off ∙ many)
+
+pub taken_goes : (e e' : PackedDevice) (v : DeviceView) (x : ℕ) → (l : Loaded e v x) → DeviceStands e v → e.doing ≡ step.Address → goes_on e.second ≡ false → HasTaken (piece_of x e.second) (forward e.at 1 e.size) (length e.pieces.items + 1) e e'
+    → Goes e e' v op.Take (Load (2 * e.at.place)) x (act.Taken e.taken e'.pieces.items)
+taken_goes e e' v x l st is off h =
+    let is_told : e'.pieces.items ≡ l.told.chain = h.pushed ∙ whole_chain e v x off st l in
+    let u = at_step e v step.Address is st in
+    subst (λ (g : PackedDevice). Goes e g v op.Take (Load (2 * e.at.place)) x (act.Taken e.taken e'.pieces.items)) (sym h.kept)
+    (takes_last e e' v (2 * e.at.place) (id_of e.second) x (length e.pieces.items + 1) l.had.word l.had.words (forward e.at 1 e.size) e'.pieces.items st l.had.is (address_next e v is st).0
+    (ap device_begun is) (u.1, u.2) (subst (λ d. 0 < device_left d (length e.pieces.items)) (sym is) (omega arith)) l.told (is_ended e v x st l ∙ ap not off) l.had.limited is_told (told_head e v x l st off)
+    (direct_count e v x e'.pieces.items l st h.pushed is_told) (spot_more e v x st l) (omega (arith, h.guesses, st.holds.guessed)))
+
+-- a chain with this id may be counted
+pub may_count : (e : PackedDevice) (v : DeviceView) (h : ℕ) → DeviceStands e v → h < v.frame.size → length (takes v.done) < limit v.frame → MayTake e h
+may_count e v h st inside limited = record {
+  running = omega (arith, inside, st.holds.places);
+  counts = omega (arith, inside, st.holds.as_many);
+  guesses = st.holds.guessed;
+  number = omega (arith, limited, st.counts.takes, limit_small v.frame);
+  position = omega (arith, st.counts.next_is, few_each (needs v.frame.features) (takes v.done) (λ k low. st.counts.few k), limited, limit_small v.frame);
+}
 
 -- the last load may be taken in
 pub may_take : (e : PackedDevice) (v : DeviceView) (x : ℕ) → Loaded e v x → DeviceStands e v → goes_on e.second ≡ false → MayTake e (id_of e.second)
-may_take e v x l st off =
-    let inside : id_of e.second < v.frame.size = subst (λ k. k < v.frame.size) (told_head e v x l st off) l.told.is_new.inside in record {
-      running = omega (arith, inside, st.holds.places);
-      counts = omega (arith, inside, st.holds.as_many);
-      guesses = st.holds.guessed;
-      number = omega (arith, l.had.limited, st.counts.takes, limit_small v.frame);
-      position = omega (arith, st.counts.next_is, few_each (needs v.frame.features) (takes v.done) (λ k low. st.counts.few k), l.had.limited, limit_small v.frame);
-    }
+may_take e v x l st off = may_count e v (id_of e.second) st (subst (λ k. k < v.frame.size) (told_head e v x l st off) l.told.is_new.inside) l.had.limited
 
 -- what it makes is a chain
-pub taken_chain : (e e' : PackedDevice) (v : DeviceView) (x : ℕ) → Loaded e v x → DeviceStands e v → goes_on e.second ≡ false → HasTaken x (id_of e.second) e e' → IsChain e'.pieces.items
+pub taken_chain : (e e' : PackedDevice) (v : DeviceView) (x : ℕ) → Loaded e v x → DeviceStands e v → goes_on e.second ≡ false → HasTaken (piece_of x e.second) (forward e.at 1 e.size) (length e.pieces.items + 1) e e' → IsChain e'.pieces.items
 taken_chain e e' v x l st off h = subst IsChain (sym (h.pushed ∙ whole_chain e v x off st l)) l.told.fits.chain
 
 -- the end after an address was taken in
 pub loaded_goes : (e e' : PackedDevice) (v : DeviceView) (x : ℕ) (t : Told) → Loaded e v x → DeviceStands e v → e.doing ≡ step.Address
-    → (goes_on e.second ≡ true → (t ≡ told.Moved) × HasMore x e e') → (goes_on e.second ≡ false → (t ≡ told.Taken e.taken) × HasTaken x (id_of e.second) e e')
+    → (goes_on e.second ≡ true → (t ≡ told.Moved) × HasMore x e e') → (goes_on e.second ≡ false → (t ≡ told.Taken e.taken) × HasTaken (piece_of x e.second) (forward e.at 1 e.size) (length e.pieces.items + 1) e e')
     → Goes e e' v op.Take (Load (2 * e.at.place)) x (act_of t e'.pieces.items)
 loaded_goes e e' v x t l st is more whole = by_word (goes_on e.second) refl
   where
@@ -232,7 +245,7 @@ loaded_goes e e' v x t l st is more whole = by_word (goes_on e.second) refl
 
 -- where it is taken it is a chain
 pub loaded_chain : (e e' : PackedDevice) (v : DeviceView) (x k : ℕ) (t : Told) → Loaded e v x → DeviceStands e v
-    → (goes_on e.second ≡ true → (t ≡ told.Moved) × HasMore x e e') → (goes_on e.second ≡ false → (t ≡ told.Taken e.taken) × HasTaken x (id_of e.second) e e')
+    → (goes_on e.second ≡ true → (t ≡ told.Moved) × HasMore x e e') → (goes_on e.second ≡ false → (t ≡ told.Taken e.taken) × HasTaken (piece_of x e.second) (forward e.at 1 e.size) (length e.pieces.items + 1) e e')
     → t ≡ told.Taken k → IsChain e'.pieces.items
 loaded_chain e e' v x k t l st more whole is = by_word (goes_on e.second) refl
   where

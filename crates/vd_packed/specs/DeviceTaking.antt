@@ -1,7 +1,8 @@
 -- The loads of a take after its look: each is next in a view that the end stands for, and the end stands for the view after it.
-use Rattle.std.proofs.Common.{◌≡◌, ℕ, ◌+◌, ◌-◌, ◌*◌, ◌<◌, ◌≤◌, Bool, true, false, not, List, [], ◌∷◌, ◌++◌, length, if◌then◌else◌, refl, sym, ap, ◌∙◌, subst, arith, inl}
+use Rattle.std.proofs.Common.{◌≡◌, ℕ, ◌+◌, ◌-◌, ◌*◌, ◌<◌, ◌≤◌, ◌==◌, ◌&&◌, Bool, true, false, not, List, [], ◌∷◌, ◌++◌, length, drop, slice_index, if◌then◌else◌, refl, sym, ap, ◌∙◌, subst, arith, inl}
 use Rattle.std.proofs.lemmas.List.{length_push, length-append, append-nil, append_assoc}
 use Rattle.vd_model.specs.declared.chain.Piece.{Piece}
+use Rattle.vd_model.specs.declared.features.Features.{Features}
 use Rattle.vd_words.specs.declared.access.Access.TheVariants.{Load}
 use Rattle.vd_words.specs.declared.access.Op.TheVariants as op
 use Rattle.vd_ring.specs.declared.act.DeviceAct.TheVariants as act
@@ -11,12 +12,11 @@ use Rattle.vd_ring.specs.declared.device.DeviceDone.{DeviceDone}
 use Rattle.vd_ring.specs.declared.device.DeviceNow.TheVariants as now
 use Rattle.vd_ring.specs.declared.device.DeviceView.{DeviceView}
 use Rattle.vd_ring.specs.History.{takes}
-use Rattle.vd_packed_ring.specs.PackedWords.{addr_word, second_word, put, words_of, id_of, goes_on, is_available}
-use Rattle.vd_packed_ring.specs.PackedChains.{direct, reading, piece_of, pieces_in, ends, following, is_whole, chain_of, cursor}
+use Rattle.vd_packed_ring.specs.PackedWords.{table_of, addr_word, second_word, id_of, goes_on, names_table}
+use Rattle.vd_packed_ring.specs.PackedChains.{reading, piece_of, pieces_of, pieces_in, ends, following, has_table, named_words, first_id, last_id, is_tabled, is_whole, chain_of, cursor, loaded_head}
 use Rattle.vd_packed_ring.specs.PackedPositions.{tpos}
 use Rattle.vd_packed_ring.specs.PackedDevice.{DeviceNextAt, DeviceNext, DeviceTells, DeviceTellsAt, BeginsChain, device_after, device_after_at, device_takes, device_act_at}
 use Rattle.vd_packed_ring.proofs.Areas.{second_low}
-use Rattle.vd_packed_ring.proofs.Spelled.{reading_is, whole_is, chain_is, cursor_is, length_direct, length_loaded}
 use Rattle.vd_layout.specs.Begun.{DeviceOp, IsDeviceOp}
 use Rattle.vd_layout.specs.Device.{DeviceSays}
 use Rattle.vd_packed.specs.declared.device.PackedDevice.{PackedDevice}
@@ -26,8 +26,27 @@ use Rattle.vd_packed.specs.DeviceEnd.{IsTaking, DeviceStands, DeviceStepStands, 
 use Rattle.vd_packed.specs.DeviceGiving.{Goes, at_step}
 use Rattle.vd_packed.specs.Places.{spot_below, second_at, same_at, forward_at}
 use Rattle.vd_packed.specs.Spots.{IsAt, forward}
-use Rattle.vd_packed.specs.Loaded.{HasMore}
+use Rattle.vd_packed.specs.Loaded.{HasMore, names_its_table}
+use Rattle.vd_packed.specs.ToldTables.{told_direct, two_each, direct_more, direct_address}
 use Rattle.vd_packed.specs.Loads.{following_even, following_odd, ends_odd, ends_last, pieces_last}
+
+-- ---- words without a table
+
+cursor_direct : (f : Frame) (q : ℕ) (ws : List ℕ) → has_table f ws ≡ false → cursor f q ws ≡ following f.size q ws
+cursor_direct f q ws off = ap (λ (b : Bool). if b then table_of f (first_id ws) + (length ws - 2) else following f.size q ws) off
+
+pub whole_direct : (f : Frame) (ws : List ℕ) → has_table f ws ≡ false → is_whole f ws ≡ ends ws
+whole_direct f ws off = ap (λ (b : Bool). if b then length ws == 2 + named_words (slice_index ws 0) else ends ws) off
+
+pub chain_direct : (f : Frame) (ws : List ℕ) → has_table f ws ≡ false → chain_of f ws ≡ pieces_in ws
+chain_direct f ws off = ap (λ (b : Bool). if b then pieces_of (drop 2 ws) else pieces_in ws) off
+
+pub head_direct : (f : Frame) (ws : List ℕ) → has_table f ws ≡ false → loaded_head f ws ≡ last_id ws
+head_direct f ws off = ap (λ (b : Bool). if b then first_id ws else last_id ws) off
+
+-- what the end tests is so of the ring's frame
+pub names_in : (b : Bool) (e : PackedDevice) (v : DeviceView) → DeviceStands e v → names_its_table e ≡ b → ((v.frame.features.indirect && (length e.pieces.items == 0)) && names_table e.second) ≡ b
+names_in b e v st is = ap (λ (x : Features). (x.indirect && (length e.pieces.items == 0)) && names_table e.second) (sym st.made.featured) ∙ is
 
 -- ---- where the chain isn't whole yet, the loads go on
 
@@ -48,8 +67,9 @@ second_goes e v x is st =
     let split : w ∷ ws ≡ n.whole = n.parts ∙ append-nil n.whole in
     let even : length (w ∷ ws) ≡ 2 * i = ap (λ (us : List ℕ). length us) split ∙ n.even in
     let place : p ≡ second_word f.size (q + i) = second_at e.at f.size (q + i) n.here in
-    let here : p ≡ cursor f q (w ∷ ws) = place ∙ sym (cursor_is f q (w ∷ ws) st.made.built ∙ following_even f.size q (w ∷ ws) i even) in
-    let more : is_whole f (w ∷ ws ++ x ∷ []) ≡ false = whole_is f (w ∷ ws ++ x ∷ []) st.made.built ∙ ends_odd (w ∷ ws) x i even in
+    let here : p ≡ cursor f q (w ∷ ws) = place ∙ sym (cursor_direct f q (w ∷ ws) n.direct ∙ following_even f.size q (w ∷ ws) i even) in
+    let direct = direct_more f w x i ws even n.direct in
+    let more : is_whole f (w ∷ ws ++ x ∷ []) ≡ false = whole_direct f (w ∷ ws ++ x ∷ []) direct ∙ ends_odd (w ∷ ws) x i even in
     let is_after = ap (λ t. device_after_at t v op.Take (Load p) x) n.is ∙ loads_on v w p x ws more in
     let e' : PackedDevice = record e { second = x; doing = step.Address } in
     let u = at_step e v step.Second is st in
@@ -68,6 +88,7 @@ second_goes e v x is st =
           whole = n.whole;
           is = refl;
           parts = ap (λ (us : List ℕ). us ++ x ∷ []) split;
+          direct = direct;
           limited = n.limited;
           spelled = n.spelled;
           even = n.even;
@@ -75,7 +96,7 @@ second_goes e v x is st =
         };
       };
       is = sym (ap (λ t. device_act_at t v op.Take (Load p) x) n.is ∙ acts_on v w p x ws more);
-      left = subst (λ t. 2 * (16 - i) + 1 < device_left t i) (sym is) (omega arith);
+      left = subst (λ t. 2 * (16 - i) + 3 < device_left t i) (sym is) (omega arith);
       says = subst (λ t. DeviceSays packed_words act.Moved (device_begun t) DeviceOp.take f s (device_after v op.Take (Load p) x).done) (sym is) (refl, ap (λ (y : DeviceView). y.done) is_after);
       rests = refl;
     }
@@ -88,7 +109,7 @@ address_next e v is st =
     let n : DeviceStepStands step.Address e.pieces.items e.second e.at f s v.doing = subst (λ t. DeviceStepStands t e.pieces.items e.second e.at f s v.doing) is st.doing in
     let w : ℕ = n.word in let ws : List ℕ = n.words in let i : ℕ = length e.pieces.items in let q : ℕ = tpos f s in
     let place : 2 * e.at.place ≡ addr_word f.size (q + i) = ap (λ (k : ℕ). 2 * k) n.here.place in
-    let here : 2 * e.at.place ≡ cursor f q (w ∷ ws) = place ∙ sym (cursor_is f q (w ∷ ws) st.made.built ∙ (ap (following f.size q) n.parts ∙ following_odd f.size q n.whole e.second i n.even)) in
+    let here : 2 * e.at.place ≡ cursor f q (w ∷ ws) = place ∙ sym (cursor_direct f q (w ∷ ws) n.direct ∙ (ap (following f.size q) n.parts ∙ following_odd f.size q n.whole e.second i n.even)) in
     let below = spot_below e.at f.size (q + i) (omega (arith, st.made.lawful.least)) n.here in
     (subst (λ t. DeviceNextAt t v op.Take (Load (2 * e.at.place))) (sym n.is) record { place = here; inside = inl (omega (arith, below)) }, omega (arith, below, st.made.sized), omega (arith, st.made.sized, st.made.lawful.most))
 
@@ -96,24 +117,26 @@ address_next e v is st =
 pub record Loaded (e : PackedDevice) (v : DeviceView) (x : ℕ) : Type 0 where
   pub had : IsTaking v.frame v.done e.pieces.items e.at (e.second ∷ []) v.doing
   pub words : had.word ∷ had.words ++ x ∷ [] ≡ had.whole ++ e.second ∷ x ∷ []
+  pub direct : has_table v.frame (had.word ∷ had.words ++ x ∷ []) ≡ false
   pub told : BeginsChain v.frame v.done (had.word ∷ had.words ++ x ∷ [])
 
-pub loaded_of : (e : PackedDevice) (v : DeviceView) (x : ℕ) → e.doing ≡ step.Address → DeviceStands e v → DeviceTells v op.Take (Load (2 * e.at.place)) x → Loaded e v x
-loaded_of e v x is st told =
+pub loaded_of : (e : PackedDevice) (v : DeviceView) (x : ℕ) → e.doing ≡ step.Address → DeviceStands e v → names_its_table e ≡ false → DeviceTells v op.Take (Load (2 * e.at.place)) x → Loaded e v x
+loaded_of e v x is st off told =
     let n : DeviceStepStands step.Address e.pieces.items e.second e.at v.frame v.done v.doing = subst (λ t. DeviceStepStands t e.pieces.items e.second e.at v.frame v.done v.doing) is st.doing in
-    record { had = n; words = ap (λ (us : List ℕ). us ++ x ∷ []) n.parts ∙ append_assoc n.whole (e.second ∷ []) (x ∷ []); told = subst (λ t. DeviceTellsAt t v op.Take (Load (2 * e.at.place)) x) n.is told.1 }
+    record { had = n; words = ap (λ (us : List ℕ). us ++ x ∷ []) n.parts ∙ append_assoc n.whole (e.second ∷ []) (x ∷ []); direct = direct_address v.frame e.second x e.pieces.items n.whole (n.word ∷ n.words) n.parts n.even n.direct (names_in false e v st off); told = subst (λ t. DeviceTellsAt t v op.Take (Load (2 * e.at.place)) x) n.is told.1 }
 
 pub is_ended : (e : PackedDevice) (v : DeviceView) (x : ℕ) → DeviceStands e v → (l : Loaded e v x) → is_whole v.frame (l.had.word ∷ l.had.words ++ x ∷ []) ≡ not (goes_on e.second)
-is_ended e v x st l = whole_is v.frame (l.had.word ∷ l.had.words ++ x ∷ []) st.made.built ∙ (ap ends l.words ∙ ends_last l.had.whole e.second x (length e.pieces.items) l.had.even)
+is_ended e v x st l = whole_direct v.frame (l.had.word ∷ l.had.words ++ x ∷ []) l.direct ∙ (ap ends l.words ∙ ends_last l.had.whole e.second x (length e.pieces.items) l.had.even)
 
 pub loaded_length : (e : PackedDevice) (v : DeviceView) (x : ℕ) → (l : Loaded e v x) → length (l.had.word ∷ l.had.words ++ x ∷ []) ≡ 2 * (length e.pieces.items + 1)
 loaded_length e v x l = ap (λ (us : List ℕ). length us) l.words ∙ omega (arith, length-append l.had.whole (e.second ∷ x ∷ []), l.had.even)
 
-pub two_each : (f : Frame) (q id : ℕ) (c : List Piece) → Rattle.vd_packed_ring.specs.PackedWords.IsBuilt f → length (reading f q id c) ≡ 2 * length c
-two_each f q id c b = ap (λ (ps : List Put). length ps) (reading_is f q id c b) ∙ (length_loaded f.size q (direct id c) ∙ ap (λ (k : ℕ). 2 * k) (length_direct id c))
+-- the chain has no table
+pub is_direct : (e : PackedDevice) (v : DeviceView) (x : ℕ) → DeviceStands e v → (l : Loaded e v x) → is_tabled v.frame l.told.chain ≡ false
+is_direct e v x st l = told_direct v.frame v.done (l.had.word ∷ l.had.words ++ x ∷ []) st.made.lawful l.told (omega (arith, loaded_length e v x l)) l.direct
 
 pub few_pieces : (e : PackedDevice) (v : DeviceView) (x : ℕ) → DeviceStands e v → Loaded e v x → length e.pieces.items < 16
-few_pieces e v x st l = omega (arith, loaded_length e v x l, at_most (is_whole v.frame (l.had.word ∷ l.had.words ++ x ∷ [])) refl, two_each v.frame (tpos v.frame v.done) l.told.head l.told.chain st.made.built, l.told.fits.chain.1)
+few_pieces e v x st l = omega (arith, loaded_length e v x l, at_most (is_whole v.frame (l.had.word ∷ l.had.words ++ x ∷ [])) refl, two_each v.frame (tpos v.frame v.done) l.told.head l.told.chain (is_direct e v x st l), l.told.fits.chain.1)
   where
     at_most : (b : Bool) → is_whole v.frame (l.had.word ∷ l.had.words ++ x ∷ []) ≡ b → length (l.had.word ∷ l.had.words ++ x ∷ []) ≤ length (reading v.frame (tpos v.frame v.done) l.told.head l.told.chain)
     at_most true eq = omega (arith, (l.told.complete eq).0)
@@ -154,6 +177,7 @@ address_more e e2 v x l st is on pushed =
           whole = w ∷ ws ++ x ∷ [];
           is = refl;
           parts = sym (append-nil (w ∷ ws ++ x ∷ []));
+          direct = l.direct;
           limited = n.limited;
           spelled = spelled_more e v x l ∙ sym pushed;
           even = omega (arith, loaded_length e v x l, longer);
@@ -161,7 +185,7 @@ address_more e e2 v x l st is on pushed =
         };
       };
       is = sym (ap (λ t. device_act_at t v op.Take (Load p) x) n.is ∙ acts_on v w p x ws more);
-      left = subst (λ t. 2 * (16 - length e2.pieces.items) + 2 < device_left t (length e.pieces.items)) (sym is) (omega arith);
+      left = subst (λ t. 2 * (16 - length e2.pieces.items) + 4 < device_left t (length e.pieces.items)) (sym is) (omega arith);
       says = subst (λ t. DeviceSays packed_words act.Moved (device_begun t) DeviceOp.take f v.done (device_after v op.Take (Load p) x).done) (sym is) (refl, ap (λ (y : DeviceView). y.done) is_after);
       rests = refl;
     }
@@ -173,4 +197,4 @@ more_goes e e' v x l st is on h = subst (λ (g : PackedDevice). Goes e g v op.Ta
 pub whole_chain : (e : PackedDevice) (v : DeviceView) (x : ℕ) → goes_on e.second ≡ false → DeviceStands e v → (l : Loaded e v x) → e.pieces.items ++ piece_of x e.second ∷ [] ≡ l.told.chain
 whole_chain e v x off st l =
     let ws : List ℕ = l.had.word ∷ l.had.words ++ x ∷ [] in
-    sym (spelled_more e v x l) ∙ (sym (chain_is v.frame ws st.made.built) ∙ (l.told.complete (is_ended e v x st l ∙ ap not off)).1)
+    sym (spelled_more e v x l) ∙ (sym (chain_direct v.frame ws l.direct) ∙ (l.told.complete (is_ended e v x st l ∙ ap not off)).1)

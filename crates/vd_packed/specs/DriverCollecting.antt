@@ -105,7 +105,7 @@ found e v id st n =
 pub used_small : (e : PackedDriver) (v : DriverView) (k : ℕ) → DriverStands e v → 1 ≤ occurs k (open_at v.done) → e.used_position + needs v.frame.features (chain v.done k) < 1000000000000
 used_small e v k st here =
     let f : Frame = v.frame in let o : List DriverDone = v.done in
-    omega (arith, st.counts.used_is, sum_one (λ j. needs f.features (chain o j)) k (open_at o) here, driver_span f o st.holds.held.is_open, opos_few f o st.made.built st.holds.held, st.holds.held.limited, limit_small f)
+    omega (arith, st.counts.used_is, sum_one (λ j. needs f.features (chain o j)) k (open_at o) here, driver_span f o st.holds.held.is_open, opos_few f o st.holds.held, st.holds.held.limited, limit_small f)
 
 -- what the loaded word collects
 pub collects_one : (f : Frame) (o : List DriverDone) (id len k : ℕ) → Places f o → 1 ≤ occurs k (open_at o) → head f o k ≡ id → (f.features.in_order ≡ true → k ≡ length (collects o)) → collected f o id len ≡ entry k len ∷ []

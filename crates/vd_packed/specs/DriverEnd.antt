@@ -14,7 +14,8 @@ use Rattle.vd_ring.specs.declared.driver.DriverNow.TheVariants as now
 use Rattle.vd_ring.specs.declared.driver.DriverView.{DriverView}
 use Rattle.vd_ring.specs.History.{offers, collects, open_at, open_size, free, chain, head, occurs}
 use Rattle.vd_ring.specs.Places.{Places}
-use Rattle.vd_packed_ring.specs.PackedWords.{IsLawful, IsBuilt, kick_at, command_word, ack_word}
+use Rattle.vd_packed_ring.specs.PackedWords.{IsLawful, kick_at, command_word, ack_word}
+use Rattle.vd_packed_ring.specs.PackedChains.{is_tabled}
 use Rattle.vd_packed_ring.specs.PackedPositions.{opos, cpos}
 use Rattle.vd_packed_ring.specs.PackedDriver.{CanOffer, plan, driver_side, driver_act, driver_shows}
 use Rattle.vd_layout.specs.Begun.{DriverOp}
@@ -36,7 +37,6 @@ pub record IsMadeFor (size : ℕ) (features : Features) (f : Frame) : Type 0 whe
   pub sized : size ≡ f.size
   pub featured : features ≡ f.features
   pub lawful : IsLawful f
-  pub built : IsBuilt f
 
 -- the counts, the two positions and where they stand, and how many places the open chains leave
 pub record DriverCounts (offered collected : ℕ) (next used : Spot) (next_position used_position space : ℕ) (f : Frame) (o : List DriverDone) : Type 0 where
@@ -65,11 +65,12 @@ abbrev pub offering : ℕ → List Put → DriverNow
 offering zero ps = now.Idle
 offering (suc n) ps = now.Offering ps
 
--- an offer's next store is number `at`; `spot` is where its descriptor stands
+-- an offer's next store is number `at`; `spot` is where its descriptor stands, or, of a chain by a table, the first after its one
 abbrev pub DriverStepStands : DriverStep → List Piece → Spot → Frame → List DriverDone → DriverNow → Type 0
 DriverStepStands step.Idle c spot f o d = d ≡ now.Idle
-DriverStepStands (step.Describe at) c spot f o d = CanOffer f o c × (at + 1 < 2 * length c) × IsAt spot f.size (opos f o + (at + 1) / 2) × (d ≡ offering at (take at (plan f o c)))
-DriverStepStands step.Publish c spot f o d = CanOffer f o c × IsAt spot f.size (opos f o + length c) × (d ≡ now.Offering (plan f o c))
+DriverStepStands (step.Describe at) c spot f o d = CanOffer f o c × (at + 1 < 2 * length c) × IsAt spot f.size (opos f o + (at + 1) / 2) × (d ≡ offering at (take at (plan f o c))) × (is_tabled f c ≡ false)
+DriverStepStands (step.Table at) c spot f o d = CanOffer f o c × (at < 2 * length c + 1) × IsAt spot f.size (opos f o + 1) × (d ≡ offering at (take at (plan f o c))) × (is_tabled f c ≡ true)
+DriverStepStands step.Publish c spot f o d = CanOffer f o c × IsAt spot f.size (opos f o + needs f.features c) × (d ≡ now.Offering (plan f o c))
 DriverStepStands step.Look c spot f o d = d ≡ now.Idle
 DriverStepStands (step.Check n) c spot f o d = (old : ℕ) × (d ≡ now.Checking old (opos f o)) × (old + n ≡ opos f o) × (0 < n) × (n ≤ f.size)
 DriverStepStands step.Ring c spot f o d = (old : ℕ) × (new : ℕ) × (d ≡ now.Ringing old new)
@@ -105,6 +106,7 @@ Wakes _ o = ⊥
 abbrev pub IsSignal : DriverStep → Type 0
 IsSignal step.Idle = ⊥
 IsSignal (step.Describe at) = ⊥
+IsSignal (step.Table at) = ⊥
 IsSignal step.Publish = ⊥
 IsSignal step.Look = ⊥
 IsSignal _ = Unit {0}
@@ -137,6 +139,7 @@ is_armed e v st on = st.signals.is_armed ∙ ap (λ (b : Bool). if b then Some (
 abbrev pub driver_begun : DriverStep → List Piece → DriverOp
 driver_begun step.Idle c = DriverOp.idle
 driver_begun (step.Describe at) c = DriverOp.offer c
+driver_begun (step.Table at) c = DriverOp.offer c
 driver_begun step.Publish c = DriverOp.offer c
 driver_begun step.Look c = DriverOp.collect
 driver_begun (step.Check n) c = DriverOp.signal
@@ -151,6 +154,7 @@ driver_begun step.Disarm c = DriverOp.disarm
 abbrev pub driver_left : DriverStep → List Piece → ℕ
 driver_left step.Idle c = 0
 driver_left (step.Describe at) c = 2 * length c - at + 3
+driver_left (step.Table at) c = 2 * length c - at + 4
 driver_left step.Publish c = 3
 driver_left step.Look c = 1
 driver_left (step.Check n) c = 2

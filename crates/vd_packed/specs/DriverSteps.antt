@@ -4,7 +4,8 @@ use Rattle.std.proofs.lemmas.Bool.{cases_eq, eq-eqb, ne_eqb, ltb-true, ltb-false
 use Rattle.std.proofs.lemmas.List.{length-set, length_push, take_all, take_more, get_or-set_same, get_or-set_other, get_or-take}
 use Rattle.std.specs.Vec.{with_item}
 use Rattle.vd_model.specs.declared.chain.Piece.{Piece}
-use Rattle.vd_model.specs.Chains.{blank, needs}
+use Rattle.vd_model.specs.declared.features.Features.{Features}
+use Rattle.vd_model.specs.Chains.{needs}
 use Rattle.vd_words.specs.declared.access.Access.{Access}
 use Rattle.vd_words.specs.declared.access.Access.TheVariants.{Store}
 use Rattle.vd_words.specs.declared.access.Op.{Op}
@@ -24,24 +25,26 @@ use Rattle.vd_ring.specs.Places.{Places}
 use Rattle.vd_ring.proofs.Counts.{one_same, one_other, occurs_push}
 use Rattle.vd_ring.proofs.HeldInside.{next_low}
 use Rattle.vd_ring.proofs.HeldPlaces.{open_below, offer_places, places_before, places_new, chain_before, chain_new, head_inside, same_head}
-use Rattle.vd_packed_ring.specs.PackedWords.{IsLawful, IsBuilt, second_word, put, words_of}
-use Rattle.vd_packed_ring.specs.PackedChains.{direct, staged, publishing, staged_chain, staged_pieces}
+use Rattle.vd_packed_ring.specs.PackedWords.{IsLawful, second_word, put, words_of}
+use Rattle.vd_packed_ring.specs.PackedChains.{direct, descriptors, staged, publishing, staged_chain, is_tabled}
 use Rattle.vd_packed_ring.specs.PackedPositions.{opos, cpos}
 use Rattle.vd_packed_ring.specs.PackedDriver.{CanOffer, Begins, DriverNextAt, DriverNext, driver_after_at, driver_after, driver_act, driver_act_at, driver_offers, plan, last_put, stores}
-use Rattle.vd_packed_ring.proofs.Clear.{plan_is}
-use Rattle.vd_packed_ring.proofs.Positions.{driver_span, opos_offered, cpos_offered, free_some}
-use Rattle.vd_packed_ring.proofs.Spelled.{needs_pieces, lent_one, publishing_is, staged_is, staged_back}
+use Rattle.vd_packed_ring.proofs.Offers.{staged_is_chain}
+use Rattle.vd_packed_ring.proofs.Positions.{needs_some, driver_span, opos_offered, cpos_offered, free_some}
+use Rattle.vd_packed_ring.proofs.Spelled.{lent_one}
 use Rattle.vd_layout.specs.Begun.{DriverOp, IsDriverOp}
 use Rattle.vd_layout.specs.Driver.{DriverSays, IsDriverStep}
 use Rattle.vd_packed.specs.declared.driver.PackedDriver.{PackedDriver}
 use Rattle.vd_packed.specs.declared.driver.Slot.{Slot}
 use Rattle.vd_packed.specs.declared.driver.DriverStep.TheVariants as step
 use Rattle.vd_packed.specs.declared.spot.Spot.{Spot}
-use Rattle.vd_packed.specs.Bounds.{limit_small, opos_few}
+use Rattle.vd_packed.specs.Bounds.{limit_small, needs_few, opos_few}
 use Rattle.vd_packed.specs.DriverEnd.{HoldsIds, DriverStands, DriverStepStands, DriverStepArmed, driver_owes, not_armed, Keeps, offering, driver_begun, driver_left, packed_driver}
-use Rattle.vd_packed.specs.Offers.{plan_length, begins_at, apart_at, word_at}
+use Rattle.vd_packed.specs.Offers.{begins_at}
+use Rattle.vd_packed.specs.Tabled.{needed, published_word}
+use Rattle.vd_packed.specs.Tabling.{direct_needs, plan_direct, plan_length, apart_at, published_at}
 use Rattle.vd_packed.specs.Places.{spot_below, second_at, same_at, forward_at}
-use Rattle.vd_packed.specs.Seconds.{available_word, described_step, spot_after}
+use Rattle.vd_packed.specs.Seconds.{described_step, spot_after}
 use Rattle.vd_packed.specs.Spots.{IsAt, forward}
 
 -- what one step of the end owes in a view
@@ -68,22 +71,22 @@ next_id_facts e v c st can =
 
 -- ---- the store of a descriptor's word
 
-none_yet : (pl : List Put) (at : ℕ) → at ≡ 0 → take at pl ≡ []
+pub none_yet : (pl : List Put) (at : ℕ) → at ≡ 0 → take at pl ≡ []
 none_yet pl at e = ap (λ k. take k pl) e
 
-next_at : (v : DriverView) (at : ℕ) (ps : List Put) (s : Put) → v.armed ≡ None → (at ≡ 0 → ps ≡ []) → Begins v.frame v.done (ps ++ s ∷ []) → DriverNextAt (offering at ps) v op.Offer (Store s.place s.word)
+pub next_at : (v : DriverView) (at : ℕ) (ps : List Put) (s : Put) → v.armed ≡ None → (at ≡ 0 → ps ≡ []) → Begins v.frame v.done (ps ++ s ∷ []) → DriverNextAt (offering at ps) v op.Offer (Store s.place s.word)
 next_at v zero ps s armed none h = (armed, subst (λ (us : List Put). Begins v.frame v.done (us ++ s ∷ [])) (none refl) h)
 next_at v (suc n) ps s armed none h = inl h
 
-after_at : (v : DriverView) (at : ℕ) (ps : List Put) (s : Put) (r : ℕ) → (at ≡ 0 → ps ≡ []) → s.place ≢ second_word v.frame.size (opos v.frame v.done) → driver_after_at (offering at ps) v op.Offer (Store s.place s.word) r ≡ stores v s.place s.word (now.Offering (ps ++ s ∷ []))
+pub after_at : (v : DriverView) (at : ℕ) (ps : List Put) (s : Put) (r : ℕ) → (at ≡ 0 → ps ≡ []) → s.place ≢ second_word v.frame.size (opos v.frame v.done) → driver_after_at (offering at ps) v op.Offer (Store s.place s.word) r ≡ stores v s.place s.word (now.Offering (ps ++ s ∷ []))
 after_at v zero ps s r none ne = ap (λ (us : List Put). stores v s.place s.word (now.Offering (us ++ s ∷ []))) (sym (none refl))
 after_at v (suc n) ps s r none ne = ap (λ (b : Bool). if b then driver_offers v ps s.place s.word else stores v s.place s.word (now.Offering (ps ++ s ∷ []))) (ne_eqb s.place (second_word v.frame.size (opos v.frame v.done)) ne)
 
-act_at : (v : DriverView) (at : ℕ) (ps : List Put) (p x r : ℕ) → p ≢ second_word v.frame.size (opos v.frame v.done) → driver_act_at (offering at ps) v op.Offer (Store p x) r ≡ act.Moved
+pub act_at : (v : DriverView) (at : ℕ) (ps : List Put) (p x r : ℕ) → p ≢ second_word v.frame.size (opos v.frame v.done) → driver_act_at (offering at ps) v op.Offer (Store p x) r ≡ act.Moved
 act_at v zero ps p x r ne = refl
 act_at v (suc n) ps p x r ne = ap (λ (b : Bool). if b then act.Offered (length (offers v.done)) else act.Moved) (ne_eqb p (second_word v.frame.size (opos v.frame v.done)) ne)
 
-offering_some : (n : ℕ) (ps : List Put) → offering (n + 1) ps ≡ now.Offering ps
+pub offering_some : (n : ℕ) (ps : List Put) → offering (n + 1) ps ≡ now.Offering ps
 offering_some n ps = ap (λ m. offering m ps) (let e : n + 1 ≡ suc n = omega arith in e)
 
 -- the spot after a store
@@ -94,12 +97,12 @@ spot_on s n q at pos h = elim (cases_eq (at % 2) 0) [
 ]
 
 -- the step after store number j stands with one store more
-stands_on : (b : Bool) (j : ℕ) (c : List Piece) (spot : Spot) (f : Frame) (o : List DriverDone) (ps : List Put) → CanOffer f o c → j + 1 < 2 * length c → length (plan f o c) + 1 ≡ 2 * length c → nat_lt (j + 2) (2 * length c) ≡ b → ps ≡ take (j + 1) (plan f o c)
+stands_on : (b : Bool) (j : ℕ) (c : List Piece) (spot : Spot) (f : Frame) (o : List DriverDone) (ps : List Put) → CanOffer f o c → is_tabled f c ≡ false → j + 1 < 2 * length c → length (plan f o c) + 1 ≡ 2 * length c → nat_lt (j + 2) (2 * length c) ≡ b → ps ≡ take (j + 1) (plan f o c)
     → IsAt spot f.size (opos f o + (j + 1 + 1) / 2) → DriverStepStands (if b then step.Describe (j + 1) else step.Publish) c spot f o (now.Offering ps)
-stands_on true j c spot f o ps can below many eq is here = (can, omega (arith, ltb-true (j + 2) (2 * length c) eq), here, ap now.Offering is ∙ sym (offering_some j (take (j + 1) (plan f o c))))
-stands_on false j c spot f o ps can below many eq is here =
+stands_on true j c spot f o ps can off below many eq is here = (can, omega (arith, ltb-true (j + 2) (2 * length c) eq), here, ap now.Offering is ∙ sym (offering_some j (take (j + 1) (plan f o c))), off)
+stands_on false j c spot f o ps can off below many eq is here =
     let last : 2 * length c ≤ j + 2 = ltb-false (j + 2) (2 * length c) eq in
-    (can, same_at spot f.size (opos f o + (j + 1 + 1) / 2) (opos f o + length c) (omega arith) here, ap now.Offering (is ∙ take_all (j + 1) (plan f o c) (omega arith)))
+    (can, same_at spot f.size (opos f o + (j + 1 + 1) / 2) (opos f o + needs f.features c) (omega (arith, direct_needs f c can.fits.chain.0 off)) here, ap now.Offering (is ∙ take_all (j + 1) (plan f o c) (omega arith)))
 
 shorter : (b : Bool) (j : ℕ) (c : List Piece) → nat_lt (j + 2) (2 * length c) ≡ b → j + 1 < 2 * length c → driver_left (if b then step.Describe (j + 1) else step.Publish) c < 2 * length c - j + 3
 shorter true j c eq below = omega (arith, ltb-true (j + 2) (2 * length c) eq)
@@ -124,13 +127,13 @@ describe_goes e v j r is st =
     let pl : List Put = plan f o c in
     let s : Put = slice_index_or pl j (put 0 0) in
     let ps : List Put = take j pl in
-    let l : IsLawful f = st.made.lawful in let b : IsBuilt f = st.made.built in
+    let l : IsLawful f = st.made.lawful in
     let n : DriverStepStands (step.Describe j) c e.at f o v.doing = subst (λ t. DriverStepStands t c e.at f o v.doing) is st.doing in
     let can : CanOffer f o c = n.0 in
     let below : j + 1 < 2 * length c = n.1 in
-    let len = plan_length f o c b can in
+    let len = plan_length f o c can n.4 in
     let low : j < length pl = omega arith in
-    let ne = apart_at f o c j l b can low in
+    let ne = apart_at f o c j l can low in
     let none = none_yet pl j in
     let is_after = ap (λ t. driver_after_at t v op.Offer (Store s.place s.word) r) n.3 ∙ after_at v j ps s r none ne in
     let e' : PackedDriver = record e { at = spot_after e.at j e.size; doing = described_step j (length c) } in
@@ -147,7 +150,7 @@ describe_goes e v j r is st =
         holds = st.holds;
         kick = st.kick;
         signals = record { is_armed = st.signals.is_armed; hears = st.signals.hears; rings = st.signals.rings; few = owes_none (nat_lt (j + 2) (2 * length c)) j e.bells e.offered few; awake = awake_on (nat_lt (j + 2) (2 * length c)) j e.armed off };
-        doing = stands_on (nat_lt (j + 2) (2 * length c)) j c (spot_after e.at j e.size) f o (ps ++ s ∷ []) can below len refl more spot;
+        doing = stands_on (nat_lt (j + 2) (2 * length c)) j c (spot_after e.at j e.size) f o (ps ++ s ∷ []) can n.4 below len refl more spot;
       };
       is = sym (ap (λ t. driver_act_at t v op.Offer (Store s.place s.word) r) n.3 ∙ act_at v j ps s.place s.word r ne);
       left = subst (λ t. driver_left (described_step j (length c)) c < driver_left t c) (sym is) (shorter (nat_lt (j + 2) (2 * length c)) j c refl below);
@@ -164,7 +167,7 @@ describe_goes_at e v j r id p x is st first_id place word =
     let f : Frame = v.frame in let o : List DriverDone = v.done in let c : List Piece = e.pieces.items in
     let e' : PackedDriver = record e { at = spot_after e.at j e.size; doing = described_step j (length c) } in
     let n : DriverStepStands (step.Describe j) c e.at f o v.doing = subst (λ t. DriverStepStands t c e.at f o v.doing) is st.doing in
-    let same : staged f.size (opos f o) (direct id c) ≡ plan f o c = ap (λ (i : ℕ). staged f.size (opos f o) (direct i c)) (first_id ∙ ap first st.holds.queued) ∙ sym (plan_is f o c st.made.built) in
+    let same : staged f.size (opos f o) (direct id c) ≡ plan f o c = ap (λ (i : ℕ). staged f.size (opos f o) (direct i c)) (first_id ∙ ap first st.holds.queued) ∙ sym (plan_direct f o c n.4) in
     subst (λ q. Goes e e' v op.Offer (Store q x) r act.Moved) (sym (place f.size (opos f o) n.2 ∙ ap (λ (pl : List Put). (slice_index_or pl j (put 0 0)).place) same))
     (subst (λ y. Goes e e' v op.Offer (Store (slice_index_or (plan f o c) j (put 0 0)).place y) r act.Moved) (sym (word f.size (opos f o) n.2 ∙ ap (λ (pl : List Put). (slice_index_or pl j (put 0 0)).word) same))
     (describe_goes e v j r is st))
@@ -216,8 +219,12 @@ holds_more queue capacity slots f o c s h l can number count =
 open_offered : (f : Frame) (o : List DriverDone) (c : List Piece) → Places f o → Places f (Offer c ∷ o) → open_size f (Offer c ∷ o) ≡ open_size f o + needs f.features c
 open_offered f o c p p' = omega (arith, driver_span f o p.is_open, driver_span f (Offer c ∷ o) p'.is_open, opos_offered f o c, cpos_offered f o c p)
 
+-- what the end counts for a chain is what it takes
+pub needed_is : (e : PackedDriver) (v : DriverView) (c : List Piece) → DriverStands e v → needed e.features.indirect (length c) ≡ needs v.frame.features c
+needed_is e v c st = ap (λ (x : Features). needed x.indirect (length c)) st.made.featured
+
 pub publish_facts : (e : PackedDriver) (v : DriverView) → e.doing ≡ step.Publish → DriverStands e v
-    → (0 < length e.free.items) × (slice_index e.free.items 0 < 65536) × (0 < length e.pieces.items) × (length e.pieces.items ≤ 16) × (e.next.place < 32768) × (slice_index e.free.items 0 < length e.slots.items) × (length e.pieces.items ≤ e.space)
+    → (0 < length e.free.items) × (slice_index e.free.items 0 < 65536) × (0 < length e.pieces.items) × (length e.pieces.items ≤ 16) × (e.next.place < 32768) × (slice_index e.free.items 0 < length e.slots.items) × (needed e.features.indirect (length e.pieces.items) ≤ e.space)
 publish_facts e v is st =
     let f : Frame = v.frame in let o : List DriverDone = v.done in let c : List Piece = e.pieces.items in
     let n : DriverStepStands step.Publish c e.at f o v.doing = subst (λ t. DriverStepStands t c e.at f o v.doing) is st.doing in
@@ -229,14 +236,14 @@ publish_facts e v is st =
       n.0.fits.chain.1,
       omega (arith, spot_below e.next f.size (opos f o) (omega (arith, st.made.lawful.least)) st.counts.next_at, st.made.lawful.most),
       omega (arith, id.1, st.holds.as_many, st.made.sized),
-      omega (arith, n.0.room, needs_pieces f c st.made.built, driver_span f o st.holds.held.is_open, st.counts.left),
+      omega (arith, n.0.room, needed_is e v c st, driver_span f o st.holds.held.is_open, st.counts.left),
     )
 
 -- its position fits 64 bits
-pub position_small : (e : PackedDriver) (v : DriverView) → e.doing ≡ step.Publish → DriverStands e v → e.next_position + length e.pieces.items < 1000000000000
+pub position_small : (e : PackedDriver) (v : DriverView) → e.doing ≡ step.Publish → DriverStands e v → e.next_position + needed e.features.indirect (length e.pieces.items) < 1000000000000
 position_small e v is st =
     let n : DriverStepStands step.Publish e.pieces.items e.at v.frame v.done v.doing = subst (λ t. DriverStepStands t e.pieces.items e.at v.frame v.done v.doing) is st.doing in
-    omega (arith, n.0.limited, limit_small v.frame, st.counts.next_is, opos_few v.frame v.done st.made.built st.holds.held, n.0.fits.chain.1)
+    omega (arith, n.0.limited, limit_small v.frame, st.counts.next_is, opos_few v.frame v.done st.holds.held, needed_is e v e.pieces.items st, needs_few v.frame e.pieces.items n.0.fits.chain)
 
 -- the number of a chain that is offered now fits 32 bits
 pub offered_small : (e : PackedDriver) (v : DriverView) → e.doing ≡ step.Publish → DriverStands e v → e.offered < 4294967295
@@ -244,36 +251,33 @@ offered_small e v is st =
     let n : DriverStepStands step.Publish e.pieces.items e.at v.frame v.done v.doing = subst (λ t. DriverStepStands t e.pieces.items e.at v.frame v.done v.doing) is st.doing in
     omega (arith, n.0.limited, st.counts.offers, limit_small v.frame)
 
-publish_at : (e : PackedDriver) (v : DriverView) (r p x : ℕ) (e' : PackedDriver) (s : Slot) → e.doing ≡ step.Publish → DriverStands e v
-    → p ≡ second_word v.frame.size (opos v.frame v.done) → x ≡ (publishing v.frame.size (opos v.frame v.done) (direct (next_head v.frame v.done) e.pieces.items)).word
-    → e'.free.items ≡ drop 1 e.free.items → e'.free.capacity ≡ e.free.capacity → s.number ≡ e.offered → s.count ≡ length e.pieces.items
-    → Goes e (record e { offered = e.offered + 1; next = e.at; next_position = e.next_position + length e.pieces.items; space = e.space - length e.pieces.items; free = e'.free; slots = with_item e.slots (slice_index e.free.items 0) s; doing = step.Check (length e.pieces.items) }) v op.Offer (Store p x) r (act.Offered e.offered)
-publish_at e v r p x e' s is st place word left capacity number count =
+publish_at : (e : PackedDriver) (v : DriverView) (r p x k : ℕ) (e' : PackedDriver) (s : Slot) → e.doing ≡ step.Publish → DriverStands e v
+    → p ≡ second_word v.frame.size (opos v.frame v.done) → x ≡ (last_put v.frame v.done e.pieces.items).word → k ≡ needs v.frame.features e.pieces.items
+    → e'.free.items ≡ drop 1 e.free.items → e'.free.capacity ≡ e.free.capacity → s.number ≡ e.offered → s.count ≡ k
+    → Goes e (record e { offered = e.offered + 1; next = e.at; next_position = e.next_position + k; space = e.space - k; free = e'.free; slots = with_item e.slots (slice_index e.free.items 0) s; doing = step.Check k }) v op.Offer (Store p x) r (act.Offered e.offered)
+publish_at e v r p x k e' s is st place word many left capacity number count =
     let f : Frame = v.frame in let o : List DriverDone = v.done in let c : List Piece = e.pieces.items in
-    let m : ℕ = length (offers o) in let id : ℕ = next_head f o in let q : ℕ = opos f o in
-    let l : IsLawful f = st.made.lawful in let b : IsBuilt f = st.made.built in
+    let m : ℕ = length (offers o) in let q : ℕ = opos f o in
+    let l : IsLawful f = st.made.lawful in
     let n : DriverStepStands step.Publish c e.at f o v.doing = subst (λ t. DriverStepStands t c e.at f o v.doing) is st.doing in
     let can : CanOffer f o c = n.0 in
     let ps : List Put = plan f o c in
-    let low = (next_id_facts e v c st can) in
-    let small = size_facts e v st in
-    let spelled : staged_chain f (words_of ps) x ≡ c = staged_is f (words_of ps) x b ∙ (ap (λ (us : List Put). staged_pieces (words_of us) x) (plan_is f o c b) ∙ (ap (λ (y : ℕ). staged_pieces (words_of (staged f.size q (direct id c))) y) word ∙ staged_back f.size q id c can.fits.chain.0 (omega (arith, low.1, low.2, small.1)) can.fits.chain.3)) in
-    let whole : put p x ≡ last_put f o c = ap (λ (k : ℕ). put k x) place ∙ (ap (λ (k : ℕ). put (second_word f.size q) k) word ∙ sym (publishing_is f q id c b)) in
+    let spelled : staged_chain f (words_of ps) x ≡ c = staged_is_chain f o c ps x l can refl word in
+    let whole : put p x ≡ last_put f o c = ap (λ (i : ℕ). put i x) place ∙ ap (λ (i : ℕ). put (second_word f.size q) i) word in
     let on : (p == second_word f.size q) ≡ true = eq-eqb p (second_word f.size q) place in
-    let e2 : PackedDriver = record e { offered = e.offered + 1; next = e.at; next_position = e.next_position + length c; space = e.space - length c; free = e'.free; slots = with_item e.slots (slice_index e.free.items 0) s; doing = step.Check (length c) } in
+    let e2 : PackedDriver = record e { offered = e.offered + 1; next = e.at; next_position = e.next_position + k; space = e.space - k; free = e'.free; slots = with_item e.slots (slice_index e.free.items 0) s; doing = step.Check k } in
     let longer = length_push (offers o) c in
-    let many = needs_pieces f c b in
     let is_after : driver_after v op.Offer (Store p x) r ≡ record v { done = Offer c ∷ o; stored = slice_set v.stored p x; doing = now.Checking q (opos f (Offer c ∷ o)) } =
     ap (λ t. driver_after_at t v op.Offer (Store p x) r) n.2 ∙ (ap (λ (i : Bool). if i then driver_offers v ps p x else stores v p x (now.Offering (ps ++ put p x ∷ []))) on
     ∙ ap (λ (cs : List Piece). record v { done = Offer cs ∷ o; stored = slice_set v.stored p x; doing = now.Checking q (opos f (Offer cs ∷ o)) }) spelled) in
-    let held0 = holds_more e.free.items e.free.capacity e.slots.items f o c s st.holds l can (number ∙ st.counts.offers) (count ∙ sym many) in
+    let held0 = holds_more e.free.items e.free.capacity e.slots.items f o c s st.holds l can (number ∙ st.counts.offers) (count ∙ many) in
     let held : HoldsIds e'.free.items e'.free.capacity (slice_set e.slots.items (slice_index e.free.items 0) s) f (Offer c ∷ o) =
     subst (λ u. HoldsIds u e'.free.capacity (slice_set e.slots.items (slice_index e.free.items 0) s) f (Offer c ∷ o)) (sym left)
     (subst (λ k. HoldsIds (drop 1 e.free.items) k (slice_set e.slots.items (slice_index e.free.items 0) s) f (Offer c ∷ o)) (sym capacity) held0) in
     let fits = publish_facts e v is st in
     let off : e.armed ≡ false = subst (λ t. DriverStepArmed t e.armed) is st.signals.awake in
     let few : e.bells + 0 ≤ e.offered = subst (λ t. e.bells + driver_owes t ≤ e.offered) is st.signals.few in
-    let past : q + length c ≡ opos f (Offer c ∷ o) = omega (arith, opos_offered f o c, many) in
+    let past : q + k ≡ opos f (Offer c ∷ o) = omega (arith, opos_offered f o c, many) in
     record {
       of_it = subst (λ t. IsDriverOp (driver_begun t c) op.Offer) (sym is) refl;
       next = subst (λ t. DriverNextAt t v op.Offer (Store p x)) (sym n.2) (inr record { chain = c; can = can; whole = refl; last = whole });
@@ -282,16 +286,16 @@ publish_at e v r p x e' s is st place word left capacity number count =
         counts = record {
           offers = omega (arith, st.counts.offers, longer);
           collects = st.counts.collects;
-          next_at = same_at e.at f.size (q + length c) (opos f (Offer c ∷ o)) past n.1;
+          next_at = same_at e.at f.size (q + needs f.features c) (opos f (Offer c ∷ o)) (omega (arith, opos_offered f o c)) n.1;
           used_at = same_at e.used f.size (cpos f o) (cpos f (Offer c ∷ o)) (sym (cpos_offered f o c st.holds.held)) st.counts.used_at;
           next_is = omega (arith, st.counts.next_is, past);
           used_is = st.counts.used_is ∙ sym (cpos_offered f o c st.holds.held);
-          left = omega (arith, fits, st.counts.left, open_offered f o c st.holds.held held0.held, many);
+          left = omega (arith, fits.6, st.counts.left, open_offered f o c st.holds.held held0.held, many, needed_is e v c st);
         };
         holds = held;
         kick = st.kick;
         signals = record { is_armed = not_armed e v st off ∙ sym (ap (λ (y : Bool). if y then Some (cpos f (Offer c ∷ o)) else None) off); hears = st.signals.hears; rings = st.signals.rings; few = omega (arith, few); awake = off };
-        doing = (q, refl, past, can.fits.chain.0, omega (arith, can.fits.size, many));
+        doing = (q, refl, past, omega (arith, needs_some f c can.fits, many), omega (arith, can.fits.size, many));
       };
       is = ap act.Offered st.counts.offers ∙ sym (ap (λ t. driver_act_at t v op.Offer (Store p x) r) n.2 ∙ ap (λ (i : Bool). if i then act.Offered m else act.Moved) on);
       left = subst (λ t. 2 < driver_left t c) (sym is) (let z : 2 < 3 = omega arith in z);
@@ -300,14 +304,15 @@ publish_at e v r p x e' s is st place word left capacity number count =
     }
 
 -- the word as the end computes it
-pub publish_goes : (e : PackedDriver) (v : DriverView) (r x id : ℕ) (e' : PackedDriver) (s : Slot) → e.doing ≡ step.Publish → DriverStands e v
-    → id ≡ slice_index e.free.items 0 → x ≡ available_word e.next.wrap id (slice_index_or e.pieces.items 0 blank) (if nat_lt (0 + 1) (length e.pieces.items) then 1 else 0)
-    → e'.free.items ≡ drop 1 e.free.items → e'.free.capacity ≡ e.free.capacity → s.number ≡ e.offered → s.count ≡ length e.pieces.items
-    → Goes e (record e { offered = e.offered + 1; next = e.at; next_position = e.next_position + length e.pieces.items; space = e.space - length e.pieces.items; free = e'.free; slots = with_item e.slots id s; doing = step.Check (length e.pieces.items) }) v op.Offer (Store (2 * e.next.place + 1) x) r (act.Offered e.offered)
-publish_goes e v r x id e' s is st first_id word left capacity number count =
+pub publish_goes : (e : PackedDriver) (v : DriverView) (r x id k : ℕ) (e' : PackedDriver) (s : Slot) → e.doing ≡ step.Publish → DriverStands e v
+    → id ≡ slice_index e.free.items 0 → x ≡ published_word e.features.indirect e.next.wrap id e.pieces.items → k ≡ needed e.features.indirect (length e.pieces.items)
+    → e'.free.items ≡ drop 1 e.free.items → e'.free.capacity ≡ e.free.capacity → s.number ≡ e.offered → s.count ≡ k
+    → Goes e (record e { offered = e.offered + 1; next = e.at; next_position = e.next_position + k; space = e.space - k; free = e'.free; slots = with_item e.slots id s; doing = step.Check k }) v op.Offer (Store (2 * e.next.place + 1) x) r (act.Offered e.offered)
+publish_goes e v r x id k e' s is st first_id word many left capacity number count =
     let f : Frame = v.frame in let o : List DriverDone = v.done in let c : List Piece = e.pieces.items in let q : ℕ = opos f o in
     let fits = publish_facts e v is st in
     let is_id : id ≡ next_head f o = first_id ∙ ap first st.holds.queued in
-    let value : x ≡ (publishing f.size q (direct (next_head f o) c)).word = word ∙ (word_at e.next f.size q id c 0 fits.2 st.counts.next_at ∙ ap (λ (i : ℕ). (publishing f.size q (direct i c)).word) is_id) in
-    subst (λ i. Goes e (record e { offered = e.offered + 1; next = e.at; next_position = e.next_position + length c; space = e.space - length c; free = e'.free; slots = with_item e.slots i s; doing = step.Check (length c) }) v op.Offer (Store (2 * e.next.place + 1) x) r (act.Offered e.offered)) (sym first_id)
-    (publish_at e v r (2 * e.next.place + 1) x e' s is st (second_at e.next f.size q st.counts.next_at) value left capacity number count)
+    let value : x ≡ (last_put f o c).word =
+    word ∙ (ap (λ (y : Features). published_word y.indirect e.next.wrap id c) st.made.featured ∙ (published_at e.next f q id c fits.2 st.counts.next_at ∙ ap (λ (i : ℕ). (publishing f.size q (descriptors f i c)).word) is_id)) in
+    subst (λ i. Goes e (record e { offered = e.offered + 1; next = e.at; next_position = e.next_position + k; space = e.space - k; free = e'.free; slots = with_item e.slots i s; doing = step.Check k }) v op.Offer (Store (2 * e.next.place + 1) x) r (act.Offered e.offered)) (sym first_id)
+    (publish_at e v r (2 * e.next.place + 1) x k e' s is st (second_at e.next f.size q st.counts.next_at) value (many ∙ needed_is e v c st) left capacity number count)

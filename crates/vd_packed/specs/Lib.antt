@@ -1,5 +1,6 @@
 pub mod Spots
 pub mod Seconds
+pub mod Tabled
 pub mod Bounds
 pub mod Events
 pub mod DriverEnd
@@ -7,16 +8,20 @@ pub mod DeviceEnd
 pub mod Telling
 pub mod Places
 pub mod Offers
+pub mod Tabling
 pub mod DriverSteps
+pub mod TabledSteps
 pub mod DriverCollecting
 pub mod DriverBells
 pub mod DriverLaws
 pub mod DeviceGiving
 pub mod Loaded
 pub mod Loads
+pub mod ToldTables
 pub mod DeviceLooking
 pub mod DeviceTaking
 pub mod DeviceTaken
+pub mod DeviceTabling
 pub mod DeviceBells
 pub mod DeviceRest
 pub mod DeviceLaws

@@ -1,9 +1,12 @@
 -- What the device's end is after a word of a take was loaded, by what it was before.
-use Rattle.std.specs.Prelude.{◌≡◌, ℕ, ◌+◌, ◌<◌, ◌++◌, ◌∷◌, [], length, Some}
+use Rattle.std.specs.Prelude.{◌≡◌, ℕ, ◌+◌, ◌<◌, ◌++◌, ◌∷◌, ◌&&◌, ◌==◌, [], Bool, length, Some}
 use Rattle.std.specs.Vec.{with_item}
+use Rattle.vd_model.specs.declared.chain.Piece.{Piece}
+use Rattle.vd_packed_ring.specs.PackedWords.{id_of, names_table}
 use Rattle.vd_packed_ring.specs.PackedChains.{piece_of}
 use Rattle.vd_packed.specs.declared.device.PackedDevice.{PackedDevice}
 use Rattle.vd_packed.specs.declared.device.DeviceStep.TheVariants as step
+use Rattle.vd_packed.specs.declared.spot.Spot.{Spot}
 use Rattle.vd_packed.specs.Spots.{forward}
 
 -- a second word that shows a chain
@@ -11,10 +14,19 @@ pub record HasSeen (word : ℕ) (e e' : PackedDevice) : Type 0 where
   pub empty : e'.pieces.items ≡ []
   pub kept : e' ≡ record e { pieces = e'.pieces; second = word; at = e.next; doing = step.Address }
 
+-- the second word loaded last is that of the first descriptor, and names a table
+abbrev pub names_its_table : PackedDevice → Bool
+names_its_table e = (e.features.indirect && (length e.pieces.items == 0)) && names_table e.second
+
 -- the address of a descriptor that another follows
 pub record HasMore (addr : ℕ) (e e' : PackedDevice) : Type 0 where
   pub pushed : e'.pieces.items ≡ e.pieces.items ++ piece_of addr e.second ∷ []
   pub kept : e' ≡ record e { pieces = e'.pieces; at = forward e.at 1 e.size; doing = step.Second }
+
+-- a piece of a table that another follows
+pub record HasPiece (x : Piece) (e e' : PackedDevice) : Type 0 where
+  pub pushed : e'.pieces.items ≡ e.pieces.items ++ x ∷ []
+  pub kept : e' ≡ record e { pieces = e'.pieces; doing = step.TableAddress }
 
 -- a chain with this id may be counted
 pub record MayTake (e : PackedDevice) (id : ℕ) : Type 0 where
@@ -24,19 +36,33 @@ pub record MayTake (e : PackedDevice) (id : ℕ) : Type 0 where
   pub number : e.taken < 4294967295
   pub position : e.next_position < 1000000000000
 
--- the address of a chain's last descriptor: the chain runs with this id
-pub record HasTaken (addr id : ℕ) (e e' : PackedDevice) : Type 0 where
-  pub pushed : e'.pieces.items ≡ e.pieces.items ++ piece_of addr e.second ∷ []
+-- the end that counted a chain of n descriptors, which runs with the id of the second word loaded last
+pub record HasCounted (n : ℕ) (e e' : PackedDevice) : Type 0 where
   pub guesses : length e'.guesses.items ≡ length e.guesses.items
   pub kept :
       e' ≡ record e {
         taken = e.taken + 1;
-        next = forward e.at 1 e.size;
-        next_position = e.next_position + (length e.pieces.items + 1);
-        running = with_item e.running id (Some e.taken);
-        counts = with_item e.counts id (length e.pieces.items + 1);
+        next = e.at;
+        next_position = e.next_position + n;
+        running = with_item e.running (id_of e.second) (Some e.taken);
+        counts = with_item e.counts (id_of e.second) n;
+        guesses = e'.guesses;
+        doing = step.Idle;
+      }
+
+-- the same after its last piece was loaded, where its descriptors end at this spot
+pub record HasTaken (x : Piece) (spot : Spot) (n : ℕ) (e e' : PackedDevice) : Type 0 where
+  pub pushed : e'.pieces.items ≡ e.pieces.items ++ x ∷ []
+  pub guesses : length e'.guesses.items ≡ length e.guesses.items
+  pub kept :
+      e' ≡ record e {
+        taken = e.taken + 1;
+        next = spot;
+        next_position = e.next_position + n;
+        running = with_item e.running (id_of e.second) (Some e.taken);
+        counts = with_item e.counts (id_of e.second) n;
         guesses = e'.guesses;
         pieces = e'.pieces;
-        at = forward e.at 1 e.size;
+        at = spot;
         doing = step.Idle;
       }

@@ -8,13 +8,11 @@ use Rattle.vd_ring.specs.declared.frame.Frame.{Frame}
 use Rattle.vd_ring.specs.declared.frame.Put.{Put}
 use Rattle.vd_ring.specs.declared.driver.DriverDone.{DriverDone}
 use Rattle.vd_ring.specs.History.{next_head}
-use Rattle.vd_packed_ring.specs.PackedWords.{IsLawful, IsBuilt, wrap_bit, addr_word, second_word, packed_word, put}
+use Rattle.vd_packed_ring.specs.PackedWords.{wrap_bit, addr_word, second_word, packed_word, put}
 use Rattle.vd_packed_ring.specs.PackedChains.{Descriptor, avail_word, direct, described, staged}
 use Rattle.vd_packed_ring.specs.PackedDriver.{CanOffer, Begins, plan}
 use Rattle.vd_packed_ring.specs.PackedPositions.{opos}
-use Rattle.vd_packed_ring.proofs.Clear.{plan_is}
-use Rattle.vd_packed_ring.proofs.Plans.{publishing_apart}
-use Rattle.vd_packed_ring.proofs.Spelled.{length_direct, needs_pieces}
+use Rattle.vd_packed_ring.proofs.Spelled.{length_direct}
 use Rattle.vd_packed.specs.declared.spot.Spot.{Spot}
 use Rattle.vd_packed.specs.Spots.{IsAt, bit}
 use Rattle.vd_packed.specs.Seconds.{available_word}
@@ -103,11 +101,6 @@ length_staged n q (d ∷ ds) h = omega (arith, length_described n (q + 1) ds)
 
 -- ---- the plan of an offer
 
-pub plan_length : (f : Frame) (o : List DriverDone) (c : List Piece) → IsBuilt f → CanOffer f o c → length (plan f o c) + 1 ≡ 2 * length c
-plan_length f o c b can =
-    let ds : List Descriptor = direct (next_head f o) c in
-    omega (arith, ap (λ (ps : List Put). length ps) (plan_is f o c b), length_staged f.size (opos f o) ds (omega (arith, length_direct (next_head f o) c, can.fits.chain.0)), length_direct (next_head f o) c)
-
 -- the first stores, and the one after them, are the first stores
 pub begins_at : (f : Frame) (o : List DriverDone) (c : List Piece) (at : ℕ) → CanOffer f o c → at < length (plan f o c) → Begins f o (take at (plan f o c) ++ slice_index_or (plan f o c) at (put 0 0) ∷ [])
 begins_at f o c at can below =
@@ -115,14 +108,6 @@ begins_at f o c at can below =
     let more : take (at + 1) pl ≡ take at pl ++ slice_index_or pl at (put 0 0) ∷ [] = take_more pl at (put 0 0) below in
     let many : length (take at pl ++ slice_index_or pl at (put 0 0) ∷ []) ≡ at + 1 = ap (λ (ps : List Put). length ps) (sym more) ∙ length-take-le (at + 1) pl (omega arith) in
     record { chain = c; can = can; first = sym more ∙ ap (λ k. take k pl) (sym many) }
-
--- none of them is in the word that is stored last
-pub apart_at : (f : Frame) (o : List DriverDone) (c : List Piece) (at : ℕ) → IsLawful f → IsBuilt f → CanOffer f o c → at < length (plan f o c) → (slice_index_or (plan f o c) at (put 0 0)).place ≢ second_word f.size (opos f o)
-apart_at f o c at l b can below =
-    let ds : List Descriptor = direct (next_head f o) c in
-    let few : length ds ≤ f.size = omega (arith, length_direct (next_head f o) c, can.fits.size, needs_pieces f c b) in
-    let clear = publishing_apart f.size (opos f o) ds (omega (arith, l.least)) few in
-    subst (λ (ps : List Put). (slice_index_or ps at (put 0 0)).place ≢ second_word f.size (opos f o)) (sym (plan_is f o c b)) (clear at (put 0 0) (omega (arith, ap (λ (ps : List Put). length ps) (plan_is f o c b))))
 
 -- ---- a store as an end computes it, at the spot of its descriptor
 

@@ -15,7 +15,7 @@ use Rattle.vd_ring.specs.declared.driver.DriverDone.{DriverDone}
 use Rattle.vd_ring.specs.declared.driver.DriverView.{DriverView}
 use Rattle.vd_ring.specs.Fresh.{fresh_driver, fresh_device}
 use Rattle.vd_ring.specs.History.{offers, head, next_head, chain, chain_at}
-use Rattle.vd_packed_ring.specs.PackedWords.{IsLawful, IsBuilt, width, commands_from, acks_from, base_at, is_base}
+use Rattle.vd_packed_ring.specs.PackedWords.{IsLawful, width, commands_from, acks_from, base_at, is_base}
 use Rattle.vd_packed_ring.specs.PackedChains.{Spells}
 use Rattle.vd_packed_ring.specs.PackedPositions.{opos, start}
 use Rattle.vd_packed_ring.specs.PackedDriver.{driver_after}
@@ -56,7 +56,7 @@ SpellsLast f ws o = Spells f ws (start f o (length (offers o) - 1)) (head f o (l
 abbrev pub packed_layout : LayoutModel
 packed_layout = record {
   packed = true;
-  lawful_frame = λ f. IsLawful f × IsBuilt f;
+  lawful_frame = λ f. IsLawful f;
   ring = Ring;
   lawful_size = lawful_size;
   lawful_base = is_base;
@@ -83,7 +83,6 @@ made_for n f c g can with =
       sized = sym with.size;
       featured = sym with.features;
       lawful = record { packed = with.packed; least = omega (arith, with.size, size.0); most = omega (arith, with.size, size.1) };
-      built = record { direct = ap (λ (x : Features). x.indirect) with.features ∙ can.direct };
     }
 
 -- the areas of a frame, by what it was made with
@@ -124,12 +123,12 @@ packed_laws = record {
   device_end = device_laws;
   driver_keeps = λ ws v w op a r n. driver_keeps ws v w op a r n;
   device_keeps = λ ws v w op a r n. device_keeps ws v w op a r n;
-  opens = λ n f c g can with. let m = made_for n f c g can with in opens g m.lawful m.built;
+  opens = λ n f c g can with. let m = made_for n f c g can with in opens g m.lawful;
   wide = λ ws v w r. (r.words.wide.0, r.same);
-  frames = λ ws v w r. (r.lawful, r.built);
-  framed = λ n f c g can with. let m = made_for n f c g can with in (m.lawful, m.built);
-  driver_low = λ v op a l n. (driver_alone v op a l.0 l.1 n).inside;
-  device_low = λ w op a l n. device_inside w op a l.0 n;
+  frames = λ ws v w r. r.lawful;
+  framed = λ n f c g can with. let m = made_for n f c g can with in m.lawful;
+  driver_low = λ v op a l n. (driver_alone v op a l n).inside;
+  device_low = λ w op a l n. device_inside w op a l n;
   places = λ ws v w r. r.places;
   lists = λ ws v w r. r.lists;
   rested = λ ws v w r. r.rested;

@@ -1,5 +1,6 @@
 -- Both idle ends of a plain ring over its words.
 use Rattle.std.proofs.Common.{◌≡◌, ◌≤◌, ◌<◌, ◌+◌, ℕ, Bool, true, false, List, [], ◌∷◌, length, None, sym, ap, ◌∙◌, subst, refl, rules, nat_lt, if◌then◌else◌}
+use Rattle.vd_words.specs.Plain.{RingWords}
 use Rattle.vd_ring.specs.declared.frame.Frame.{Frame}
 use Rattle.vd_layout.specs.Begun.{DriverOp, DeviceOp}
 use Rattle.vd_layout.specs.Driver.{DriverModel, HasRoom, MayOffer}
@@ -17,9 +18,10 @@ use Rattle.vd_ring.specs.Frames.{AreInBounds}
 use Rattle.vd_ring.specs.declared.device.DeviceView.{DeviceView}
 use Rattle.vd_layout.specs.Both.{AreOn}
 
-pub record IsRig {D E : Type 0} (d : DriverModel D) (e : DeviceModel E) (l : LayoutModel) (x : D) (y : E) (ws : List ℕ) (count : ℕ) (asleep : Bool) : Type 0 where
+pub record IsRig {D E : Type 0} (d : DriverModel D) (e : DeviceModel E) (l : LayoutModel) (x : D) (y : E) (ws : RingWords) (count : ℕ) (asleep : Bool) : Type 0 where
   pub frame : Frame
-  pub on : AreOn d e l frame x y ws
+  pub on : AreOn d e l frame x y ws.words
+  pub numbered : ws.ring ≡ frame.ring
   pub width : count ≡ l.width frame
   pub unbounded : frame.bounds ≡ None
   pub uncontrolled : frame.control ≡ false
@@ -30,7 +32,7 @@ pub record IsRig {D E : Type 0} (d : DriverModel D) (e : DeviceModel E) (l : Lay
 -- ---- lemmas
 
 -- an operation was begun
-pub begun_driver : {D E : Type 0} (d : DriverModel D) (e : DeviceModel E) (l : LayoutModel) (x x' : D) (y : E) (us ws : List ℕ) (count : ℕ) (asleep : Bool) (h : IsRig d e l x y ws count asleep) → d.stands x' h.on.view → us ≡ ws → AreOn d e l h.frame x' y us
+pub begun_driver : {D E : Type 0} (d : DriverModel D) (e : DeviceModel E) (l : LayoutModel) (x x' : D) (y : E) (us : List ℕ) (ws : RingWords) (count : ℕ) (asleep : Bool) (h : IsRig d e l x y ws count asleep) → d.stands x' h.on.view → us ≡ ws.words → AreOn d e l h.frame x' y us
 begun_driver d e l x x' y us ws count asleep h stands same = subst (λ (zs : List ℕ). AreOn d e l h.frame x' y zs) (sym same) (record {
   view = h.on.view;
   device_view = h.on.device_view;
@@ -40,7 +42,7 @@ begun_driver d e l x x' y us ws count asleep h stands same = subst (λ (zs : Lis
   framed = h.on.framed;
 })
 
-pub begun_device : {D E : Type 0} (d : DriverModel D) (e : DeviceModel E) (l : LayoutModel) (x : D) (y y' : E) (us ws : List ℕ) (count : ℕ) (asleep : Bool) (h : IsRig d e l x y ws count asleep) → ((w : DeviceView) → e.stands y w → e.stands y' w) → us ≡ ws → AreOn d e l h.frame x y' us
+pub begun_device : {D E : Type 0} (d : DriverModel D) (e : DeviceModel E) (l : LayoutModel) (x : D) (y y' : E) (us : List ℕ) (ws : RingWords) (count : ℕ) (asleep : Bool) (h : IsRig d e l x y ws count asleep) → ((w : DeviceView) → e.stands y w → e.stands y' w) → us ≡ ws.words → AreOn d e l h.frame x y' us
 begun_device d e l x y y' us ws count asleep h stands same = subst (λ (zs : List ℕ). AreOn d e l h.frame x y' zs) (sym same) (record {
   view = h.on.view;
   device_view = h.on.device_view;
@@ -51,9 +53,10 @@ begun_device d e l x y y' us ws count asleep h stands same = subst (λ (zs : Lis
 })
 
 -- an operation was finished
-pub finished_driver : {D E : Type 0} (d : DriverModel D) (e : DeviceModel E) (l : LayoutModel) (x x' : D) (y : E) (us vs ws : List ℕ) (count : ℕ) (asleep : Bool) (h : IsRig d e l x y ws count asleep) → AreOn d e l h.frame x' y vs → us ≡ vs → d.begun x' ≡ DriverOp.idle → IsRig d e l x' y us count asleep
-finished_driver d e l x x' y us vs ws count asleep h on same idle = record {
+pub finished_driver : {D E : Type 0} (d : DriverModel D) (e : DeviceModel E) (l : LayoutModel) (x x' : D) (y : E) (us : RingWords) (vs : List ℕ) (ws : RingWords) (count : ℕ) (asleep : Bool) (h : IsRig d e l x y ws count asleep) → AreOn d e l h.frame x' y vs → us.words ≡ vs → us.ring ≡ ws.ring → d.begun x' ≡ DriverOp.idle → IsRig d e l x' y us count asleep
+finished_driver d e l x x' y us vs ws count asleep h on same number idle = record {
   frame = h.frame;
+  numbered = number ∙ h.numbered;
   on = subst (λ (zs : List ℕ). AreOn d e l h.frame x' y zs) (sym same) on;
   width = h.width;
   unbounded = h.unbounded;
@@ -63,9 +66,10 @@ finished_driver d e l x x' y us vs ws count asleep h on same idle = record {
   resting = h.resting;
 }
 
-pub finished_device : {D E : Type 0} (d : DriverModel D) (e : DeviceModel E) (l : LayoutModel) (x : D) (y y' : E) (us vs ws : List ℕ) (count : ℕ) (asleep asleep' : Bool) (h : IsRig d e l x y ws count asleep) → AreOn d e l h.frame x y' vs → us ≡ vs → e.begun y' ≡ DeviceOp.idle → e.resting y' ≡ asleep' → IsRig d e l x y' us count asleep'
-finished_device d e l x y y' us vs ws count asleep asleep' h on same idle resting = record {
+pub finished_device : {D E : Type 0} (d : DriverModel D) (e : DeviceModel E) (l : LayoutModel) (x : D) (y y' : E) (us : RingWords) (vs : List ℕ) (ws : RingWords) (count : ℕ) (asleep asleep' : Bool) (h : IsRig d e l x y ws count asleep) → AreOn d e l h.frame x y' vs → us.words ≡ vs → us.ring ≡ ws.ring → e.begun y' ≡ DeviceOp.idle → e.resting y' ≡ asleep' → IsRig d e l x y' us count asleep'
+finished_device d e l x y y' us vs ws count asleep asleep' h on same number idle resting = record {
   frame = h.frame;
+  numbered = number ∙ h.numbered;
   on = subst (λ (zs : List ℕ). AreOn d e l h.frame x y' zs) (sym same) on;
   width = h.width;
   unbounded = h.unbounded;
@@ -95,7 +99,7 @@ split_total [] = refl
 split_total (p ∷ c) = sum_by-cons (λ q. q.len) p c ∙ piece_total p.write p.len (total c) (readable c) (writable c) (split_total c) ∙ ap (λ a. a + (writable_len p + writable c)) (sym (sum_by-cons readable_len p c)) ∙ ap (λ b. readable (p ∷ c) + b) (sym (sum_by-cons writable_len p c))
 
 -- a chain of few bytes may be offered where there is room
-pub may_offer : {D E : Type 0} (d : DriverModel D) (e : DeviceModel E) (l : LayoutModel) (x : D) (y : E) (ws : List ℕ) (count : ℕ) (asleep : Bool) (h : IsRig d e l x y ws count asleep) (c : List Piece) → IsChain c → readable c ≤ 1000000 → writable c ≤ 1000000 → length (offers h.on.view.done) < 1000000000 → HasRoom h.on.view.frame h.on.view.done c
+pub may_offer : {D E : Type 0} (d : DriverModel D) (e : DeviceModel E) (l : LayoutModel) (x : D) (y : E) (ws : RingWords) (count : ℕ) (asleep : Bool) (h : IsRig d e l x y ws count asleep) (c : List Piece) → IsChain c → readable c ≤ 1000000 → writable c ≤ 1000000 → length (offers h.on.view.done) < 1000000000 → HasRoom h.on.view.frame h.on.view.done c
     → MayOffer d.words h.on.view c
 may_offer d e l x y ws count asleep h c is r w n room = record {
   fits = record {

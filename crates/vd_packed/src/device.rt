@@ -11,6 +11,7 @@ mod rest;
 pub(crate) mod running;
 mod signal;
 mod sleep;
+mod table;
 mod take;
 
 /// What the next step does. A give has the chain's number and head, and the length; `Check` the number of descriptors given last,
@@ -23,6 +24,9 @@ pub enum DeviceStep {
     Look,
     Address,
     Second,
+    /// A word of a table is next: a piece's address, or the second word of the piece at this address.
+    TableAddress,
+    TableSecond(u64),
     Give(u32, u32, u32),
     Check(u32),
     Ring,
@@ -59,7 +63,8 @@ pub struct PackedDevice {
     pub(crate) armed: bool,
     pub(crate) heard: u64,
     pub(crate) bells: u64,
-    // what a take has loaded so far: whole descriptors, and the second word of the one at this spot
+    // what a take has loaded so far: whole pieces, and the second word of the descriptor at this spot; of a table, the second word of
+    // the descriptor before this spot, which names it
     pub(crate) pieces: ArrayVec<Piece, 16>,
     pub(crate) second: u64,
     pub(crate) at: Spot,

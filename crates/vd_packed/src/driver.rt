@@ -12,12 +12,13 @@ mod offer;
 mod signal;
 mod sleep;
 
-/// What the next step does. `Describe` has the number of words stored so far; `Check` the number of descriptors published
-/// last, which end at the available position.
+/// What the next step does. `Describe` and `Table` have the number of words stored so far; `Check` the number of descriptors
+/// published last, which end at the available position.
 #[derive(Copy, Clone)]
 pub enum DriverStep {
     Idle,
     Describe(u32),
+    Table(u32),
     Publish,
     Look,
     Check(u32),
@@ -60,7 +61,7 @@ pub struct PackedDriver {
     pub(crate) armed: bool,
     pub(crate) heard: u64,
     pub(crate) bells: u64,
-    // the chain of an offer in progress, and where its next descriptor stands
+    // the chain of an offer in progress, and where its next descriptor stands, or the first after a table's
     pub(crate) pieces: ArrayVec<Piece, 16>,
     pub(crate) at: Spot,
     pub(crate) doing: DriverStep,

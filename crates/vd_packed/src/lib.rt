@@ -6,6 +6,7 @@ mod driver;
 mod event;
 mod layout;
 mod spot;
+mod tables;
 mod words;
 
 pub use device::PackedDevice;

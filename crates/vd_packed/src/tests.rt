@@ -1,4 +1,5 @@
 //! Both ends over plain words, against worked rows and an independent model of the format.
+mod bells;
 mod chains;
 mod events;
 mod format;
@@ -7,3 +8,4 @@ mod rig;
 mod rows;
 mod sleepers;
 mod table;
+mod tabled;

@@ -11,15 +11,16 @@ use vd_model::Piece;
 
 /// A second word of its fields.
 #[inline]
-fn packed(len: u32, id: u32, flags: u64) -> u64
+pub fn packed(len: u32, id: u32, flags: u64) -> u64
     requires { (id < 65536) × (flags < 65536) }
     ensures { result ≡ packed_word len id flags }
 {
     len as u64 + 0x1_0000_0000 * (id as u64 + 0x1_0000 * flags)
 }
 
+/// Its flags.
 #[inline]
-fn flags(word: u64) -> u64
+pub fn flags(word: u64) -> u64
     ensures { result ≡ flags_of word }
 {
     word / 0x1_0000_0000 / 0x1_0000

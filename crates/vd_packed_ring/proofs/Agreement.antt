@@ -17,13 +17,13 @@ use Rattle.vd_ring.specs.declared.device.DeviceNow.{DeviceNow}
 use Rattle.vd_ring.specs.declared.device.DeviceNow.TheVariants as device
 use Rattle.vd_ring.specs.declared.device.DeviceView.{DeviceView}
 use Rattle.vd_ring.specs.Account.{Accounts}
-use Rattle.vd_ring.specs.History.{offers, collects, takes, gives, chain, used_at, entry, running}
+use Rattle.vd_ring.specs.History.{offers, collects, takes, gives, next_head, chain, used_at, entry, running}
 use Rattle.vd_ring.proofs.Accounting.{ordered, accounts}
 use Rattle.vd_ring.proofs.Counts.{one_small, occurs_from}
 use Rattle.vd_ring.proofs.HeldPlaces.{chain_fits}
 use Rattle.vd_ring.proofs.ListSteps.{given_below, given_within}
 use Rattle.vd_ring.proofs.DeviceLists.{running_below}
-use Rattle.vd_packed_ring.specs.PackedWords.{IsLawful, IsBuilt, kick_at, call_at, second_word, is_used, put}
+use Rattle.vd_packed_ring.specs.PackedWords.{IsLawful, kick_at, call_at, second_word, is_used, put}
 use Rattle.vd_packed_ring.specs.PackedSignals.{StoresBell}
 use Rattle.vd_packed_ring.specs.PackedPositions.{opos, cpos}
 use Rattle.vd_packed_ring.specs.PackedDriver.{Begins, Publishes, DriverNextAt, DriverNext}
@@ -32,9 +32,8 @@ use Rattle.vd_packed_ring.specs.PackedDriverLaws.{StoresAhead}
 use Rattle.vd_packed_ring.specs.PackedLaws.{Counts, Agree, LooksShow, GivesBehind}
 use Rattle.vd_packed_ring.specs.PackedRing.{Ring, puts_of}
 use Rattle.vd_packed_ring.proofs.Areas.{areas, places_differ}
-use Rattle.vd_packed_ring.proofs.Plans.{IsStored}
 use Rattle.vd_packed_ring.proofs.Positions.{needs_some, order, taken_chain, device_span, gives_below}
-use Rattle.vd_packed_ring.proofs.Clear.{stored_all, room_pieces}
+use Rattle.vd_packed_ring.proofs.Clear.{IsStaged, stored_all}
 use Rattle.vd_packed_ring.proofs.Collects.{shows_none, found}
 use Rattle.vd_packed_ring.proofs.Ahead.{none_shows}
 use Rattle.vd_packed_ring.proofs.Takes.{shows_next}
@@ -88,36 +87,41 @@ looks_show ws d e r = record {
 
 -- ---- where each side stores, from its own view
 
-pub stored_last : (f : Frame) (o : List DriverDone) (puts : List Put) (p x : ℕ) → IsLawful f → IsBuilt f → Begins f o (puts ++ put p x ∷ []) → StoresAhead f o p
-stored_last f o puts p x l b n =
+pub stored_at : (f : Frame) (o : List DriverDone) (puts : List Put) (p x : ℕ) → (n : Begins f o (puts ++ put p x ∷ [])) → IsStaged f (next_head f o) (opos f o) (needs f.features n.chain) p
+stored_at f o puts p x n =
     let all : List Put = puts ++ put p x ∷ [] in
     let at : (slice_index_or all (length puts) (put 0 0)).place ≡ p = ap (λ (s : Put). s.place) (get_or_push puts (put p x) (put 0 0) (length puts) refl) in
-    let w : IsStored f.size (opos f o) (length n.chain) p = subst (λ (i : ℕ). IsStored f.size (opos f o) (length n.chain) i) at (stored_all f o n.chain all b n.first (length puts) (put 0 0) (omega (arith, length_push puts (put p x)))) in
-    record {
-      position = w.position;
-      place = elim w.place [ inl a ↦ inl a | inr a ↦ inr a.0 ];
-      least = w.least;
-      most = omega (arith, w.most, room_pieces f o n.chain b n.can);
-    }
+    subst (λ (i : ℕ). IsStaged f (next_head f o) (opos f o) (needs f.features n.chain) i) at (stored_all f o n.chain all n.can.fits.chain n.first (length puts) (put 0 0) (omega (arith, length_push puts (put p x))))
 
-pub last_ahead : (f : Frame) (o : List DriverDone) (puts : List Put) (p x : ℕ) → IsBuilt f → Publishes f o puts p x → StoresAhead f o p
-last_ahead f o puts p x b n = record {
+stored_last : (f : Frame) (o : List DriverDone) (puts : List Put) (p x : ℕ) → Begins f o (puts ++ put p x ∷ []) → p < 2 * f.size → StoresAhead f o p
+stored_last f o puts p x n low = elim (stored_at f o puts p x n) [
+  | inl t ↦ absurd (omega (arith, t.low))
+  | inr w ↦ record {
+    position = w.position;
+    place = elim w.place [ inl a ↦ inl a | inr a ↦ inr a.0 ];
+    least = w.least;
+    most = omega (arith, w.most, n.can.room);
+  }
+]
+
+pub last_ahead : (f : Frame) (o : List DriverDone) (puts : List Put) (p x : ℕ) → Publishes f o puts p x → StoresAhead f o p
+last_ahead f o puts p x n = record {
   position = opos f o;
   place = inr (ap (λ (s : Put). s.place) n.last);
   least = omega arith;
-  most = omega (arith, room_pieces f o n.chain b n.can, n.can.fits.chain.0);
+  most = omega (arith, n.can.room, needs_some f n.chain n.can.fits);
 }
 
-ahead_at : (d : DriverView) (now : DriverNow) (p x : ℕ) → IsLawful d.frame → IsBuilt d.frame → DriverNextAt now (record d { doing = now }) op.Offer (Store p x) → p < 2 * d.frame.size → StoresAhead d.frame d.done p
-ahead_at d driver.Idle p x l b h low = stored_last d.frame d.done [] p x l b h.1
-ahead_at d (driver.Offering puts) p x l b (inl h) low = stored_last d.frame d.done puts p x l b h
-ahead_at d (driver.Offering puts) p x l b (inr h) low = last_ahead d.frame d.done puts p x b h
-ahead_at d (driver.Ringing old new) p x l b h low = let n : StoresBell (kick_at d.frame) d.bells p x = h in absurd (omega (arith, n.place, areas d.frame))
-ahead_at d _ p x l b h low = absurd h
+ahead_at : (d : DriverView) (now : DriverNow) (p x : ℕ) → IsLawful d.frame → DriverNextAt now (record d { doing = now }) op.Offer (Store p x) → p < 2 * d.frame.size → StoresAhead d.frame d.done p
+ahead_at d driver.Idle p x l h low = stored_last d.frame d.done [] p x h.1 low
+ahead_at d (driver.Offering puts) p x l (inl h) low = stored_last d.frame d.done puts p x h low
+ahead_at d (driver.Offering puts) p x l (inr h) low = last_ahead d.frame d.done puts p x h
+ahead_at d (driver.Ringing old new) p x l h low = let n : StoresBell (kick_at d.frame) d.bells p x = h in absurd (omega (arith, n.place, areas d.frame))
+ahead_at d _ p x l h low = absurd h
 
 -- the driver stores descriptors at positions from its own on, below that of what it collected and the size
-pub stores_ahead : (d : DriverView) (p x : ℕ) → IsLawful d.frame → IsBuilt d.frame → DriverNext d op.Offer (Store p x) → p < 2 * d.frame.size → StoresAhead d.frame d.done p
-stores_ahead d p x l b h low = ahead_at d d.doing p x l b h low
+pub stores_ahead : (d : DriverView) (p x : ℕ) → IsLawful d.frame → DriverNext d op.Offer (Store p x) → p < 2 * d.frame.size → StoresAhead d.frame d.done p
+stores_ahead d p x l h low = ahead_at d d.doing p x l h low
 
 behind_at : (e : DeviceView) (now : DeviceNow) (p x : ℕ) → Counts e.frame e.done → DeviceNextAt now (record e { doing = now }) op.Give (Store p x) → p < 2 * e.frame.size → GivesBehind e.frame e.done p
 behind_at e device.Idle p x c h low =

@@ -24,15 +24,15 @@ use Rattle.vd_ring.proofs.HeldPlaces.{open_below, chain_fits, collect_places, sa
 use Rattle.vd_ring.proofs.HeldInside.{head_low}
 use Rattle.vd_ring.proofs.ListSteps.{same_used, batch_one, entry_is, next_open, lists_collected, may_return}
 use Rattle.vd_ring.proofs.ControlSteps.{commands_collected, acks_collected}
-use Rattle.vd_packed_ring.specs.PackedWords.{IsLawful, IsBuilt, command_word, ack_word, second_word, len_of, id_of, is_used, is_available, used_word}
+use Rattle.vd_packed_ring.specs.PackedWords.{IsLawful, command_word, ack_word, second_word, len_of, id_of, is_used, is_available, used_word}
 use Rattle.vd_packed_ring.specs.PackedChains.{Descriptor}
 use Rattle.vd_packed_ring.specs.PackedPositions.{opos, cpos, tpos, upos, made_at, mark_at, stands, second_at, later}
 use Rattle.vd_packed_ring.specs.PackedDriver.{NamesOpen, ShowsGives, driver_looks, driver_collects}
 use Rattle.vd_packed_ring.specs.PackedRing.{Ring, Row, Loads, DeviceDoing, puts_of, entries_out, entries_in}
 use Rattle.vd_packed_ring.proofs.WordFacts.{Fits, avail_unused, avail_unused_next, avail_next, used_shows, used_next, used_unavailable, zero_unused, used_id, used_len}
 use Rattle.vd_packed_ring.proofs.Rows.{nothing_staged, row_same, row_ahead}
-use Rattle.vd_packed_ring.proofs.Spelled.{table_stands}
 use Rattle.vd_packed_ring.proofs.Positions.{needs_some, order, upos_is, cpos_is, cpos_collected, later_within}
+use Rattle.vd_packed_ring.proofs.Kept.{kept_collected}
 use Rattle.vd_packed_ring.proofs.Made.{at_fits, IsMark, marks_are, mark_past, mark_entry}
 
 -- ---- what stood a turn before is neither used nor available
@@ -51,11 +51,11 @@ stands_unavailable f o q d (Some u) l fits h = used_unavailable f.size q (head f
 short_mark : (f : Frame) (o : List DriverDone) (s : List DeviceDone) (q : ℕ) → Lists f o s → All (λ u. u.len < 4294967296) (gives s) → IsMark (λ u. u.len < 4294967296) (mark_at f o s q)
 short_mark f o s q l short = marks_are (λ u. u.len < 4294967296) f (λ k. needs f.features (chain o k)) s q l.entries short
 
-pub old_unused : (f : Frame) (o : List DriverDone) (s : List DeviceDone) (q : ℕ) → IsLawful f → IsBuilt f → Places f o → Lists f o s → All (λ u. u.len < 4294967296) (gives s) → is_used f.size (q + f.size) (second_at f o s q) ≡ false
-old_unused f o s q l b p li short = stands_unused f o q (made_at f o q) (mark_at f o s q) l (at_fits f o q l b p.fits) (short_mark f o s q li short)
+pub old_unused : (f : Frame) (o : List DriverDone) (s : List DeviceDone) (q : ℕ) → IsLawful f → Places f o → Lists f o s → All (λ u. u.len < 4294967296) (gives s) → is_used f.size (q + f.size) (second_at f o s q) ≡ false
+old_unused f o s q l p li short = stands_unused f o q (made_at f o q) (mark_at f o s q) l (at_fits f o q l p.fits) (short_mark f o s q li short)
 
-pub old_unavailable : (f : Frame) (o : List DriverDone) (s : List DeviceDone) (q : ℕ) → IsLawful f → IsBuilt f → Places f o → Lists f o s → All (λ u. u.len < 4294967296) (gives s) → is_available f.size (q + f.size) (second_at f o s q) ≡ false
-old_unavailable f o s q l b p li short = stands_unavailable f o q (made_at f o q) (mark_at f o s q) l (at_fits f o q l b p.fits) (short_mark f o s q li short)
+pub old_unavailable : (f : Frame) (o : List DriverDone) (s : List DeviceDone) (q : ℕ) → IsLawful f → Places f o → Lists f o s → All (λ u. u.len < 4294967296) (gives s) → is_available f.size (q + f.size) (second_at f o s q) ≡ false
+old_unavailable f o s q l p li short = stands_unavailable f o q (made_at f o q) (mark_at f o s q) l (at_fits f o q l p.fits) (short_mark f o s q li short)
 
 -- ---- the word at the position of the driver's next collect
 
@@ -79,13 +79,13 @@ shows_none ws d e clear r none =
       | inl low ↦ (
           let word : slice_index ws (second_word n c) ≡ second_at f o s c = (seconds_clear ws d e clear r).kept c low r.room (nothing_staged (second_word n c)) in
           let unmarked : mark_at f o s c ≡ None = mark_past (λ k. needs f.features (chain o k)) s c (omega (arith, same, upos_is f o s r.lists)) in
-          ap (is_used n c) (word ∙ ap (λ (m : Option Used). stands f o c (made_at f o c) m) unmarked) ∙ avail_unused n c (made_at f o c) (at_fits f o c r.lawful r.built r.places.fits)
+          ap (is_used n c) (word ∙ ap (λ (m : Option Used). stands f o c (made_at f o c) m) unmarked) ∙ avail_unused n c (made_at f o c) (at_fits f o c r.lawful r.places.fits)
           )
       | inr high ↦ (
           let top : opos f o ≡ c = omega (arith, ord.open_span, ord.given, ord.taken, same) in
           subst (λ (t : ℕ). is_used n t (slice_index ws (second_word n t)) ≡ false) top
           (row_ahead n 1 ws (opos f o) [] (second_at f o s) (λ x. is_used n (opos f o) x ≡ false) pos (nothing_staged (second_word n (opos f o))) (λ a. zero_unused n (opos f o) a)
-          (λ q h. subst (λ (t : ℕ). is_used n t (second_at f o s q) ≡ false) h (old_unused f o s q r.lawful r.built r.places r.lists r.short)) (seconds_clear ws d e clear r))
+          (λ q h. subst (λ (t : ℕ). is_used n t (second_at f o s q) ≡ false) h (old_unused f o s q r.lawful r.places r.lists r.short)) (seconds_clear ws d e clear r))
           )
     ]
 
@@ -160,13 +160,12 @@ collects_entry ws d e w r unarmed more n =
     subst (λ (us : List Used). Ring ws (record d { done = Collect us ∷ o; doing = Idle; seen = later d.seen (cpos f (Collect us ∷ o)); shown = false }) e) (sym n.is) record {
       same = r.same;
       lawful = r.lawful;
-      built = r.built;
       words = r.words;
       places = places2;
       room = omega (arith, r.room, cpos_collected f o u);
       addresses = row_same f.size 0 d.stored (opos f o) [] (λ q. (made_at f o q).addr) (λ q. (made_at f o2 q).addr) (λ q a. refl) r.addresses;
       seconds = row_same f.size 1 ws (opos f o) [] (second_at f o s) (second_at f o2 s) (λ q a. stands_kept f o o2 q (made_at f o q) (mark_at f o s q) (λ k. refl)) r.seconds;
-      tables = λ j a. table_stands f d.stored (head f o2 j) (chain o2 j) r.built;
+      tables = kept_collected f o u d.stored n.here r.tables;
       lists = lists2;
       short = r.short;
       driver_signals = r.driver_signals;
@@ -190,7 +189,6 @@ finds_none : (ws : List ℕ) (d : DriverView) (e : DeviceView) → Ring ws (reco
 finds_none ws d e r = record {
   same = r.same;
   lawful = r.lawful;
-  built = r.built;
   words = r.words;
   places = r.places;
   room = r.room;

@@ -91,7 +91,7 @@ own_store ws d e q y n now at r own past signals acks doing kicks calls is_armed
       short = r.short;
       signals = signals;
       acks = acks;
-      driver_doing = doing_other d.doing f o ws q y (doing_past d.doing f o ws q r.lawful r.built r.driver_doing past) r.driver_doing;
+      driver_doing = doing_other d.doing f o ws q y (doing_past d.doing f o ws q r.lawful r.driver_doing own) r.driver_doing;
       device_doing = doing;
       kicks = kicks;
       calls = calls;

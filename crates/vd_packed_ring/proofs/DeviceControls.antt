@@ -94,7 +94,7 @@ acks ws d e p x r n =
             short = r.short;
             signals = signals_elsewhere f (device_event f) (call_at f) e.armed e.bells e.stored q x (λ a. omega arith) (λ a. omega (arith, areas f, acks_follow f n.control, hd.1)) r.device_signals;
             acks = acks_acked f (ack_word f) o s e.stored k x r.places r.lists (λ g i a. let same : g ≡ i = omega arith in same) runs inside r.acks;
-            driver_doing = doing_other d.doing f o ws q x (doing_past d.doing f o ws q r.lawful r.built r.driver_doing (omega arith)) r.driver_doing;
+            driver_doing = doing_other d.doing f o ws q x (doing_past d.doing f o ws q r.lawful r.driver_doing own) r.driver_doing;
             device_doing = tt;
             kicks = r.kicks;
             calls = r.calls;

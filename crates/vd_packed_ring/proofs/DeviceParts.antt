@@ -38,7 +38,6 @@ pub ring_with : (ws us : List ℕ) (d : DriverView) (e e2 : DeviceView) → Ring
 ring_with ws us d e e2 r p = record {
   same = p.same;
   lawful = r.lawful;
-  built = r.built;
   words = p.words;
   places = r.places;
   room = r.room;

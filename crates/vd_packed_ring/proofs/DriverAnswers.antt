@@ -1,5 +1,5 @@
 -- What the answers of the driver's steps say: of the chain offered, of the entry collected, when nothing is left, and of the bag.
-use Rattle.std.proofs.Common.{take, None, ◌==◌, ◌≡◌, ℕ, ◌+◌, ◌<◌, ◌≤◌, Bool, true, false, List, [], ◌∷◌, ◌++◌, length, if◌then◌else◌, slice_index, slice_set, refl, sym, ap, ◌∙◌, subst, inl, inr}
+use Rattle.std.proofs.Common.{take, None, ◌==◌, ◌≡◌, ℕ, ◌+◌, ◌<◌, ◌≤◌, Bool, true, false, List, [], ◌∷◌, ◌++◌, length, if◌then◌else◌, slice_index, refl, sym, ap, ◌∙◌, subst, inl, inr}
 use Rattle.std.proofs.lemmas.Bool.{cases_lt, eq-eqb, ne_eqb}
 use Rattle.std.proofs.lemmas.List.{take_all}
 use Rattle.vd_model.specs.declared.chain.Piece.{Piece}
@@ -22,18 +22,17 @@ use Rattle.vd_ring.specs.declared.device.DeviceDone.{DeviceDone}
 use Rattle.vd_ring.specs.declared.device.DeviceView.{DeviceView}
 use Rattle.vd_ring.specs.Lists.{Collects}
 use Rattle.vd_ring.proofs.ListSteps.{collects_next}
-use Rattle.vd_ring.specs.History.{offers, collects, gives, head, next_head, entry, used_at, last_used}
+use Rattle.vd_ring.specs.History.{offers, collects, gives, head, entry, used_at, last_used}
 use Rattle.vd_ring.specs.Bag.{State}
 use Rattle.vd_ring.specs.Steps.{StandsFor, DriverBagStep}
 use Rattle.vd_ring.proofs.ControlSteps.{head_new}
 use Rattle.vd_ring.proofs.DriverBag.{offer_step}
-use Rattle.vd_packed_ring.specs.PackedWords.{second_word, put, words_of, is_used, Stand}
-use Rattle.vd_packed_ring.specs.PackedChains.{Descriptor, described, staged_chain}
+use Rattle.vd_packed_ring.specs.PackedWords.{second_word, put, words_of, is_used}
+use Rattle.vd_packed_ring.specs.PackedChains.{staged_chain}
 use Rattle.vd_packed_ring.specs.PackedPositions.{opos, cpos, later}
 use Rattle.vd_packed_ring.specs.PackedDriver.{Publishes, DriverNextAt, DriverNext, driver_after_at, driver_act_at, driver_act, driver_offers, driver_collects, driver_wakes, stores, collect_act, woken_act}
 use Rattle.vd_packed_ring.specs.PackedDriverLaws.{DriverBags, IsOffered, IsCollected, CollectsNothing}
 use Rattle.vd_packed_ring.specs.PackedRing.{Ring, Stages}
-use Rattle.vd_packed_ring.proofs.Spelled.{descriptors_is, table_stands}
 use Rattle.vd_packed_ring.proofs.Offers.{describes, publishes}
 use Rattle.vd_packed_ring.proofs.Collects.{Found, found, shows_none}
 
@@ -131,10 +130,7 @@ offers_chain ws d e puts p x r h =
       can = h.can;
       offered = ap offers after ∙ ap (λ (cs : List Piece). offers o ++ cs ∷ []) did.2;
       is_head = ap (λ (t : List DriverDone). head f t (length (offers o))) after ∙ (ap (λ (cs : List Piece). head f (Offer cs ∷ o) (length (offers o))) did.2 ∙ head_new f o c r.places h.can.fits);
-      spelled = record {
-        ring = subst (λ (l : List Descriptor). Stand (slice_set ws p x) (described f.size (opos f o) l)) (sym (descriptors_is f (next_head f o) c r.built)) did.3;
-        table = table_stands f (slice_set ws p x) (next_head f o) c r.built;
-      };
+      spelled = did.3;
     }
 
 offered_at : (ws : List ℕ) (d : DriverView) (e : DeviceView) (now : DriverNow) (op : Op) (a : Access) (k : ℕ) → Ring ws (record d { doing = now }) e → DriverNextAt now (record d { doing = now }) op a

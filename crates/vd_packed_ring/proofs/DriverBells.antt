@@ -1,5 +1,5 @@
 -- The driver's accesses of event words and bells keep the ring invariant.
-use Rattle.std.proofs.Common.{◌≡◌, ◌≢◌, ℕ, ◌+◌, ◌*◌, ◌<◌, ◌≤◌, ◌==◌, Bool, true, false, Option, Some, None, List, [], length, if◌then◌else◌, slice_index, slice_set, refl, sym, ap, ◌∙◌, subst, arith, inl, inr}
+use Rattle.std.proofs.Common.{◌≡◌, ◌≢◌, ℕ, ◌+◌, ◌*◌, ◌<◌, ◌≤◌, ◌==◌, Bool, true, false, Option, Some, None, List, [], length, if◌then◌else◌, slice_index, slice_set, refl, sym, ap, ◌∙◌, subst, arith, inl, inr, ◌⊎◌}
 use Rattle.std.proofs.lemmas.Bool.{eqb-false, cases_lt}
 use Rattle.vd_words.specs.declared.access.Op.TheVariants as op
 use Rattle.vd_ring.specs.declared.frame.Frame.{Frame}
@@ -10,20 +10,20 @@ use Rattle.vd_ring.specs.declared.driver.DriverNow.TheVariants.{Idle, Checking, 
 use Rattle.vd_ring.specs.declared.driver.DriverView.{DriverView}
 use Rattle.vd_ring.specs.declared.device.DeviceDone.{DeviceDone}
 use Rattle.vd_ring.specs.declared.device.DeviceView.{DeviceView}
-use Rattle.vd_ring.specs.History.{collects, gives, head, chain}
+use Rattle.vd_ring.specs.History.{collects, gives}
 use Rattle.vd_ring.specs.Control.{Commands}
 use Rattle.vd_ring.specs.Places.{Places}
 use Rattle.vd_ring.specs.Signals.{Signals}
 use Rattle.vd_ring.specs.Signals as signal
 use Rattle.vd_ring.proofs.ControlSteps.{commands_elsewhere}
-use Rattle.vd_packed_ring.specs.PackedWords.{IsDrivers, width, driver_event, device_event, kick_at, call_at, command_word, ack_word, second_word, is_used}
+use Rattle.vd_packed_ring.specs.PackedWords.{IsDrivers, width, tables_from, commands_from, driver_event, device_event, kick_at, call_at, command_word, ack_word, second_word, is_used}
 use Rattle.vd_packed_ring.specs.PackedSignals.{armed_value, disabled, bell_word, asks, StoresEvent, StoresDisable, StoresBell}
 use Rattle.vd_packed_ring.specs.PackedPositions.{opos, cpos, upos, made_at, second_at, later}
 use Rattle.vd_packed_ring.specs.PackedDriver.{driver_checks, driver_rings, driver_arms, driver_wakes, driver_looks_again, driver_hears}
 use Rattle.vd_packed_ring.specs.PackedRing.{Ring, Words, Row, SideSignals, puts_of, DriverDoing, chains_out, chains_in, entries_out, entries_in, DriverArmed}
 use Rattle.vd_packed_ring.proofs.Areas.{areas, acks_follow, driver_stores}
 use Rattle.vd_packed_ring.proofs.Rows.{row_elsewhere}
-use Rattle.vd_packed_ring.proofs.Spelled.{table_stands}
+use Rattle.vd_packed_ring.proofs.Kept.{AreKept, kept_past}
 use Rattle.vd_packed_ring.proofs.Positions.{later_second, later_within}
 use Rattle.vd_packed_ring.proofs.Bells.{asks_armed, armed_word, signals_armed, signals_disarmed, signals_awake, signals_rung}
 use Rattle.vd_packed_ring.proofs.Collects.{all_collected, shows_none, found, entry_before}
@@ -33,6 +33,7 @@ record Kept (f : Frame) (o : List DriverDone) (s : List DeviceDone) (ws driven s
   words : Words f ws driven served
   addresses : Row f.size 0 driven (opos f o) [] (λ q. (made_at f o q).addr)
   seconds : Row f.size 1 ws (opos f o) [] (second_at f o s)
+  tables : AreKept f o driven
   commands : Commands f (command_word f) (ack_word f) o driven
 
 -- the parts that it changes
@@ -53,13 +54,12 @@ ring_after ws us d e st now at h b n x r k s =
     let f : Frame = d.frame in let o : List DriverDone = d.done in record {
       same = r.same;
       lawful = r.lawful;
-      built = r.built;
       words = k.words;
       places = r.places;
       room = r.room;
       addresses = subst (λ (l : List Put). Row f.size 0 st (opos f o) l (λ q. (made_at f o q).addr)) (sym s.clear) k.addresses;
       seconds = subst (λ (l : List Put). Row f.size 1 us (opos f o) l (second_at f o e.done)) (sym s.clear) k.seconds;
-      tables = λ j a. table_stands f st (head f o j) (chain o j) r.built;
+      tables = k.tables;
       lists = r.lists;
       short = r.short;
       driver_signals = s.signals;
@@ -91,16 +91,18 @@ kept ws d e clear r =
       words = r.words;
       addresses = subst (λ (l : List Put). Row f.size 0 d.stored (opos f o) l (λ q. (made_at f o q).addr)) clear r.addresses;
       seconds = subst (λ (l : List Put). Row f.size 1 ws (opos f o) l (second_at f o e.done)) clear r.seconds;
+      tables = r.tables;
       commands = r.commands;
     }
 
 -- a store past the descriptors that is in no command word
-stored_past : (f : Frame) (o : List DriverDone) (s : List DeviceDone) (ws driven served : List ℕ) (q x : ℕ) → 0 < f.size → 2 * f.size ≤ q → IsDrivers f q → (f.control ≡ true → (h i : ℕ) → h < f.size → i < 2 → command_word f h + i ≢ q) → Places f o → Kept f o s ws driven served
+stored_past : (f : Frame) (o : List DriverDone) (s : List DeviceDone) (ws driven served : List ℕ) (q x : ℕ) → 0 < f.size → 2 * f.size ≤ q → IsDrivers f q → ((q < tables_from f) ⊎ (commands_from f ≤ q)) → (f.control ≡ true → (h i : ℕ) → h < f.size → i < 2 → command_word f h + i ≢ q) → Places f o → Kept f o s ws driven served
     → Kept f o s (slice_set ws q x) (slice_set driven q x) served
-stored_past f o s ws driven served q x pos past own apart pl k = record {
+stored_past f o s ws driven served q x pos past own out apart pl k = record {
   words = driver_stores f ws driven served q x k.words own;
   addresses = row_elsewhere f.size 0 driven (opos f o) [] (λ j. (made_at f o j).addr) q x pos (λ j a e2. omega arith) k.addresses;
   seconds = row_elsewhere f.size 1 ws (opos f o) [] (second_at f o s) q x pos (λ j a e2. omega arith) k.seconds;
+  tables = kept_past f o driven q x pl out k.tables;
   commands = at f.control refl;
 }
   where
@@ -109,12 +111,12 @@ stored_past f o s ws driven served q x pos past own apart pl k = record {
     at false off = record { chains = k.commands.chains; last = λ on. absurd (both f.control on off); stand = λ on. absurd (both f.control on off) }
 
 kept_event : (ws : List ℕ) (d : DriverView) (e : DeviceView) (x : ℕ) → puts_of d.doing ≡ [] → Ring ws d e → Kept d.frame d.done e.done (slice_set ws (driver_event d.frame) x) (slice_set d.stored (driver_event d.frame) x) e.stored
-kept_event ws d e x clear r = stored_past d.frame d.done e.done ws d.stored e.stored (driver_event d.frame) x (omega (arith, r.lawful.least)) (omega arith) (inr (inl refl)) (λ on h i a two e2. omega (arith, areas d.frame)) r.places (kept ws d e clear r)
+kept_event ws d e x clear r = stored_past d.frame d.done e.done ws d.stored e.stored (driver_event d.frame) x (omega (arith, r.lawful.least)) (omega arith) (inr (inl refl)) (inl (omega arith)) (λ on h i a two e2. omega (arith, areas d.frame)) r.places (kept ws d e clear r)
 
 kept_kick : (ws : List ℕ) (d : DriverView) (e : DeviceView) (x : ℕ) → puts_of d.doing ≡ [] → Ring ws d e → Kept d.frame d.done e.done (slice_set ws (kick_at d.frame) x) (slice_set d.stored (kick_at d.frame) x) e.stored
 kept_kick ws d e x clear r =
     let f : Frame = d.frame in
-    stored_past f d.done e.done ws d.stored e.stored (kick_at f) x (omega (arith, r.lawful.least)) (omega (arith, areas f)) (inr (inr (inr refl))) (λ on h i a two e2. omega (arith, areas f, acks_follow f on)) r.places (kept ws d e clear r)
+    stored_past f d.done e.done ws d.stored e.stored (kick_at f) x (omega (arith, r.lawful.least)) (omega (arith, areas f)) (inr (inr (inr refl))) (inr (omega (arith, areas f))) (λ on h i a two e2. omega (arith, areas f, acks_follow f on)) r.places (kept ws d e clear r)
 
 -- ---- the check
 

@@ -1,5 +1,5 @@
 -- The driver's accesses of command and ack words keep the ring invariant.
-use Rattle.std.proofs.Common.{◌≡◌, ℕ, ◌+◌, ◌-◌, ◌*◌, ◌/◌, ◌%◌, ◌<◌, ◌≤◌, true, List, [], ◌∷◌, length, Some, slice_index, slice_set, refl, sym, ap, subst, arith}
+use Rattle.std.proofs.Common.{◌≡◌, ℕ, ◌+◌, ◌-◌, ◌*◌, ◌/◌, ◌%◌, ◌<◌, ◌≤◌, true, List, [], ◌∷◌, length, Some, slice_index, slice_set, refl, sym, ap, subst, arith, inr}
 use Rattle.std.specs.Prelude.{unwrap_or, Option}
 use Rattle.vd_ring.specs.declared.frame.Frame.{Frame}
 use Rattle.vd_ring.specs.declared.driver.DriverDone.{DriverDone}
@@ -10,7 +10,7 @@ use Rattle.vd_ring.specs.declared.device.DeviceDone.{DeviceDone}
 use Rattle.vd_ring.specs.declared.device.DeviceNow.{DeviceNow}
 use Rattle.vd_ring.specs.declared.device.DeviceNow.TheVariants as device
 use Rattle.vd_ring.specs.declared.device.DeviceView.{DeviceView}
-use Rattle.vd_ring.specs.History.{takes, head, next_head, chain}
+use Rattle.vd_ring.specs.History.{takes, head, next_head}
 use Rattle.vd_ring.specs.Control.{StoresCommand, last_collected}
 use Rattle.vd_ring.specs.Places.{Places}
 use Rattle.vd_ring.specs.Lists.{Lists}
@@ -22,8 +22,8 @@ use Rattle.vd_packed_ring.specs.PackedDriver.{driver_commands, driver_acks}
 use Rattle.vd_packed_ring.specs.PackedRing.{Ring, DeviceDoing, Loads}
 use Rattle.vd_packed_ring.proofs.Areas.{areas, acks_follow, driver_stores, drivers_inside, commands_apart, command_drivers}
 use Rattle.vd_packed_ring.proofs.Rows.{row_same, row_elsewhere}
-use Rattle.vd_packed_ring.proofs.Spelled.{table_stands}
 use Rattle.vd_packed_ring.proofs.Clear.{signals_elsewhere}
+use Rattle.vd_packed_ring.proofs.Kept.{kept_past}
 use Rattle.vd_packed_ring.proofs.Collects.{stands_kept}
 
 -- ---- an act on control words changes none of the other parts
@@ -111,7 +111,6 @@ stores_command ws d e p x r n =
       record {
         same = r.same;
         lawful = r.lawful;
-        built = r.built;
         words = driver_stores f ws d.stored e.stored q x r.words own;
         places = places_stored f o h i x r.places;
         room = r.room;
@@ -119,7 +118,7 @@ stores_command ws d e p x r n =
             (row_elsewhere f.size 0 d.stored (opos f o) [] (λ j. (made_at f o j).addr) q x pos (λ j a e2. omega arith) r.addresses);
         seconds = row_same f.size 1 (slice_set ws q x) (opos f o) [] (second_at f o s) (second_at f o2 s) (λ j a. stands_kept f o o2 j (made_at f o j) (mark_at f o s j) (λ k. refl))
             (row_elsewhere f.size 1 ws (opos f o) [] (second_at f o s) q x pos (λ j a e2. omega arith) r.seconds);
-        tables = λ j a. table_stands f (slice_set d.stored q x) (head f o2 j) (chain o2 j) r.built;
+        tables = kept_past f o d.stored q x r.places (inr (omega arith)) r.tables;
         lists = lists_stored f o h i x s r.lists;
         short = r.short;
         driver_signals = signals_elsewhere f (driver_event f) (kick_at f) d.armed d.bells d.stored q x (λ a. omega arith) (λ a. omega (arith, follow)) r.driver_signals;
@@ -151,13 +150,12 @@ loads_ack ws d e y r k on last is =
     subst (λ (j : ℕ). Ring ws (record d { done = LoadAck j y ∷ o; doing = Idle }) e) (sym (ap (λ (z : Option ℕ). unwrap_or z 0) last)) record {
       same = r.same;
       lawful = r.lawful;
-      built = r.built;
       words = r.words;
       places = places_loaded f o k y r.places;
       room = r.room;
       addresses = row_same f.size 0 d.stored (opos f o) [] (λ j. (made_at f o j).addr) (λ j. (made_at f o2 j).addr) (λ j a. refl) r.addresses;
       seconds = row_same f.size 1 ws (opos f o) [] (second_at f o s) (second_at f o2 s) (λ j a. stands_kept f o o2 j (made_at f o j) (mark_at f o s j) (λ k. refl)) r.seconds;
-      tables = λ j a. table_stands f d.stored (head f o2 j) (chain o2 j) r.built;
+      tables = r.tables;
       lists = lists_loaded f o k y s r.lists;
       short = r.short;
       driver_signals = r.driver_signals;

@@ -42,7 +42,7 @@ offering ws d e puts p x r (inl h) =
     let doing : Stages d.frame d.done ws puts = r.driver_doing in
     let did = describes ws d e (Offering puts) puts p x r refl r.driver_armed r.kicks doing.stand h in
     record {
-      inside = omega (arith, r.words.wide, areas d.frame, did.1);
+      inside = omega (arith, r.words.wide, did.1);
       keeps = subst (λ (b : Bool). Ring (slice_set ws p x) (store_after (record d { doing = Offering puts }) puts p x b) e) (sym (ne_eqb p (second_word d.frame.size (opos d.frame d.done)) did.2)) did.0;
       told = (tt, tt);
     }
@@ -65,7 +65,7 @@ after_waking ws d e o p x r n = (
 pub driver_keeps_at : (ws : List ℕ) (d : DriverView) (e : DeviceView) (now : DriverNow) (op : Op) (a : Access) → Ring ws (record d { doing = now }) e → DriverNextAt now (record d { doing = now }) op a → DriverKeeps ws (record d { doing = now }) e op a
 driver_keeps_at ws d e Idle op.Offer (Store p x) r h =
     let did = describes ws d e Idle [] p x r refl h.0 r.kicks (All-nil (Stands ws)) h.1 in
-    record { inside = omega (arith, r.words.wide, areas d.frame, did.1); keeps = did.0; told = (tt, tt) }
+    record { inside = omega (arith, r.words.wide, did.1); keeps = did.0; told = (tt, tt) }
 driver_keeps_at ws d e (Offering puts) op.Offer (Store p x) r h = offering ws d e puts p x r h
 driver_keeps_at ws d e Idle op.Collect (Load p) r h =
     let v : DriverView = record d { doing = Idle } in

@@ -19,14 +19,16 @@ use Rattle.vd_ring.specs.declared.driver.DriverView.{DriverView}
 use Rattle.vd_ring.specs.History.{offers, collected, head, next_head}
 use Rattle.vd_ring.specs.Control.{last_collected, StoresCommand, LoadsAck}
 use Rattle.vd_ring.proofs.HeldInside.{head_low, next_low}
-use Rattle.vd_packed_ring.specs.PackedWords.{words_of, len_of, id_of, commands_from, IsLawful, IsBuilt, width, driver_event, kick_at, call_at, command_word, ack_word, second_word, put, is_used}
+use Rattle.vd_packed_ring.specs.PackedWords.{words_of, len_of, id_of, commands_from, IsLawful, width, driver_event, kick_at, call_at, command_word, ack_word, second_word, put, is_used}
 use Rattle.vd_packed_ring.specs.PackedChains.{staged_chain}
 use Rattle.vd_packed_ring.specs.PackedSignals.{StoresEvent, StoresDisable, StoresBell, LoadsBell}
 use Rattle.vd_packed_ring.specs.PackedPositions.{opos, cpos, later}
-use Rattle.vd_packed_ring.specs.PackedDriver.{driver_act, driver_after, driver_act_at, collect_act, DriverNextAt, DriverNext, driver_after_at, driver_collects, driver_offers, driver_wakes, woken_act, stores}
+use Rattle.vd_model.specs.Chains.{needs}
+use Rattle.vd_packed_ring.specs.PackedDriver.{Begins, driver_act, driver_after, driver_act_at, collect_act, DriverNextAt, DriverNext, driver_after_at, driver_collects, driver_offers, driver_wakes, woken_act, stores}
 use Rattle.vd_packed_ring.specs.PackedDriverLaws.{DriverAlone, StoresAhead}
 use Rattle.vd_packed_ring.proofs.Areas.{areas, second_inside, drivers_inside, devices_inside, command_drivers, ack_devices}
-use Rattle.vd_packed_ring.proofs.Agreement.{stored_last, last_ahead}
+use Rattle.vd_packed_ring.proofs.Clear.{staged_past}
+use Rattle.vd_packed_ring.proofs.Agreement.{stored_at, last_ahead}
 
 ahead_inside : (f : Frame) (o : List DriverDone) (p : ℕ) → IsLawful f → StoresAhead f o p → p < width f
 ahead_inside f o p l n = elim n.place [
@@ -34,27 +36,32 @@ ahead_inside f o p l n = elim n.place [
   | inr a ↦ omega (arith, a, second_inside f n.position l.least)
 ]
 
-inside_at : (d : DriverView) (now : DriverNow) (op : Op) (a : Access) → IsLawful d.frame → IsBuilt d.frame → DriverNextAt now (record d { doing = now }) op a → place_of a < width d.frame
-inside_at d Idle op.Offer (Store p x) l b h = ahead_inside d.frame d.done p l (stored_last d.frame d.done [] p x l b h.1)
-inside_at d (Offering puts) op.Offer (Store p x) l b (inl h) = ahead_inside d.frame d.done p l (stored_last d.frame d.done puts p x l b h)
-inside_at d (Offering puts) op.Offer (Store p x) l b (inr h) = ahead_inside d.frame d.done p l (last_ahead d.frame d.done puts p x b h)
-inside_at d Idle op.Collect (Load p) l b h = omega (arith, h.1, second_inside d.frame (cpos d.frame d.done) l.least)
-inside_at d Idle op.Control (Store p x) l b h =
+staged_inside : (f : Frame) (o : List DriverDone) (puts : List Put) (p x : ℕ) → IsLawful f → Begins f o (puts ++ put p x ∷ []) → p < width f
+staged_inside f o puts p x l n =
+    let past = staged_past f (next_head f o) (opos f o) (needs f.features n.chain) p l.least (next_low f o (omega (arith, l.least))) (stored_at f o puts p x n) in
+    omega (arith, past.1, areas f)
+
+inside_at : (d : DriverView) (now : DriverNow) (op : Op) (a : Access) → IsLawful d.frame → DriverNextAt now (record d { doing = now }) op a → place_of a < width d.frame
+inside_at d Idle op.Offer (Store p x) l h = staged_inside d.frame d.done [] p x l h.1
+inside_at d (Offering puts) op.Offer (Store p x) l (inl h) = staged_inside d.frame d.done puts p x l h
+inside_at d (Offering puts) op.Offer (Store p x) l (inr h) = ahead_inside d.frame d.done p l (last_ahead d.frame d.done puts p x h)
+inside_at d Idle op.Collect (Load p) l h = omega (arith, h.1, second_inside d.frame (cpos d.frame d.done) l.least)
+inside_at d Idle op.Control (Store p x) l h =
     let n : StoresCommand d.frame (command_word d.frame) d.done p = h in
     omega (arith, n.place, drivers_inside d.frame (command_word d.frame (next_head d.frame d.done) + n.half) (command_drivers d.frame (next_head d.frame d.done) n.half n.control (next_low d.frame d.done (omega (arith, l.least))) n.two))
-inside_at d Idle op.Control (Load p) l b h =
+inside_at d Idle op.Control (Load p) l h =
     let n : LoadsAck d.frame (ack_word d.frame) d.done p = h in
     omega (arith, n.place, devices_inside d.frame (ack_word d.frame (head d.frame d.done n.number)) (ack_devices d.frame (head d.frame d.done n.number) n.control (head_low d.frame d.done n.number (omega (arith, l.least)))))
-inside_at d (Checking old new) op.Offer (Load p) l b h = omega (arith, h, areas d.frame)
-inside_at d (Ringing old new) op.Offer (Store p x) l b h = let n : StoresBell (kick_at d.frame) d.bells p x = h in omega (arith, n.place)
-inside_at d Idle op.Arm (Store p x) l b h = let n : StoresEvent d.frame (driver_event d.frame) (cpos d.frame d.done) p x = h.1 in omega (arith, n.place, areas d.frame)
-inside_at d Arming op.Arm (Load p) l b h = omega (arith, h, second_inside d.frame (cpos d.frame d.done) l.least)
-inside_at d (Disarming o) op.Arm (Store p x) l b h = let n : StoresDisable d.frame (driver_event d.frame) p x = h.1 in omega (arith, n.place, areas d.frame)
-inside_at d (Disarming o) op.Hear (Store p x) l b h = let n : StoresDisable d.frame (driver_event d.frame) p x = h.1 in omega (arith, n.place, areas d.frame)
-inside_at d Idle op.Hear (Load p) l b h = omega (arith, h.1)
-inside_at d Idle op.Disarm (Store p x) l b h = let n : StoresDisable d.frame (driver_event d.frame) p x = h.1 in omega (arith, n.place, areas d.frame)
-inside_at d Idle op.Disarm (Load p) l b h = let n : LoadsBell d.frame (call_at d.frame) p = h.1 in omega (arith, n.place)
-inside_at d _ _ _ l b h = absurd h
+inside_at d (Checking old new) op.Offer (Load p) l h = omega (arith, h, areas d.frame)
+inside_at d (Ringing old new) op.Offer (Store p x) l h = let n : StoresBell (kick_at d.frame) d.bells p x = h in omega (arith, n.place)
+inside_at d Idle op.Arm (Store p x) l h = let n : StoresEvent d.frame (driver_event d.frame) (cpos d.frame d.done) p x = h.1 in omega (arith, n.place, areas d.frame)
+inside_at d Arming op.Arm (Load p) l h = omega (arith, h, second_inside d.frame (cpos d.frame d.done) l.least)
+inside_at d (Disarming o) op.Arm (Store p x) l h = let n : StoresDisable d.frame (driver_event d.frame) p x = h.1 in omega (arith, n.place, areas d.frame)
+inside_at d (Disarming o) op.Hear (Store p x) l h = let n : StoresDisable d.frame (driver_event d.frame) p x = h.1 in omega (arith, n.place, areas d.frame)
+inside_at d Idle op.Hear (Load p) l h = omega (arith, h.1)
+inside_at d Idle op.Disarm (Store p x) l h = let n : StoresDisable d.frame (driver_event d.frame) p x = h.1 in omega (arith, n.place, areas d.frame)
+inside_at d Idle op.Disarm (Load p) l h = let n : LoadsBell d.frame (call_at d.frame) p = h.1 in omega (arith, n.place)
+inside_at d _ _ _ l h = absurd h
 
 either_frame : (v w : DriverView) (b : Bool) (f : Frame) → v.frame ≡ f → w.frame ≡ f → (if b then v else w).frame ≡ f
 either_frame v w true f x y = x
@@ -85,8 +92,8 @@ frame_at d _ _ _ r = refl
 pub driver_frame : (d : DriverView) (op : Op) (a : Access) (r : ℕ) → (driver_after d op a r).frame ≡ d.frame
 driver_frame d op a r = frame_at d d.doing op a r
 
-pub driver_alone : (d : DriverView) (op : Op) (a : Access) → IsLawful d.frame → IsBuilt d.frame → DriverNext d op a → DriverAlone d op a
-driver_alone d op a l b h = record { inside = inside_at d d.doing op a l b h; frame = λ r. frame_at d d.doing op a r }
+pub driver_alone : (d : DriverView) (op : Op) (a : Access) → IsLawful d.frame → DriverNext d op a → DriverAlone d op a
+driver_alone d op a l h = record { inside = inside_at d d.doing op a l h; frame = λ r. frame_at d d.doing op a r }
 
 -- ---- the acts
 

@@ -3,11 +3,13 @@ pub mod Areas
 pub mod Plans
 pub mod Rows
 pub mod Spelled
+pub mod Standing
 pub mod Tables
 pub mod Positions
 pub mod Made
 pub mod Bells
 pub mod Clear
+pub mod Kept
 pub mod Offers
 pub mod Collects
 pub mod DriverBells
@@ -26,6 +28,7 @@ pub mod Bases
 pub mod DriverViews
 pub mod DeviceViews
 pub mod Spelling
+pub mod TableReads
 pub mod DriverAnswers
 pub mod DeviceAnswers
 pub mod DeviceBagSteps
@@ -37,3 +40,5 @@ pub mod DriverLooking
 pub mod DeviceLooking
 mod Examples
 pub mod ControlFacts
+pub mod DriverStaying
+pub mod DeviceStaying

@@ -19,51 +19,51 @@ use Rattle.vd_ring.specs.History.{offers, gives, held, free, head, next_head, ch
 use Rattle.vd_ring.specs.Lists.{AreGives, entry_at}
 use Rattle.vd_ring.proofs.HeldInside.{next_low}
 use Rattle.vd_ring.proofs.ListSteps.{some_same, entry_is}
-use Rattle.vd_packed_ring.specs.PackedWords.{IsLawful, IsBuilt}
-use Rattle.vd_packed_ring.specs.PackedChains.{Descriptor, blank, direct, descriptors}
+use Rattle.vd_packed_ring.specs.PackedWords.{IsLawful}
+use Rattle.vd_packed_ring.specs.PackedChains.{blank, descriptors}
 use Rattle.vd_packed_ring.specs.PackedPositions.{start, opos, made, made_at, block, marks}
 use Rattle.vd_packed_ring.proofs.WordFacts.{Fits}
 use Rattle.vd_packed_ring.proofs.Plans.{all_left, all_right}
-use Rattle.vd_packed_ring.proofs.Spelled.{needs_pieces, lent_one, descriptors_is, length_direct, direct_fits}
+use Rattle.vd_packed_ring.proofs.Spelled.{lent_one}
+use Rattle.vd_packed_ring.proofs.Tables.{length_needs, descriptors_fit}
 use Rattle.vd_packed_ring.proofs.Positions.{takes_below, opos_offered}
 
 -- ---- the descriptors made available
 
-pub length_descriptors : (f : Frame) (id : ℕ) (c : List Piece) → IsBuilt f → length (descriptors f id c) ≡ needs f.features c
-length_descriptors f id c b = ap (λ (l : List Descriptor). length l) (descriptors_is f id c b) ∙ (length_direct id c ∙ sym (needs_pieces f c b))
+pub length_made : (f : Frame) (o : List DriverDone) → All (FitsRing f) (offers o) → length (made f o) ≡ opos f o
+length_made f [] fits = refl
+length_made f (Offer c ∷ o) fits =
+    let here : FitsRing f c = All-head (FitsRing f) c [] (all_right (FitsRing f) (offers o) (c ∷ []) fits) in
+    omega (arith, length-append (made f o) (descriptors f (next_head f o) c), length_made f o (all_left (FitsRing f) (offers o) (c ∷ []) fits), length_needs f (next_head f o) c here.chain.0, opos_offered f o c)
+length_made f (Collect us ∷ o) fits = length_made f o fits
+length_made f (StoreCommand h i x ∷ o) fits = length_made f o fits
+length_made f (LoadAck k x ∷ o) fits = length_made f o fits
 
-pub length_made : (f : Frame) (o : List DriverDone) → IsBuilt f → length (made f o) ≡ opos f o
-length_made f [] b = refl
-length_made f (Offer c ∷ o) b = omega (arith, length-append (made f o) (descriptors f (next_head f o) c), length_made f o b, length_descriptors f (next_head f o) c b, opos_offered f o c)
-length_made f (Collect us ∷ o) b = length_made f o b
-length_made f (StoreCommand h i x ∷ o) b = length_made f o b
-length_made f (LoadAck k x ∷ o) b = length_made f o b
-
-pub made_fits : (f : Frame) (o : List DriverDone) → IsLawful f → IsBuilt f → All (FitsRing f) (offers o) → All Fits (made f o)
-made_fits f [] l b fits = All-nil Fits
-made_fits f (Offer c ∷ o) l b fits =
+pub made_fits : (f : Frame) (o : List DriverDone) → IsLawful f → All (FitsRing f) (offers o) → All Fits (made f o)
+made_fits f [] l fits = All-nil Fits
+made_fits f (Offer c ∷ o) l fits =
     let low : next_head f o < 65536 = omega (arith, next_low f o (omega (arith, l.least)), l.most) in
     let here : FitsRing f c = All-head (FitsRing f) c [] (all_right (FitsRing f) (offers o) (c ∷ []) fits) in
-    All-append Fits (made f o) (descriptors f (next_head f o) c) (made_fits f o l b (all_left (FitsRing f) (offers o) (c ∷ []) fits))
-    (subst (λ (ds : List Descriptor). All Fits ds) (sym (descriptors_is f (next_head f o) c b)) (direct_fits (next_head f o) c low here.chain.3))
-made_fits f (Collect us ∷ o) l b fits = made_fits f o l b fits
-made_fits f (StoreCommand h i x ∷ o) l b fits = made_fits f o l b fits
-made_fits f (LoadAck k x ∷ o) l b fits = made_fits f o l b fits
+    All-append Fits (made f o) (descriptors f (next_head f o) c) (made_fits f o l (all_left (FitsRing f) (offers o) (c ∷ []) fits))
+    (descriptors_fit f (next_head f o) c low here.chain.1 here.chain.3)
+made_fits f (Collect us ∷ o) l fits = made_fits f o l fits
+made_fits f (StoreCommand h i x ∷ o) l fits = made_fits f o l fits
+made_fits f (LoadAck k x ∷ o) l fits = made_fits f o l fits
 
-pub at_fits : (f : Frame) (o : List DriverDone) (q : ℕ) → IsLawful f → IsBuilt f → All (FitsRing f) (offers o) → Fits (made_at f o q)
-at_fits f o q l b fits = elim (cases_lt q (length (made f o))) [
-  | inl h ↦ made_fits f o l b fits q blank h
+pub at_fits : (f : Frame) (o : List DriverDone) (q : ℕ) → IsLawful f → All (FitsRing f) (offers o) → Fits (made_at f o q)
+at_fits f o q l fits = elim (cases_lt q (length (made f o))) [
+  | inl h ↦ made_fits f o l fits q blank h
   | inr h ↦ subst Fits (sym (get_or_past (made f o) q blank h)) record { len = omega arith; id = omega arith; flags = omega arith }
 ]
 
 -- an offer adds its descriptors, and leaves the others
-pub made_before : (f : Frame) (o : List DriverDone) (c : List Piece) (q : ℕ) → IsBuilt f → q < opos f o → made_at f (Offer c ∷ o) q ≡ made_at f o q
-made_before f o c q b h = get_or_append_left (made f o) (descriptors f (next_head f o) c) blank q (omega (arith, length_made f o b))
+pub made_before : (f : Frame) (o : List DriverDone) (c : List Piece) (q : ℕ) → All (FitsRing f) (offers o) → q < opos f o → made_at f (Offer c ∷ o) q ≡ made_at f o q
+made_before f o c q fits h = get_or_append_left (made f o) (descriptors f (next_head f o) c) blank q (omega (arith, length_made f o fits))
 
-pub made_new : (f : Frame) (o : List DriverDone) (c : List Piece) (j : ℕ) → IsBuilt f → made_at f (Offer c ∷ o) (opos f o + j) ≡ slice_index_or (direct (next_head f o) c) j blank
-made_new f o c j b =
-    ap (λ (q : ℕ). slice_index_or (made f o ++ descriptors f (next_head f o) c) (q + j) blank) (sym (length_made f o b))
-    ∙ (get_or-append-add (made f o) (descriptors f (next_head f o) c) j blank ∙ ap (λ (ds : List Descriptor). slice_index_or ds j blank) (descriptors_is f (next_head f o) c b))
+pub made_new : (f : Frame) (o : List DriverDone) (c : List Piece) (j : ℕ) → All (FitsRing f) (offers o) → made_at f (Offer c ∷ o) (opos f o + j) ≡ slice_index_or (descriptors f (next_head f o) c) j blank
+made_new f o c j fits =
+    ap (λ (q : ℕ). slice_index_or (made f o ++ descriptors f (next_head f o) c) (q + j) blank) (sym (length_made f o fits))
+    ∙ get_or-append-add (made f o) (descriptors f (next_head f o) c) j blank
 
 -- as many chains hold ids as were offered
 pub listed : (f : Frame) (o : List DriverDone) → length (held f o).1 ≡ length (offers o)
@@ -87,28 +87,31 @@ start_old : (f : Frame) (o : List DriverDone) (c : List Piece) (k : ℕ) → k �
 start_old f o c k h = ap (sum_by (needs f.features)) (take-append-le k (offers o) (c ∷ []) h)
 
 -- the descriptors of chain k are those from the position where it begins
-pub made_chain : (f : Frame) (o : List DriverDone) (k j : ℕ) → IsLawful f → IsBuilt f → k < length (offers o) → j < length (chain o k) → made_at f o (start f o k + j) ≡ slice_index_or (direct (head f o k) (chain o k)) j blank
-made_chain f [] k j l b h low = absurd (omega arith)
-made_chain f (Offer c ∷ o) k j l b h low = elim (cases_eq k (length (offers o))) [
-  | inl e ↦ (
-      let same : chain (Offer c ∷ o) k ≡ c = get_or_push (offers o) c [] k (sym e) in
-      let begins : start f (Offer c ∷ o) k ≡ opos f o = start_old f o c k (omega arith) ∙ ap (sum_by (needs f.features)) (take_all k (offers o) (omega arith)) in
-      ap (λ (q : ℕ). made_at f (Offer c ∷ o) (q + j)) begins ∙ (made_new f o c j b ∙ (ap (λ (id : ℕ). slice_index_or (direct id c) j blank) (sym (ap (λ (m : ℕ). head f (Offer c ∷ o) m) e ∙ head_new f o c l))
-      ∙ ap (λ (d : List Piece). slice_index_or (direct (head f (Offer c ∷ o) k) d) j blank) (sym same)))
-      )
-  | inr ne ↦ (
-      let below : k < length (offers o) = elim (cases_lt k (length (offers o))) [ inl a ↦ a | inr a ↦ absurd (ne (omega (arith, length_push (offers o) c))) ] in
-      let same : chain (Offer c ∷ o) k ≡ chain o k = get_or_append_left (offers o) (c ∷ []) [] k below in
-      let begins : start f (Offer c ∷ o) k ≡ start f o k = start_old f o c k (omega arith) in
-      let inside : start f o k + j < opos f o = omega (arith, takes_below f o k below, needs_pieces f (chain o k) b, ap (λ (d : List Piece). length d) same) in
-      ap (λ (q : ℕ). made_at f (Offer c ∷ o) (q + j)) begins
-      ∙ (made_before f o c (start f o k + j) b inside
-      ∙ (made_chain f o k j l b below (omega (arith, ap (λ (d : List Piece). length d) same)) ∙ (ap (λ (id : ℕ). slice_index_or (direct id (chain o k)) j blank) (sym (head_old f o c k below)) ∙ ap (λ (d : List Piece). slice_index_or (direct (head f (Offer c ∷ o) k) d) j blank) (sym same))))
-      )
-]
-made_chain f (Collect us ∷ o) k j l b h low = made_chain f o k j l b h low
-made_chain f (StoreCommand g i x ∷ o) k j l b h low = made_chain f o k j l b h low
-made_chain f (LoadAck g x ∷ o) k j l b h low = made_chain f o k j l b h low
+pub made_chain : (f : Frame) (o : List DriverDone) (k j : ℕ) → IsLawful f → All (FitsRing f) (offers o) → k < length (offers o) → j < needs f.features (chain o k) → made_at f o (start f o k + j) ≡ slice_index_or (descriptors f (head f o k) (chain o k)) j blank
+made_chain f [] k j l fits h low = absurd (omega arith)
+made_chain f (Offer c ∷ o) k j l fits h low =
+    let before : All (FitsRing f) (offers o) = all_left (FitsRing f) (offers o) (c ∷ []) fits in
+    elim (cases_eq k (length (offers o))) [
+      | inl e ↦ (
+          let same : chain (Offer c ∷ o) k ≡ c = get_or_push (offers o) c [] k (sym e) in
+          let begins : start f (Offer c ∷ o) k ≡ opos f o = start_old f o c k (omega arith) ∙ ap (sum_by (needs f.features)) (take_all k (offers o) (omega arith)) in
+          ap (λ (q : ℕ). made_at f (Offer c ∷ o) (q + j)) begins ∙ (made_new f o c j before ∙ (ap (λ (id : ℕ). slice_index_or (descriptors f id c) j blank) (sym (ap (λ (m : ℕ). head f (Offer c ∷ o) m) e ∙ head_new f o c l))
+          ∙ ap (λ (d : List Piece). slice_index_or (descriptors f (head f (Offer c ∷ o) k) d) j blank) (sym same)))
+          )
+      | inr ne ↦ (
+          let below : k < length (offers o) = elim (cases_lt k (length (offers o))) [ inl a ↦ a | inr a ↦ absurd (ne (omega (arith, length_push (offers o) c))) ] in
+          let same : chain (Offer c ∷ o) k ≡ chain o k = get_or_append_left (offers o) (c ∷ []) [] k below in
+          let begins : start f (Offer c ∷ o) k ≡ start f o k = start_old f o c k (omega arith) in
+          let sizes : needs f.features (chain (Offer c ∷ o) k) ≡ needs f.features (chain o k) = ap (needs f.features) same in
+          let inside : start f o k + j < opos f o = omega (arith, takes_below f o k below, sizes) in
+          ap (λ (q : ℕ). made_at f (Offer c ∷ o) (q + j)) begins
+          ∙ (made_before f o c (start f o k + j) before inside
+          ∙ (made_chain f o k j l before below (omega (arith, sizes)) ∙ (ap (λ (id : ℕ). slice_index_or (descriptors f id (chain o k)) j blank) (sym (head_old f o c k below)) ∙ ap (λ (d : List Piece). slice_index_or (descriptors f (head f (Offer c ∷ o) k) d) j blank) (sym same))))
+          )
+    ]
+made_chain f (Collect us ∷ o) k j l fits h low = made_chain f o k j l fits h low
+made_chain f (StoreCommand g i x ∷ o) k j l fits h low = made_chain f o k j l fits h low
+made_chain f (LoadAck g x ∷ o) k j l fits h low = made_chain f o k j l fits h low
 
 -- ---- the used descriptors
 

@@ -6,21 +6,20 @@ use Rattle.vd_ring.specs.declared.frame.Frame.{Frame}
 use Rattle.vd_ring.specs.Frames.{Fits}
 use Rattle.vd_ring.specs.Signals.{opens as signals_open}
 use Rattle.vd_ring.proofs.Counts.{one_above, length_upto, occurs_upto}
-use Rattle.vd_packed_ring.specs.PackedWords.{IsLawful, IsBuilt, width, kick_at, call_at, command_word, ack_word, driver_event, device_event}
+use Rattle.vd_packed_ring.specs.PackedWords.{IsLawful, width, kick_at, call_at, command_word, ack_word, driver_event, device_event}
 use Rattle.vd_packed_ring.specs.PackedLaws.{IsFresh}
 use Rattle.vd_packed_ring.proofs.Areas.{areas, drivers_inside, devices_inside, command_drivers, ack_devices}
 
 zeros : (n i : ℕ) → i < n → slice_index (replicate {A = ℕ} n 0) i ≡ 0
 zeros n i h = get_or-replicate n i 0 0 h
 
-pub opens : (f : Frame) → IsLawful f → IsBuilt f → IsFresh f
-opens f l b =
+pub opens : (f : Frame) → IsLawful f → IsFresh f
+opens f l =
     let n : ℕ = width f in
     let len : length (replicate {A = ℕ} n 0) ≡ n = length-replicate n 0 in
     record {
       same = refl;
       lawful = l;
-      built = b;
       words = record { wide = (len, len, len); drivers = λ i h. refl; devices = λ i h. refl };
       places = record {
         once = λ p. omega (arith, occurs_upto p f.size);

@@ -1,67 +1,21 @@
--- What the words of a chain spell, without INDIRECT_DESC: each chain stands in descriptors of the ring.
-use Rattle.std.proofs.Common.{◌≡◌, ℕ, zero, suc, ◌+◌, ◌-◌, ◌*◌, ◌<◌, ◌≤◌, ◌==◌, ◌&&◌, nat_lt, Bool, true, false, not, List, [], ◌∷◌, ◌++◌, length, take, drop, if◌then◌else◌, slice_index, slice_index_or, refl, sym, ap, ◌∙◌, subst, arith}
+-- What the words of a chain spell that stands in descriptors of the ring, one a piece.
+use Rattle.std.proofs.Common.{◌≡◌, ℕ, zero, suc, ◌+◌, ◌*◌, ◌<◌, ◌≤◌, Bool, true, false, not, List, [], ◌∷◌, ◌++◌, length, take, if◌then◌else◌, slice_index, slice_index_or, refl, sym, ap, ◌∙◌, subst, arith}
 use Rattle.std.specs.List.{All}
-use Rattle.std.proofs.lemmas.List.{map-append, take_more, append-nil}
+use Rattle.std.proofs.lemmas.List.{map-append, take_more}
 use Rattle.std.proofs.lemmas.List.Elements.{All-nil, All-cons, All-head, All-tail}
 use Rattle.vd_model.specs.declared.chain.Piece.{Piece}
 use Rattle.vd_model.specs.Chains.{IsPiece, needs}
 use Rattle.vd_ring.specs.declared.frame.Frame.{Frame}
 use Rattle.vd_ring.specs.declared.frame.Put.{Put}
 use Rattle.vd_ring.specs.Frames.{lent}
-use Rattle.vd_packed_ring.specs.PackedWords.{table_of, IsLawful, IsBuilt, addr_word, second_word, put, words_of, goes_on, is_write, names_table, Stand}
-use Rattle.vd_packed_ring.specs.PackedChains.{Descriptor, blank, avail_word, more, flags, direct, is_tabled, pointer, descriptors, tabled, table, staged, described, publishing, loaded, spelling, reading, piece_of, pieces_of, pieces_in, ends, following, has_table, table_words, first_id, last_id, loaded_head, is_whole, chain_of, cursor, staged_pieces, staged_chain}
+use Rattle.vd_packed_ring.specs.PackedWords.{IsLawful, addr_word, second_word, put, words_of, goes_on, is_write, Stand}
+use Rattle.vd_packed_ring.specs.PackedChains.{Descriptor, blank, avail_word, more, flags, direct, staged, described, publishing, loaded, piece_of, pieces_of, pieces_in, ends, following, last_id, staged_pieces}
 use Rattle.vd_packed_ring.proofs.WordFacts.{Fits, bit, write_bit, avail_len, avail_flags, avail_id}
 use Rattle.vd_packed_ring.proofs.Plans.{Stands}
-
--- ---- without INDIRECT_DESC
-
-pub needs_pieces : (f : Frame) (c : List Piece) → IsBuilt f → needs f.features c ≡ length c
-needs_pieces f c b = ap (λ (i : Bool). if i then 1 else length c) b.direct
 
 -- a chain borrows one id
 pub lent_one : (f : Frame) (c : List Piece) → IsLawful f → lent f c ≡ 1
 lent_one f c l = ap (λ (b : Bool). if b then 1 else needs f.features c) l.packed
-
-pub untabled : (f : Frame) (c : List Piece) → IsBuilt f → is_tabled f c ≡ false
-untabled f c b = ap (λ (i : Bool). i && nat_lt 1 (length c)) b.direct
-
-pub descriptors_is : (f : Frame) (id : ℕ) (c : List Piece) → IsBuilt f → descriptors f id c ≡ direct id c
-descriptors_is f id c b = ap (λ (i : Bool). if i then pointer f id c ∷ [] else direct id c) (untabled f c b)
-
-pub table_is : (f : Frame) (id : ℕ) (c : List Piece) → IsBuilt f → table f id c ≡ []
-table_is f id c b = ap (λ (i : Bool). if i then tabled (table_of f id) c else []) (untabled f c b)
-
-pub table_stands : (f : Frame) (ws : List ℕ) (id : ℕ) (c : List Piece) → IsBuilt f → Stand ws (table f id c)
-table_stands f ws id c b = subst (λ (l : List Put). Stand ws l) (sym (table_is f id c b)) (All-nil (Stands ws))
-
-pub spelling_is : (f : Frame) (q id : ℕ) (c : List Piece) → IsBuilt f → spelling f q id c ≡ staged f.size q (direct id c)
-spelling_is f q id c b = ap (λ (l : List Put). l ++ staged f.size q (descriptors f id c)) (table_is f id c b) ∙ ap (staged f.size q) (descriptors_is f id c b)
-
-pub publishing_is : (f : Frame) (q id : ℕ) (c : List Piece) → IsBuilt f → publishing f.size q (descriptors f id c) ≡ publishing f.size q (direct id c)
-publishing_is f q id c b = ap (λ (l : List Descriptor). publishing f.size q l) (descriptors_is f id c b)
-
-pub reading_is : (f : Frame) (q id : ℕ) (c : List Piece) → IsBuilt f → reading f q id c ≡ loaded f.size q (direct id c)
-reading_is f q id c b = ap (λ (l : List Put). loaded f.size q (descriptors f id c) ++ l) (table_is f id c b) ∙ (append-nil (loaded f.size q (descriptors f id c)) ∙ ap (loaded f.size q) (descriptors_is f id c b))
-
-pub no_table : (f : Frame) (ws : List ℕ) → IsBuilt f → has_table f ws ≡ false
-no_table f [] b = refl
-no_table f (a ∷ []) b = refl
-no_table f (w ∷ a ∷ ws) b = ap (λ (i : Bool). i && names_table w) b.direct
-
-pub whole_is : (f : Frame) (ws : List ℕ) → IsBuilt f → is_whole f ws ≡ ends ws
-whole_is f ws b = ap (λ (i : Bool). if i then length ws == 2 + table_words (slice_index ws 0) else ends ws) (no_table f ws b)
-
-pub chain_is : (f : Frame) (ws : List ℕ) → IsBuilt f → chain_of f ws ≡ pieces_in ws
-chain_is f ws b = ap (λ (i : Bool). if i then pieces_of (drop 2 ws) else pieces_in ws) (no_table f ws b)
-
-pub cursor_is : (f : Frame) (q : ℕ) (ws : List ℕ) → IsBuilt f → cursor f q ws ≡ following f.size q ws
-cursor_is f q ws b = ap (λ (i : Bool). if i then table_of f (first_id ws) + (length ws - 2) else following f.size q ws) (no_table f ws b)
-
-pub head_is : (f : Frame) (ws : List ℕ) → IsBuilt f → loaded_head f ws ≡ last_id ws
-head_is f ws b = ap (λ (i : Bool). if i then first_id ws else last_id ws) (no_table f ws b)
-
-pub staged_is : (f : Frame) (ws : List ℕ) (w : ℕ) → IsBuilt f → staged_chain f ws w ≡ staged_pieces ws w
-staged_is f ws w b = ap (λ (i : Bool). if i && names_table w then pieces_of (take (length ws - 1) ws) else staged_pieces ws w) b.direct
 
 -- ---- a chain's descriptors
 

@@ -4,14 +4,17 @@ use Rattle.std.specs.List.{All}
 use Rattle.std.proofs.lemmas.Bool.{cases_lt, lt-ltb, le-ltb, eq-eqb, ne_eqb}
 use Rattle.std.proofs.lemmas.List.{length-append, length-map, length-take-le, map-append, append-nil, take_all}
 use Rattle.std.proofs.Math.Seq.{take-append_seam}
-use Rattle.std.proofs.lemmas.List.Elements.{All-nil, All-cons, All-head, All-tail}
+use Rattle.std.proofs.lemmas.List.Elements.{All-nil, All-cons}
 use Rattle.vd_model.specs.declared.chain.Piece.{Piece}
 use Rattle.vd_model.specs.Chains.{IsPiece, needs}
+use Rattle.vd_indirect.specs.declared.descriptor.TableKind.TheVariants.{Packed}
+use Rattle.vd_indirect.specs.Tables.{table_words}
 use Rattle.vd_ring.specs.declared.frame.Frame.{Frame}
 use Rattle.vd_ring.specs.declared.frame.Put.{Put}
-use Rattle.vd_packed_ring.specs.PackedWords.{wrap_bit, other_bit, table_of, addr_word, second_word, packed_word, put, words_of, len_of, id_of, flags_of, names_table, is_write}
-use Rattle.vd_packed_ring.specs.PackedChains.{Descriptor, blank, avail_word, more, flags, direct, is_tabled, pointer, descriptors, tabled, table, staged, publishing, loaded, spelling, reading, piece_of, pieces_of, pieces_in, ends, following, has_table, table_words, first_id, last_id, loaded_head, is_whole, chain_of, cursor, staged_pieces, staged_chain}
-use Rattle.vd_packed_ring.proofs.WordFacts.{Fits, len_back, flags_back, avail_len, avail_id}
+use Rattle.vd_packed_ring.specs.PackedWords.{wrap_bit, other_bit, table_of, addr_word, second_word, put, words_of, len_of, id_of, flags_of, names_table}
+use Rattle.vd_packed_ring.specs.PackedChains.{Descriptor, blank, avail_word, more, flags, direct, is_tabled, pointer, descriptors, standing, table, staged, publishing, loaded, spelling, reading, pieces_of, pieces_in, ends, following, has_table, named_words, first_id, last_id, loaded_head, is_whole, chain_of, cursor, staged_pieces, staged_chain}
+use Rattle.vd_packed_ring.proofs.WordFacts.{Fits, flags_back, avail_len, avail_id}
+use Rattle.vd_packed_ring.proofs.Standing.{length_tabled, tabled_place, tabled_back}
 use Rattle.vd_packed_ring.proofs.Spelled.{direct_id, length_direct, direct_fits, staged_back, loaded_back, length_loaded, not_whole, whole, following_at, last_back}
 
 -- ---- which chains stand in tables
@@ -30,11 +33,11 @@ kind f c = at f.features.indirect refl
     ]
     at false e = in_ring (ap (λ (i : Bool). i && nat_lt 1 (length c)) e) (inl e)
 
-tabled_is : (f : Frame) (id : ℕ) (c : List Piece) → is_tabled f c ≡ true → (descriptors f id c ≡ pointer f id c ∷ []) × (table f id c ≡ tabled (table_of f id) c)
-tabled_is f id c e = (ap (λ (i : Bool). if i then pointer f id c ∷ [] else direct id c) e, ap (λ (i : Bool). if i then tabled (table_of f id) c else []) e)
+pub tabled_is : (f : Frame) (id : ℕ) (c : List Piece) → is_tabled f c ≡ true → (descriptors f id c ≡ pointer f id c ∷ []) × (table f id c ≡ standing (table_of f id) (table_words Packed c))
+tabled_is f id c e = (ap (λ (i : Bool). if i then pointer f id c ∷ [] else direct id c) e, ap (λ (i : Bool). if i then standing (table_of f id) (table_words Packed c) else []) e)
 
-direct_is : (f : Frame) (id : ℕ) (c : List Piece) → is_tabled f c ≡ false → (descriptors f id c ≡ direct id c) × (table f id c ≡ [])
-direct_is f id c e = (ap (λ (i : Bool). if i then pointer f id c ∷ [] else direct id c) e, ap (λ (i : Bool). if i then tabled (table_of f id) c else []) e)
+pub direct_is : (f : Frame) (id : ℕ) (c : List Piece) → is_tabled f c ≡ false → (descriptors f id c ≡ direct id c) × (table f id c ≡ [])
+direct_is f id c e = (ap (λ (i : Bool). if i then pointer f id c ∷ [] else direct id c) e, ap (λ (i : Bool). if i then standing (table_of f id) (table_words Packed c) else []) e)
 
 -- as many descriptors of the ring as the chain needs
 pub length_needs : (f : Frame) (id : ℕ) (c : List Piece) → 0 < length c → length (descriptors f id c) ≡ needs f.features c
@@ -48,6 +51,13 @@ length_needs f id c some = at (kind f c)
     at (by_table t on h) = ap (λ (l : List Descriptor). length l) (tabled_is f id c t).0 ∙ sym (ap (λ (i : Bool). if i then 1 else length c) on)
     at (in_ring t (inl off)) = ap (λ (l : List Descriptor). length l) (direct_is f id c t).0 ∙ (length_direct id c ∙ sym (ap (λ (i : Bool). if i then 1 else length c) off))
     at (in_ring t (inr one)) = ap (λ (l : List Descriptor). length l) (direct_is f id c t).0 ∙ (length_direct id c ∙ single f.features.indirect (length c) (omega arith))
+
+pub descriptors_some : (f : Frame) (id : ℕ) (c : List Piece) → 0 < length c → 0 < length (descriptors f id c)
+descriptors_some f id c some = at f.features.indirect (length_needs f id c some)
+  where
+    at : (b : Bool) → length (descriptors f id c) ≡ (if b then 1 else length c) → 0 < length (descriptors f id c)
+    at true e = omega (arith, e)
+    at false e = omega (arith, e)
 
 pointer_fits : (f : Frame) (id : ℕ) (c : List Piece) → id < 65536 → length c ≤ 16 → Fits (pointer f id c)
 pointer_fits f id c low few = record { len = omega arith; id = low; flags = omega arith }
@@ -66,38 +76,6 @@ descriptors_id f id c some = at (kind f c)
     at (by_table t on h) = ap (λ (l : List Descriptor). (slice_index_or l 0 blank).id) (tabled_is f id c t).0
     at (in_ring t h) = ap (λ (l : List Descriptor). (slice_index_or l 0 blank).id) (direct_is f id c t).0 ∙ direct_id id c some
 
--- ---- a table's words
-
-pub length_tabled : (t : ℕ) (c : List Piece) → length (tabled t c) ≡ 2 * length c
-length_tabled t [] = refl
-length_tabled t (x ∷ c) = omega (arith, length_tabled (t + 2) c)
-
-pub tabled_place : (t : ℕ) (c : List Piece) (k : ℕ) → k < length (tabled t c) → (slice_index_or (tabled t c) k (put 0 0)).place ≡ t + k
-tabled_place t [] k h = absurd (omega arith)
-tabled_place t (x ∷ c) zero h = omega arith
-tabled_place t (x ∷ c) (suc zero) h = omega arith
-tabled_place t (x ∷ c) (suc (suc k)) h = omega (arith, tabled_place (t + 2) c k (omega arith))
-
-abbrev piece : ℕ → ℕ → Bool → Piece
-piece a l w = record { addr = a; len = l; write = w }
-
-table_write : (b : Bool) → (((if b then 2 else 0) / 2) % 2 == 1) ≡ b
-table_write true = refl
-table_write false = refl
-
-table_piece : (x : Piece) → IsPiece x → piece_of x.addr (packed_word x.len 0 (if x.write then 2 else 0)) ≡ x
-table_piece x is =
-    let g : ℕ = if x.write then 2 else 0 in
-    let l : len_of (packed_word x.len 0 g) ≡ x.len = len_back x.len 0 g is.1 in
-    let fl : flags_of (packed_word x.len 0 g) ≡ g = flags_back x.len 0 g is.1 (omega arith) in
-    let w : is_write (packed_word x.len 0 g) ≡ x.write = ap (λ (y : ℕ). ((y / 2) % 2) == 1) fl ∙ table_write x.write in
-    ap₂ (λ (m : ℕ) (b : Bool). piece x.addr m b) l w
-
-pub tabled_back : (t : ℕ) (c : List Piece) → All IsPiece c → pieces_of (words_of (tabled t c)) ≡ c
-tabled_back t [] ok = refl
-tabled_back t (x ∷ c) ok =
-    ap₂ (λ (y : Piece) (l : List Piece). y ∷ l) (table_piece x (All-head IsPiece x c ok)) (tabled_back (t + 2) c (All-tail IsPiece x c ok))
-
 -- ---- the word that names a table, and those that do not
 
 avail_flags_of : (n q : ℕ) (d : Descriptor) → Fits d → flags_of (avail_word n q d) ≡ d.flags + 128 * wrap_bit n q + 32768 * other_bit n q
@@ -106,13 +84,19 @@ avail_flags_of n q d ok = flags_back d.len d.id (d.flags + 128 * wrap_bit n q + 
 third_bit : (g a b : ℕ) → (4 ≤ g → g < 8 → ((g + 128 * a + 32768 * b) / 4) % 2 ≡ 1) × (g < 4 → ((g + 128 * a + 32768 * b) / 4) % 2 ≡ 0)
 third_bit g a b = (λ h k. omega arith, λ h. omega arith)
 
-pub pointer_names : (n q : ℕ) (f : Frame) (id : ℕ) (c : List Piece) → id < 65536 → length c ≤ 16 → (names_table (avail_word n q (pointer f id c)) ≡ true) × (table_words (avail_word n q (pointer f id c)) ≡ 2 * length c)
+pub pointer_names : (n q : ℕ) (f : Frame) (id : ℕ) (c : List Piece) → id < 65536 → length c ≤ 16 → (names_table (avail_word n q (pointer f id c)) ≡ true) × (named_words (avail_word n q (pointer f id c)) ≡ 2 * length c)
 pointer_names n q f id c low few =
     let ok = pointer_fits f id c low few in
     let fl = avail_flags_of n q (pointer f id c) ok in
     let odd = (third_bit 4 (wrap_bit n q) (other_bit n q)).0 (omega arith) (omega arith) in
     let len : len_of (avail_word n q (pointer f id c)) ≡ 16 * length c = avail_len n q (pointer f id c) ok in
     (ap (λ (g : ℕ). ((g / 4) % 2) == 1) fl ∙ eq-eqb _ 1 odd, ap (λ (l : ℕ). 2 * (l / 16)) len ∙ omega arith)
+
+pub pointer_len : (n q : ℕ) (f : Frame) (id : ℕ) (c : List Piece) → id < 65536 → length c ≤ 16 → len_of (avail_word n q (pointer f id c)) ≡ 16 * length c
+pointer_len n q f id c low few = avail_len n q (pointer f id c) (pointer_fits f id c low few)
+
+pub pointer_id : (n q : ℕ) (f : Frame) (id : ℕ) (c : List Piece) → id < 65536 → length c ≤ 16 → id_of (avail_word n q (pointer f id c)) ≡ id
+pointer_id n q f id c low few = avail_id n q (pointer f id c) (pointer_fits f id c low few)
 
 pub direct_names : (n q : ℕ) (d : Descriptor) → Fits d → d.flags < 4 → names_table (avail_word n q d) ≡ false
 direct_names n q d ok low =
@@ -145,7 +129,7 @@ offer_back f q id c some few low ok = at (kind f c)
 
     at : Kind f c → staged_chain f (words_of (spelling f q id c)) (publishing f.size q (descriptors f id c)).word ≡ c
     at (by_table t on h) =
-        let T : List Put = tabled (table_of f id) c in
+        let T : List Put = standing (table_of f id) (table_words Packed c) in
         let w : ℕ = avail_word f.size q (pointer f id c) in
         let e = tabled_is f id c t in
         let words : words_of (spelling f q id c) ≡ words_of T ++ (8 * table_of f id) ∷ [] =
@@ -180,15 +164,15 @@ pub record Reads (f : Frame) (q id : ℕ) (c : List Piece) (k : ℕ) : Type 0 wh
   pub is_head : loaded_head f (words_of (reading f q id c)) ≡ id
 
 abbrev has : Frame → List ℕ → Bool → Bool
-has f ws b = if b then length ws == 2 + table_words (slice_index ws 0) else ends ws
+has f ws b = if b then length ws == 2 + named_words (slice_index ws 0) else ends ws
 
 -- directly: no word names a table
-no_table : (f : Frame) (q id : ℕ) (c : List Piece) (k : ℕ) → (f.features.indirect ≡ false) ⊎ (length c ≤ 1) → id < 65536 → All IsPiece c → has_table f (words_of (take k (loaded f.size q (direct id c)))) ≡ false
-no_table f q id [] zero h low ok = refl
-no_table f q id [] (suc k) h low ok = refl
-no_table f q id (x ∷ c) zero h low ok = refl
-no_table f q id (x ∷ c) (suc zero) h low ok = refl
-no_table f q id (x ∷ c) (suc (suc k)) h low ok =
+pub no_table_yet : (f : Frame) (q id : ℕ) (c : List Piece) (k : ℕ) → (f.features.indirect ≡ false) ⊎ (length c ≤ 1) → id < 65536 → All IsPiece c → has_table f (words_of (take k (loaded f.size q (direct id c)))) ≡ false
+no_table_yet f q id [] zero h low ok = refl
+no_table_yet f q id [] (suc k) h low ok = refl
+no_table_yet f q id (x ∷ c) zero h low ok = refl
+no_table_yet f q id (x ∷ c) (suc zero) h low ok = refl
+no_table_yet f q id (x ∷ c) (suc (suc k)) h low ok =
     let d : Descriptor = slice_index_or (direct id (x ∷ c)) 0 blank in
     let fits : Fits d = direct_fits id (x ∷ c) low ok 0 blank (omega arith) in
     ap (λ (b : Bool). f.features.indirect && b) (direct_names f.size q d fits (small_flags x c)) ∙ and_off f.features.indirect
@@ -197,6 +181,11 @@ no_table f q id (x ∷ c) (suc (suc k)) h low ok =
     and_off true = refl
     and_off false = refl
 
+pub no_table : (f : Frame) (q id : ℕ) (c : List Piece) → (f.features.indirect ≡ false) ⊎ (length c ≤ 1) → id < 65536 → All IsPiece c → has_table f (words_of (loaded f.size q (direct id c) ++ [])) ≡ false
+no_table f q id c h low ok =
+    let R : List Put = loaded f.size q (direct id c) in
+    ap (λ (l : List Put). has_table f (words_of l)) (append-nil R ∙ sym (take_all (length R) R (omega arith))) ∙ no_table_yet f q id c (length R) h low ok
+
 reads_direct : (f : Frame) (q id : ℕ) (c : List Piece) (k : ℕ) → is_tabled f c ≡ false → (f.features.indirect ≡ false) ⊎ (length c ≤ 1) → 0 < length c → id < 65536 → All IsPiece c → Reads f q id c k
 reads_direct f q id c k t h some low ok =
     let R : List Put = loaded f.size q (direct id c) in
@@ -204,16 +193,16 @@ reads_direct f q id c k t h some low ok =
     let is : reading f q id c ≡ R = ap (λ (l : List Put). loaded f.size q (descriptors f id c) ++ l) e.1 ∙ (append-nil (loaded f.size q (descriptors f id c)) ∙ ap (loaded f.size q) e.0) in
     let long : length R ≡ 2 * length c = length_loaded f.size q (direct id c) ∙ ap (λ (m : ℕ). 2 * m) (length_direct id c) in
     let all : words_of R ≡ words_of (take (length R) R) = ap words_of (sym (take_all (length R) R (omega arith))) in
-    let none : has_table f (words_of R) ≡ false = ap (has_table f) all ∙ no_table f q id c (length R) h low ok in
+    let none : has_table f (words_of R) ≡ false = ap (has_table f) all ∙ no_table_yet f q id c (length R) h low ok in
     let part : List ℕ = words_of (take k R) in
     record {
       place = λ left.
           let low2 : k < length R = omega (arith, ap (λ (l : List Put). length l) is) in
           ap (λ (l : List Put). cursor f q (words_of (take k l))) is
-          ∙ (ap (λ (b : Bool). if b then table_of f (first_id part) + (length part - 2) else following f.size q part) (no_table f q id c k h low ok) ∙ (following_at f.size q (direct id c) k low2 ∙ ap (λ (l : List Put). (slice_index_or l k (put 0 0)).place) (sym is)));
+          ∙ (ap (λ (b : Bool). if b then table_of f (first_id part) + (length part - 2) else following f.size q part) (no_table_yet f q id c k h low ok) ∙ (following_at f.size q (direct id c) k low2 ∙ ap (λ (l : List Put). (slice_index_or l k (put 0 0)).place) (sym is)));
       partial = λ left.
           let low2 : k < 2 * length c = omega (arith, ap (λ (l : List Put). length l) is) in
-          ap (λ (l : List Put). is_whole f (words_of (take k l))) is ∙ (ap (has f part) (no_table f q id c k h low ok) ∙ not_whole f.size q id c k low ok low2);
+          ap (λ (l : List Put). is_whole f (words_of (take k l))) is ∙ (ap (has f part) (no_table_yet f q id c k h low ok) ∙ not_whole f.size q id c k low ok low2);
       whole = ap (λ (l : List Put). is_whole f (words_of l)) is ∙ (ap (has f (words_of R)) none ∙ whole f.size q id c low ok some);
       spelled = ap (λ (l : List Put). chain_of f (words_of l)) is ∙ (ap (λ (b : Bool). if b then pieces_of (drop 2 (words_of R)) else pieces_in (words_of R)) none ∙ loaded_back f.size q id c low ok);
       is_head = ap (λ (l : List Put). loaded_head f (words_of l)) is ∙ (ap (λ (b : Bool). if b then first_id (words_of R) else last_id (words_of R)) none ∙ last_back f.size q id c low ok some);
@@ -224,30 +213,30 @@ abbrev first_of : Frame → ℕ → ℕ → List Piece → ℕ
 first_of f q id c = avail_word f.size q (pointer f id c)
 
 abbrev all_of : Frame → ℕ → ℕ → List Piece → List Put
-all_of f q id c = put (second_word f.size q) (first_of f q id c) ∷ put (addr_word f.size q) (8 * table_of f id) ∷ tabled (table_of f id) c
+all_of f q id c = put (second_word f.size q) (first_of f q id c) ∷ put (addr_word f.size q) (8 * table_of f id) ∷ standing (table_of f id) (table_words Packed c)
 
 place_at : (f : Frame) (q id : ℕ) (c : List Piece) (k : ℕ) → (f.features.indirect && names_table (first_of f q id c)) ≡ true → k < length (all_of f q id c) → id_of (first_of f q id c) ≡ id → cursor f q (words_of (take k (all_of f q id c))) ≡ (slice_index_or (all_of f q id c) k (put 0 0)).place
 place_at f q id c zero says h is_id = refl
 place_at f q id c (suc zero) says h is_id = refl
 place_at f q id c (suc (suc j)) says h is_id =
     let ws : List ℕ = words_of (take (suc (suc j)) (all_of f q id c)) in
-    let T : List Put = tabled (table_of f id) c in
+    let T : List Put = standing (table_of f id) (table_words Packed c) in
     let count : length (words_of (take j T)) ≡ j = length-map (take j T) (λ (p : Put). p.word) ∙ length-take-le j T (omega arith) in
     ap (λ (b : Bool). if b then table_of f (first_id ws) + (length ws - 2) else following f.size q ws) says
     ∙ (ap (λ (i : ℕ). table_of f i + (length ws - 2)) is_id ∙ omega (arith, count, tabled_place (table_of f id) c j (omega arith)))
 
-partial_at : (f : Frame) (q id : ℕ) (c : List Piece) (k : ℕ) → (f.features.indirect && names_table (first_of f q id c)) ≡ true → table_words (first_of f q id c) ≡ 2 * length c → k < length (all_of f q id c) → is_whole f (words_of (take k (all_of f q id c))) ≡ false
+partial_at : (f : Frame) (q id : ℕ) (c : List Piece) (k : ℕ) → (f.features.indirect && names_table (first_of f q id c)) ≡ true → named_words (first_of f q id c) ≡ 2 * length c → k < length (all_of f q id c) → is_whole f (words_of (take k (all_of f q id c))) ≡ false
 partial_at f q id c zero says n h = refl
 partial_at f q id c (suc zero) says n h = refl
 partial_at f q id c (suc (suc j)) says n h =
     let ws : List ℕ = words_of (take (suc (suc j)) (all_of f q id c)) in
-    let T : List Put = tabled (table_of f id) c in
+    let T : List Put = standing (table_of f id) (table_words Packed c) in
     let count : length (words_of (take j T)) ≡ j = length-map (take j T) (λ (p : Put). p.word) ∙ length-take-le j T (omega arith) in
     ap (has f ws) says ∙ ne_eqb _ _ (λ e. omega (arith, count, n, length_tabled (table_of f id) c))
 
 reads_tabled : (f : Frame) (q id : ℕ) (c : List Piece) (k : ℕ) → is_tabled f c ≡ true → f.features.indirect ≡ true → length c ≤ 16 → id < 65536 → All IsPiece c → Reads f q id c k
 reads_tabled f q id c k t on few low ok =
-    let T : List Put = tabled (table_of f id) c in
+    let T : List Put = standing (table_of f id) (table_words Packed c) in
     let w : ℕ = avail_word f.size q (pointer f id c) in let a : ℕ = 8 * table_of f id in
     let R : List Put = put (second_word f.size q) w ∷ put (addr_word f.size q) a ∷ T in
     let e = tabled_is f id c t in

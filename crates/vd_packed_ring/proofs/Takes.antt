@@ -1,11 +1,10 @@
 -- The loads of a take keep the ring invariant, and find the next chain exactly where there is one.
 use Rattle.std.proofs.Common.{◌≡◌, ℕ, ◌+◌, ◌<◌, ◌≤◌, Bool, true, false, List, [], ◌∷◌, ◌++◌, length, take, if◌then◌else◌, slice_index, slice_index_or, None, refl, sym, ap, ◌∙◌, subst, arith, inl, inr}
-use Rattle.std.specs.List.{All}
 use Rattle.std.proofs.lemmas.Bool.{cases_lt}
 use Rattle.std.proofs.lemmas.List.{length_push}
 use Rattle.std.proofs.lemmas.List.Sums.{sum_by_push}
 use Rattle.vd_model.specs.declared.chain.Piece.{Piece}
-use Rattle.vd_model.specs.Chains.{needs, IsPiece}
+use Rattle.vd_model.specs.Chains.{needs, IsChain}
 use Rattle.vd_ring.specs.declared.frame.Frame.{Frame}
 use Rattle.vd_ring.specs.declared.frame.Put.{Put}
 use Rattle.vd_ring.specs.declared.driver.DriverDone.{DriverDone}
@@ -21,41 +20,36 @@ use Rattle.vd_ring.specs.History.{offers, takes, head, chain}
 use Rattle.vd_ring.proofs.DeviceLists.{lists_taken}
 use Rattle.vd_ring.proofs.DeviceAcks.{acks_taken}
 use Rattle.vd_packed_ring.specs.PackedWords.{second_word, put, words_of, is_available, Stand, ack_word}
-use Rattle.vd_packed_ring.specs.PackedChains.{Descriptor, direct, loaded, reading, following, loaded_head, chain_of, cursor}
+use Rattle.vd_packed_ring.specs.PackedChains.{Descriptor, descriptors, table, loaded, loaded_head, chain_of, cursor}
 use Rattle.vd_packed_ring.specs.PackedPositions.{opos, tpos, upos, second_at, later}
 use Rattle.vd_packed_ring.specs.PackedDevice.{ShowsSeen, BeginsChain, device_looks, device_takes, device_loads}
 use Rattle.vd_packed_ring.specs.PackedRing.{puts_of, Ring, Loads, chains_out, chains_in, entries_in}
 use Rattle.vd_packed_ring.proofs.Rows.{row_same}
-use Rattle.vd_packed_ring.proofs.Spelled.{reading_is, cursor_is, length_direct, following_at, words_more}
+use Rattle.vd_packed_ring.proofs.Spelled.{words_more}
+use Rattle.vd_packed_ring.proofs.Tables.{descriptors_some, reads}
 use Rattle.vd_packed_ring.proofs.Positions.{order, upos_is, later_second, later_within}
 use Rattle.vd_packed_ring.proofs.DeviceParts.{ring_with}
 use Rattle.vd_packed_ring.proofs.Ahead.{next_words, ahead, none_shows, first_word, whole_less, whole_all, begins}
 
 -- ---- the look
 
-first_stands : (ws : List ℕ) (n q : ℕ) (ds : List Descriptor) → 0 < length ds → Stand ws (loaded n q ds) → slice_index ws (second_word n q) ≡ (slice_index_or (loaded n q ds) 0 (put 0 0)).word
-first_stands ws n q [] h stand = absurd (omega arith)
-first_stands ws n q (d ∷ ds) h stand = stand 0 (put 0 0) (omega arith)
-
-first_taken : (n q : ℕ) (ds : List Descriptor) → 0 < length ds → words_of (take 1 (loaded n q ds)) ≡ (slice_index_or (loaded n q ds) 0 (put 0 0)).word ∷ []
-first_taken n q [] h = absurd (omega arith)
-first_taken n q (d ∷ ds) h = refl
+first_stands : (ws : List ℕ) (n q : ℕ) (ds : List Descriptor) (rest : List Put) → 0 < length ds → Stand ws (loaded n q ds ++ rest) → slice_index ws (second_word n q) ∷ [] ≡ words_of (take 1 (loaded n q ds ++ rest))
+first_stands ws n q [] rest h stand = absurd (omega arith)
+first_stands ws n q (d ∷ ds) rest h stand = ap (λ (x : ℕ). x ∷ []) (stand 0 (put 0 0) (omega arith))
 
 -- the word at the next position is the first of the next chain's
 pub next_word : (ws : List ℕ) (d : DriverView) (e : DeviceView) → Ring ws d e → length (takes e.done) < length (offers d.done) → slice_index ws (second_word d.frame.size (tpos d.frame e.done)) ∷ [] ≡ words_of (take 1 (next_words d.frame d.done e.done))
 next_word ws d e r more =
-    let f : Frame = d.frame in let k : ℕ = length (takes e.done) in
-    let ds : List Descriptor = direct (head f d.done k) (chain d.done k) in
+    let f : Frame = d.frame in let k : ℕ = length (takes e.done) in let id : ℕ = head f d.done k in let c : List Piece = chain d.done k in
     let a = ahead ws d e r more in
-    let some : 0 < length ds = omega (arith, a.fits.chain.0, length_direct (head f d.done k) (chain d.done k)) in
-    ap (λ (x : ℕ). x ∷ []) (first_stands ws f.size (tpos f e.done) ds some a.stand) ∙ sym (first_taken f.size (tpos f e.done) ds some)
+    first_stands ws f.size (tpos f e.done) (descriptors f id c) (table f id c) (descriptors_some f id c a.fits.chain.0) a.stand
 
 -- and shows as available
 pub shows_next : (ws : List ℕ) (d : DriverView) (e : DeviceView) → Ring ws d e → length (takes e.done) < length (offers d.done) → is_available d.frame.size (tpos d.frame e.done) (slice_index ws (second_word d.frame.size (tpos d.frame e.done))) ≡ true
 shows_next ws d e r more =
     let f : Frame = d.frame in let k : ℕ = length (takes e.done) in
     let a = ahead ws d e r more in
-    first_word f.size (tpos f e.done) (head f d.done k) (chain d.done k) (slice_index ws (second_word f.size (tpos f e.done)) ∷ []) a.small a.fits.chain.3 a.fits.chain.0 (omega arith) (next_word ws d e r more)
+    first_word f (tpos f e.done) (head f d.done k) (chain d.done k) (slice_index ws (second_word f.size (tpos f e.done)) ∷ []) a.small a.fits.chain (omega arith) (next_word ws d e r more)
 
 abbrev pub LookTells : DriverView → DeviceView → ℕ → Type 0
 LookTells d e w =
@@ -111,7 +105,6 @@ looks_at ws d e w true r unarmed is on =
     let more = ((finds ws d E w r is).some on).0 in
     let a = ahead ws d E r more in
     let one : w ∷ [] ≡ words_of (take 1 (next_words f o s)) = ap (λ (x : ℕ). x ∷ []) is ∙ next_word ws d E r more in
-    let read : reading f (tpos f s) (head f o (length (takes s))) (chain o (length (takes s))) ≡ next_words f o s = reading_is f (tpos f s) (head f o (length (takes s))) (chain o (length (takes s))) r.built in
     ring_with ws ws d E (record E { seen = later e.seen (tpos f s + 1); shown = true; doing = Taking (w ∷ []) }) r record {
       same = refl;
       words = r.words;
@@ -123,8 +116,8 @@ looks_at ws d e w true r unarmed is on =
       driver_doing = r.driver_doing;
       device_doing = record {
         more = more;
-        words = one ∙ ap (λ (l : List Put). words_of (take 1 l)) (sym read);
-        left = omega (arith, a.long, ap (λ (l : List Put). length l) read);
+        words = one;
+        left = omega (arith, a.long);
       };
       kicks = moves (chains_out d) (chains_in E) (tpos f s) false unarmed r.kicks;
       calls = r.calls;
@@ -174,10 +167,10 @@ loads_next ws d e us p r l at =
     let f : Frame = d.frame in let o : List DriverDone = d.done in let s : List DeviceDone = e.done in
     let k : ℕ = length (takes s) in let q : ℕ = tpos f s in let R : List Put = next_words f o s in
     let a = ahead ws d e r l.more in
-    let read : reading f q (head f o k) (chain o k) ≡ R = reading_is f q (head f o k) (chain o k) r.built in
-    let words : us ≡ words_of (take (length us) R) = l.words ∙ ap (λ (m : List Put). words_of (take (length us) m)) read in
-    let left : length us < length R = omega (arith, l.left, ap (λ (m : List Put). length m) read) in
-    let place : p ≡ (slice_index_or R (length us) (put 0 0)).place = at ∙ (cursor_is f q us r.built ∙ (ap (following f.size q) words ∙ following_at f.size q (direct (head f o k) (chain o k)) (length us) left)) in
+    let words : us ≡ words_of (take (length us) R) = l.words in
+    let left : length us < length R = l.left in
+    let ok = a.fits.chain in
+    let place : p ≡ (slice_index_or R (length us) (put 0 0)).place = at ∙ (ap (cursor f q) words ∙ (reads f q (head f o k) (chain o k) (length us) ok.0 ok.1 a.small ok.3).place left) in
     let word : slice_index ws p ≡ (slice_index_or R (length us) (put 0 0)).word = ap (λ (i : ℕ). slice_index ws i) place ∙ a.stand (length us) (put 0 0) left in
     let longer : length (us ++ slice_index ws p ∷ []) ≡ length us + 1 = length_push us (slice_index ws p) in
     record {
@@ -231,11 +224,10 @@ loads ws d e w us p r at =
     let l : Loads f o k q (w ∷ us) = r.device_doing in
     let n = loads_next ws d E (w ∷ us) p r l at in
     let a = ahead ws d E r l.more in
-    let ok : All IsPiece c = a.fits.chain.3 in
-    let b = begins ws d E vs r l.more (omega (arith, n.longer)) n.words (omega (arith, n.longer, n.most)) in
-    let read : reading f q h c ≡ next_words f o s = reading_is f q h c r.built in (
+    let ok : IsChain c = a.fits.chain in
+    let b = begins ws d E vs r l.more (omega (arith, n.longer)) n.words (omega (arith, n.longer, n.most)) in (
       elim (cases_lt (length vs) (length (next_words f o s))) [
-        | inl less ↦ subst (λ (t : Bool). Ring ws d (if t then device_takes E vs else record E { doing = Taking vs })) (sym (whole_less f q h c vs r.built a.small ok n.words (omega (arith, a.long))))
+        | inl less ↦ subst (λ (t : Bool). Ring ws d (if t then device_takes E vs else record E { doing = Taking vs })) (sym (whole_less f q h c vs a.small ok n.words less))
             (ring_with ws ws d E (record E { doing = Taking vs }) r record {
               same = refl;
               words = r.words;
@@ -247,8 +239,8 @@ loads ws d e w us p r at =
               driver_doing = r.driver_doing;
               device_doing = record {
                 more = l.more;
-                words = n.words ∙ ap (λ (m : List Put). words_of (take (length vs) m)) (sym read);
-                left = omega (arith, ap (λ (m : List Put). length m) read);
+                words = n.words;
+                left = less;
               };
               kicks = r.kicks;
               calls = r.calls;
@@ -259,7 +251,7 @@ loads ws d e w us p r at =
               rested = r.rested;
             })
         | inr all ↦ (
-            let done = whole_all f q h c vs r.built a.small ok a.fits.chain.0 n.words all in
+            let done = whole_all f q h c vs a.small ok n.words all in
             subst (λ (t : Bool). Ring ws d (if t then device_takes E vs else record E { doing = Taking vs })) (sym done.0) (takes_last ws d e (w ∷ us) vs r l.more done.1 done.2)
             )
       ],

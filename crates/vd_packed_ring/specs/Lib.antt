@@ -8,3 +8,4 @@ pub mod PackedRing
 pub mod PackedDriverLaws
 pub mod PackedDeviceLaws
 pub mod PackedLaws
+pub mod PackedTableLaws

@@ -1,6 +1,8 @@
 -- How the words of a packed ring spell a chain (VIRTIO 1.2, 2.8), in the order of an offer and in that of a take, and how they
 -- are read back.
 use Rattle.std.specs.Prelude.{ℕ, ◌+◌, ◌-◌, ◌*◌, ◌/◌, ◌==◌, ◌&&◌, nat_lt, Bool, false, not, List, [], ◌∷◌, ◌++◌, length, take, drop, if◌then◌else◌, slice_index, slice_index_or}
+use Rattle.vd_indirect.specs.declared.descriptor.TableKind.TheVariants.{Packed}
+use Rattle.vd_indirect.specs.Tables.{table_words}
 use Rattle.vd_model.specs.declared.chain.Piece.{Piece}
 use Rattle.vd_ring.specs.declared.frame.Frame.{Frame}
 use Rattle.vd_ring.specs.declared.frame.Put.{Put}
@@ -48,14 +50,14 @@ pointer f id c = record { addr = 8 * table_of f id; len = 16 * length c; id = id
 abbrev pub descriptors : Frame → ℕ → List Piece → List Descriptor
 descriptors f id c = if is_tabled f c then pointer f id c ∷ [] else direct id c
 
--- the words of the table from word t on: the pieces in order, WRITE alone, id 0
-abbrev pub tabled : ℕ → List Piece → List Put
-tabled t [] = []
-tabled t (x ∷ xs) = put t x.addr ∷ put (t + 1) (packed_word x.len 0 (if x.write then 2 else 0)) ∷ tabled (t + 2) xs
+-- words that stand one after the other, from place `at` on
+abbrev pub standing : ℕ → List ℕ → List Put
+standing at [] = []
+standing at (w ∷ ws) = put at w ∷ standing (at + 1) ws
 
--- the words of a chain's table: none where it has no table
+-- the words of a chain's table, from the first word of its head's table on: none where it has no table
 abbrev pub table : Frame → ℕ → List Piece → List Put
-table f id c = if is_tabled f c then tabled (table_of f id) c else []
+table f id c = if is_tabled f c then standing (table_of f id) (table_words Packed c) else []
 
 -- ---- their words
 
@@ -129,8 +131,8 @@ has_table f (w ∷ []) = false
 has_table f (w ∷ a ∷ ws) = f.features.indirect && names_table w
 
 -- how many words the table has that the second word w names
-abbrev pub table_words : ℕ → ℕ
-table_words w = 2 * (len_of w / 16)
+abbrev pub named_words : ℕ → ℕ
+named_words w = 2 * (len_of w / 16)
 
 -- the id in the first word of a take: that of a table's pointer
 abbrev pub first_id : List ℕ → ℕ
@@ -149,7 +151,7 @@ loaded_head f ws = if has_table f ws then first_id ws else last_id ws
 
 -- these words, in the order of a take, are a whole chain's
 abbrev pub is_whole : Frame → List ℕ → Bool
-is_whole f ws = if has_table f ws then length ws == 2 + table_words (slice_index ws 0) else ends ws
+is_whole f ws = if has_table f ws then length ws == 2 + named_words (slice_index ws 0) else ends ws
 
 -- the chain that they spell
 abbrev pub chain_of : Frame → List ℕ → List Piece

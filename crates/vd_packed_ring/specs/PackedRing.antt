@@ -19,7 +19,7 @@ use Rattle.vd_ring.specs.Places.{Places}
 use Rattle.vd_ring.specs.Lists.{Lists, Rested}
 use Rattle.vd_ring.specs.Signals.{Publisher, Listener, Signals}
 use Rattle.vd_ring.specs.Sleep.{driver_owed, device_owed, driver_idle, device_idle, gives_made}
-use Rattle.vd_packed_ring.specs.PackedWords.{IsLawful, IsBuilt, IsDrivers, IsDevices, width, command_word, ack_word, driver_event, device_event, kick_at, call_at, event_word, words_of, Stand}
+use Rattle.vd_packed_ring.specs.PackedWords.{IsLawful, IsDrivers, IsDevices, width, command_word, ack_word, driver_event, device_event, kick_at, call_at, event_word, words_of, Stand}
 use Rattle.vd_packed_ring.specs.PackedChains.{table, reading}
 use Rattle.vd_packed_ring.specs.PackedSignals.{disabled, bell_word, IsRange}
 use Rattle.vd_packed_ring.specs.PackedPositions.{opos, cpos, tpos, upos, made_at, second_at}
@@ -130,7 +130,6 @@ pub record Ring (ws : List ℕ) (d : DriverView) (e : DeviceView) : Type 0 where
   -- both sides name the same ring, size, features and bounds
   pub same : e.frame ≡ d.frame
   pub lawful : IsLawful d.frame
-  pub built : IsBuilt d.frame
   -- each word with one writer is what that side last stored in it
   pub words : Words d.frame ws d.stored e.stored
   -- each id is free or held by one open chain; no chain was offered past the limit, the size or the bounds

@@ -1,5 +1,5 @@
 -- The words of a packed ring (VIRTIO 1.2, 2.8): the areas, and what a descriptor's second word says.
-use Rattle.std.specs.Prelude.{◌≡◌, ℕ, ◌+◌, ◌*◌, ◌/◌, ◌%◌, ◌<◌, ◌≤◌, ◌⊎◌, ◌==◌, ◌&&◌, nat_lt, Bool, true, false, List, map, if◌then◌else◌, slice_index}
+use Rattle.std.specs.Prelude.{◌≡◌, ℕ, ◌+◌, ◌*◌, ◌/◌, ◌%◌, ◌<◌, ◌≤◌, ◌⊎◌, ◌==◌, ◌&&◌, nat_lt, Bool, true, List, map, if◌then◌else◌, slice_index}
 use Rattle.std.specs.List.{All}
 use Rattle.vd_ring.specs.declared.frame.Frame.{Frame}
 use Rattle.vd_ring.specs.declared.frame.Put.{Put}
@@ -9,10 +9,6 @@ pub record IsLawful (f : Frame) : Type 0 where
   pub packed : f.packed ≡ true
   pub least : 2 ≤ f.size
   pub most : f.size ≤ 32768
-
--- what is built: INDIRECT_DESC is off
-pub record IsBuilt (f : Frame) : Type 0 where
-  pub direct : f.features.indirect ≡ false
 
 -- ---- the areas, one after the other: descriptors from word 0 on, driver area, device area, tables, commands, acks, two bells.
 -- Each name is its area's first word

@@ -14,7 +14,7 @@ ghost use Rattle.vd_ring.specs.Steps.{StandsFor};
 ghost use Rattle.vd_packed_ring.specs.PackedDriver.{DriverNext, driver_after, driver_act};
 ghost use Rattle.vd_packed_ring.specs.PackedDriverLaws.{DriverKeeps, DriverAlone, DriverBags, IsOffered, IsCollected, StoresAhead, CollectsNothing};
 ghost use Rattle.vd_packed_ring.specs.PackedRing.{Ring};
-ghost use Rattle.vd_packed_ring.specs.PackedWords.{IsLawful, IsBuilt};
+ghost use Rattle.vd_packed_ring.specs.PackedWords.{IsLawful};
 
 /// Each access of the driver that is next keeps the ring invariant, and its answer tells what the view says.
 pub fn driver_law()
@@ -24,10 +24,10 @@ pub fn driver_law()
 /// From the view alone: an access that is next is to one of the ring's words, none changes the frame, and each answer says what was
 /// done; a descriptor's word is stored at a position from the driver's own on, less than the ring's size past what it collected.
 pub fn driver_alone_law()
-    ensures inside { (d : DriverView) (o : Op) (a : Access) → IsLawful d.frame → IsBuilt d.frame → DriverNext d o a → DriverAlone d o a }
+    ensures inside { (d : DriverView) (o : Op) (a : Access) → IsLawful d.frame → DriverNext d o a → DriverAlone d o a }
     ensures frame { (d : DriverView) (o : Op) (a : Access) (r : ℕ) → (driver_after d o a r).frame ≡ d.frame }
     ensures did { (d : DriverView) (o : Op) (a : Access) (r : ℕ) → DriverDid (driver_act d o a r) d.done (driver_after d o a r).done }
-    ensures ahead { (d : DriverView) (p x : ℕ) → IsLawful d.frame → IsBuilt d.frame → DriverNext d Offer (Store p x) → p < 2 * d.frame.size → StoresAhead d.frame d.done p }
+    ensures ahead { (d : DriverView) (p x : ℕ) → IsLawful d.frame → DriverNext d Offer (Store p x) → p < 2 * d.frame.size → StoresAhead d.frame d.done p }
 {}
 
 /// The answer names the one step of the ring's bag.

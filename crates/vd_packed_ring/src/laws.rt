@@ -1,29 +1,32 @@
 //! What always holds of a packed ring. These functions do nothing: their contracts are the laws.
-ghost use Rattle.std.specs.Prelude.{◌≡◌, ℕ, ◌+◌, ◌%◌, ◌<◌, ◌≤◌, true, List, length};
+ghost use Rattle.std.specs.Prelude.{◌≡◌, ◌⊎◌, ℕ, ◌+◌, ◌%◌, ◌<◌, ◌≤◌, true, false, List, length};
+ghost use Rattle.std.specs.List.{Contains};
 ghost use Rattle.vd_words.specs.declared.access.Access.{Access};
 ghost use Rattle.vd_words.specs.declared.access.Op.{Op};
 ghost use Rattle.vd_ring.specs.declared.device.DeviceView.{DeviceView};
 ghost use Rattle.vd_ring.specs.declared.driver.DriverView.{DriverView};
 ghost use Rattle.vd_ring.specs.declared.frame.Frame.{Frame};
 ghost use Rattle.vd_ring.specs.Account.{Accounts};
-ghost use Rattle.vd_ring.specs.History.{offers, takes, head, chain};
-ghost use Rattle.vd_packed_ring.specs.PackedChains.{Spells};
+ghost use Rattle.vd_ring.specs.History.{offers, takes, open_at, head, chain};
+ghost use Rattle.vd_packed_ring.specs.PackedChains.{Spells, is_tabled, described, descriptors};
 ghost use Rattle.vd_packed_ring.specs.PackedDevice.{device_after};
 ghost use Rattle.vd_packed_ring.specs.PackedDriver.{driver_after};
 ghost use Rattle.vd_packed_ring.specs.PackedLaws.{IsFresh, Agree, LooksShow};
 ghost use Rattle.vd_packed_ring.specs.PackedPositions.{upos, start};
 ghost use Rattle.vd_packed_ring.specs.PackedRing.{Ring};
-ghost use Rattle.vd_packed_ring.specs.PackedWords.{IsLawful, IsBuilt, base_at, is_base};
+ghost use Rattle.vd_packed_ring.specs.PackedWords.{IsLawful, base_at, is_base, Stand};
 
 /// Words of 0 and the views of a fresh ring meet the ring invariant.
 pub fn fresh_law()
-    ensures { (f : Frame) → IsLawful f → IsBuilt f → IsFresh f }
+    ensures { (f : Frame) → IsLawful f → IsFresh f }
 {}
 
-/// Each chain offered that is not taken, or whose position is not behind what was given, is spelled there.
+/// Each chain offered that is not taken, or whose position is not behind what was given, is spelled there; but for the table of one
+/// that is collected, since then its id and so its table are another chain's.
 pub fn spelling_law()
     ensures untaken { (ws : List ℕ) (d : DriverView) (e : DeviceView) (k : ℕ) → Ring ws d e → length (takes e.done) ≤ k → k < length (offers d.done) → Spells d.frame ws (start d.frame d.done k) (head d.frame d.done k) (chain d.done k) }
-    ensures ahead { (ws : List ℕ) (d : DriverView) (e : DeviceView) (k : ℕ) → Ring ws d e → k < length (offers d.done) → upos d.frame e.done ≤ start d.frame d.done k → Spells d.frame ws (start d.frame d.done k) (head d.frame d.done k) (chain d.done k) }
+    ensures ahead { (ws : List ℕ) (d : DriverView) (e : DeviceView) (k : ℕ) → Ring ws d e → k < length (offers d.done) → upos d.frame e.done ≤ start d.frame d.done k → (Contains (open_at d.done) k ⊎ (is_tabled d.frame (chain d.done k) ≡ false)) → Spells d.frame ws (start d.frame d.done k) (head d.frame d.done k) (chain d.done k) }
+    ensures descriptors { (ws : List ℕ) (d : DriverView) (e : DeviceView) (k : ℕ) → Ring ws d e → k < length (offers d.done) → upos d.frame e.done ≤ start d.frame d.done k → Stand ws (described d.frame.size (start d.frame d.done k) (descriptors d.frame (head d.frame d.done k) (chain d.done k))) }
 {}
 
 /// What was taken is a prefix of what was offered, and collected of given; numbers differ; the four positions follow each other and

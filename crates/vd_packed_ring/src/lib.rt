@@ -6,6 +6,7 @@ mod device_laws;
 mod driver_laws;
 mod laws;
 mod signal_laws;
+mod table_laws;
 
 pub use control_laws::{control_law, control_words_law};
 pub use device_laws::{
@@ -24,3 +25,4 @@ pub use signal_laws::{
     answers_law, asleep_law, bells_law, event_words_law, hears_law, signals_law, sleep_law,
     unarmed_law,
 };
+pub use table_laws::{loaded_law, table_law};

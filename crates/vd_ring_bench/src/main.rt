@@ -1,6 +1,8 @@
 //! Chains through a split or a packed ring, timed from outside. Prints a checksum of what came back, and no time.
 #![tactic(auto)]
 
+ghost use Rattle.std.specs.Prelude.{◌≡◌, false};
+
 mod rig;
 mod words;
 
@@ -12,7 +14,7 @@ use vd_layout::{DeviceAct, DriverAct, Layout};
 use vd_model::{Chain, Features, Piece};
 use vd_packed::Packed;
 use vd_split::Split;
-use words::{Kind, Size, Workload};
+use words::{Kind, Size, Way, Workload};
 
 /// How many chains stand on the ring at once, but for a ring of four.
 const WINDOW: u32 = 16;
@@ -20,6 +22,12 @@ const WINDOW: u32 = 16;
 const PLAIN: Features = Features {
     indirect: false,
     event_idx: false,
+    in_order: false,
+};
+
+const INDEXED: Features = Features {
+    indirect: false,
+    event_idx: true,
     in_order: false,
 };
 
@@ -42,81 +50,92 @@ fn chain(k: u32, most: u32) -> Chain {
     chain
 }
 
+/// The device arms before the offers of a round.
+fn arms<L: Layout>(rig: &mut Rig<L>, sleeps: bool) {
+    if sleeps {
+        let _ = rig.arm_device();
+    }
+}
+
+/// After the offers the device hears the driver's bell, and the driver arms.
+fn wakes<L: Layout>(rig: &mut Rig<L>, sleeps: bool) {
+    if sleeps {
+        let _ = rig.hear_device();
+        let _ = rig.arm_driver();
+    }
+}
+
+/// After the gives the driver hears the device's bell.
+fn hears<L: Layout>(rig: &mut Rig<L>, sleeps: bool) {
+    if sleeps {
+        let _ = rig.hear_driver();
+    }
+}
+
 /// Offers, takes, gives and collects so many chains.
-fn round<L: Layout>(rig: &mut Rig<L>, window: u32, chains: &[Chain; 3]) -> u64 {
+fn round<L: Layout>(rig: &mut Rig<L>, window: u32, sleeps: bool, chains: &[Chain; 3]) -> u64 {
     let mut sum = 0u64;
+    arms(rig, sleeps);
     for k in 0..window {
         let _ = rig.offer(&chains[(k % 3) as usize]);
     }
+    wakes(rig, sleeps);
     for _ in 0..window {
         if let Some(DeviceAct::Taken(number, chain)) = rig.take() {
             sum = sum.wrapping_add(chain.pieces().len() as u64);
             let _ = rig.give(number, 10);
         }
     }
+    hears(rig, sleeps);
     for _ in 0..window {
-        if let DriverAct::Collected { number, len, .. } = rig.collect() {
+        if let Some(DriverAct::Collected { number, len, .. }) = rig.collect() {
             sum = sum.wrapping_add(number as u64).wrapping_add(len as u64);
         }
     }
     sum
 }
 
-fn run<L: Layout>(rig: &mut Rig<L>, rounds: u32, window: u32, most: u32) -> u64 {
+fn run<L: Layout>(rig: &mut Rig<L>, w: Workload, window: u32) -> u64 {
     let mut sum = 0u64;
-    let chains = [chain(0, most), chain(1, most), chain(2, most)];
-    for _ in 0..rounds {
-        sum = sum.wrapping_add(round(rig, window, &chains));
+    let chains = [chain(0, w.most), chain(1, w.most), chain(2, w.most)];
+    let sleeps = !matches!(w.way, Way::Awake);
+    for _ in 0..w.rounds {
+        sum = sum.wrapping_add(round(rig, window, sleeps, &chains));
     }
     sum
 }
 
+fn features_of(way: Way) -> Features
+    ensures { result.indirect ≡ false }
+{
+    match way {
+        Way::Awake => PLAIN,
+        Way::Flags => PLAIN,
+        Way::Index => INDEXED,
+    }
+}
+
 fn split(alloc: Global, w: Workload) -> Result<u64, AllocError> {
-    let (rounds, most) = (w.rounds, w.most);
+    let f = features_of(w.way);
     Ok(match w.size {
-        Size::Four => run(&mut Rig::<Split>::new(alloc, 0, 4, PLAIN)?, rounds, 1, most),
-        Size::Middle => run(
-            &mut Rig::<Split>::new(alloc, 0, 256, PLAIN)?,
-            rounds,
-            WINDOW,
-            most,
-        ),
-        Size::Large => run(
-            &mut Rig::<Split>::new(alloc, 0, 1024, PLAIN)?,
-            rounds,
-            WINDOW,
-            most,
-        ),
+        Size::Four => run(&mut Rig::<Split>::new(alloc, 0, 4, f)?, w, 1),
+        Size::Middle => run(&mut Rig::<Split>::new(alloc, 0, 256, f)?, w, WINDOW),
+        Size::Large => run(&mut Rig::<Split>::new(alloc, 0, 1024, f)?, w, WINDOW),
     })
 }
 
 fn packed(alloc: Global, w: Workload) -> Result<u64, AllocError> {
-    let (rounds, most) = (w.rounds, w.most);
+    let f = features_of(w.way);
     Ok(match w.size {
-        Size::Four => run(
-            &mut Rig::<Packed>::new(alloc, 0, 4, PLAIN)?,
-            rounds,
-            1,
-            most,
-        ),
-        Size::Middle => run(
-            &mut Rig::<Packed>::new(alloc, 0, 256, PLAIN)?,
-            rounds,
-            WINDOW,
-            most,
-        ),
-        Size::Large => run(
-            &mut Rig::<Packed>::new(alloc, 0, 1024, PLAIN)?,
-            rounds,
-            WINDOW,
-            most,
-        ),
+        Size::Four => run(&mut Rig::<Packed>::new(alloc, 0, 4, f)?, w, 1),
+        Size::Middle => run(&mut Rig::<Packed>::new(alloc, 0, 256, f)?, w, WINDOW),
+        Size::Large => run(&mut Rig::<Packed>::new(alloc, 0, 1024, f)?, w, WINDOW),
     })
 }
 
 fn main(rt: HostRuntime) -> Result<()> {
     let workload = words::read(env::args(&rt)?).context(
-        "usage: vd_ring_bench LAYOUT SIZE ROUNDS MOST",
+        "usage: vd_ring_bench LAYOUT SIZE ROUNDS MOST [flags|index]",
     )?;
     let alloc = rt.alloc();
     let sum = match workload.kind {

@@ -26,7 +26,7 @@ impl<L: Layout> Model for Rig<L> {
 
     ghost view = { λ r. tt };
 
-    ghost invariant = { λ r. IsRig L.Driver.driver L.Device.device L.layout r.driver r.device r.words.words r.count r.asleep };
+    ghost invariant = { λ r. IsRig L.Driver.driver L.Device.device L.layout r.driver r.device r.words r.count r.asleep };
 }
 
 impl<L: Layout> Rig<L> {
@@ -46,8 +46,11 @@ impl<L: Layout> Rig<L> {
         })
     }
 
-    /// Offers a chain where there is room for it.
+    /// Offers a chain where there is room for it and the driver isn't armed.
     pub fn offer(&mut self, c: &Chain) -> Option<DriverAct> {
+        if self.driver.armed() {
+            return None;
+        }
         let _ = c.pieces();
         let readable = c.readable();
         let writable = c.writable();
@@ -67,15 +70,36 @@ impl<L: Layout> Rig<L> {
         Some(finish_driver_beside::<L, _>(&mut self.driver, &self.device, &mut self.words.port()))
     }
 
-    /// Collects the next used entry.
-    pub fn collect(&mut self) -> DriverAct {
+    /// Collects where the driver isn't armed.
+    pub fn collect(&mut self) -> Option<DriverAct> {
+        if self.driver.armed() {
+            return None;
+        }
         self.driver.begin_collect();
-        finish_driver_beside::<L, _>(&mut self.driver, &self.device, &mut self.words.port())
+        Some(finish_driver_beside::<L, _>(&mut self.driver, &self.device, &mut self.words.port()))
     }
 
-    /// Takes a chain where the device doesn't rest.
+    /// Arms the driver where it isn't armed.
+    pub fn arm_driver(&mut self) -> Option<DriverAct> {
+        if self.driver.armed() {
+            return None;
+        }
+        self.driver.begin_arm();
+        Some(finish_driver_beside::<L, _>(&mut self.driver, &self.device, &mut self.words.port()))
+    }
+
+    /// Hears the device's bell where the driver is armed.
+    pub fn hear_driver(&mut self) -> Option<DriverAct> {
+        if !self.driver.armed() {
+            return None;
+        }
+        self.driver.begin_hear();
+        Some(finish_driver_beside::<L, _>(&mut self.driver, &self.device, &mut self.words.port()))
+    }
+
+    /// Takes a chain where the device neither rests nor is armed.
     pub fn take(&mut self) -> Option<DeviceAct> {
-        if self.asleep {
+        if self.asleep || self.device.armed() {
             return None;
         }
         self.device.begin_take();
@@ -84,7 +108,7 @@ impl<L: Layout> Rig<L> {
 
     /// Gives chain number `k` where the device may.
     pub fn give(&mut self, k: u32, len: u32) -> Option<DeviceAct> {
-        if self.asleep {
+        if self.asleep || self.device.armed() {
             return None;
         }
         if !self.device.holds(k) {
@@ -96,6 +120,24 @@ impl<L: Layout> Rig<L> {
             }
         }
         self.device.begin_give(k, len);
+        Some(finish_device_beside::<L, _>(&self.driver, &mut self.device, &mut self.words.port()))
+    }
+
+    /// Arms the device where it neither rests nor is armed.
+    pub fn arm_device(&mut self) -> Option<DeviceAct> {
+        if self.asleep || self.device.armed() {
+            return None;
+        }
+        self.device.begin_arm();
+        Some(finish_device_beside::<L, _>(&self.driver, &mut self.device, &mut self.words.port()))
+    }
+
+    /// Hears the driver's bell where the device is armed.
+    pub fn hear_device(&mut self) -> Option<DeviceAct> {
+        if self.asleep || !self.device.armed() {
+            return None;
+        }
+        self.device.begin_hear();
         Some(finish_device_beside::<L, _>(&self.driver, &mut self.device, &mut self.words.port()))
     }
 }

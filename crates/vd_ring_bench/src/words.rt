@@ -1,13 +1,25 @@
 //! The command line of the benchmark.
 use std::env::Args;
 
-/// What is to be run: a ring's layout and size, rounds of 16 chains, and the most pieces of a chain.
+/// What is to be run: a ring's layout and size, rounds of 16 chains, the most pieces of a chain, and how its ends work.
 #[derive(Copy, Clone, Drop)]
 pub struct Workload {
     pub kind: Kind,
     pub size: Size,
     pub rounds: u32,
     pub most: u32,
+    pub way: Way,
+}
+
+/// How the ends work.
+#[derive(Copy, Clone)]
+pub enum Way {
+    /// Neither end sleeps.
+    Awake,
+    /// Each end sleeps once a round, by flags.
+    Flags,
+    /// The same by EVENT_IDX.
+    Index,
 }
 
 /// The layout of the ring.
@@ -42,6 +54,14 @@ fn size_of(places: u32) -> Option<Size> {
     }
 }
 
+fn way_of(name: &str) -> Option<Way> {
+    match name {
+        "flags" => Some(Way::Flags),
+        "index" => Some(Way::Index),
+        _ => None,
+    }
+}
+
 /// The workload that the words after the program's name ask for.
 pub fn read(mut words: Args) -> Option<Workload> {
     let _program = words.next()?;
@@ -49,6 +69,10 @@ pub fn read(mut words: Args) -> Option<Workload> {
     let size = size_of(words.next()?.as_str().parse().ok()?)?;
     let rounds = words.next()?.as_str().parse().ok()?;
     let most = words.next()?.as_str().parse().ok()?;
+    let way = match words.next() {
+        None => Way::Awake,
+        Some(name) => way_of(name.as_str())?,
+    };
     if words.next().is_some() {
         return None;
     }
@@ -57,5 +81,6 @@ pub fn read(mut words: Args) -> Option<Workload> {
         size,
         rounds,
         most,
+        way,
     })
 }

@@ -12,7 +12,7 @@ use Rattle.vd_ring.specs.declared.device.DeviceNow.TheVariants as now
 use Rattle.vd_ring.specs.declared.device.DeviceView.{DeviceView}
 use Rattle.vd_ring.specs.Frames.{limit}
 use Rattle.vd_ring.specs.History.{takes, gives, heads, running, taken_head, numbers, occurs, IsWhole}
-use Rattle.vd_split_ring.specs.SplitWords.{kick_at, used_from, width, pieces_of, linked}
+use Rattle.vd_split_ring.specs.SplitWords.{kick_at, used_from, width, pieces_of, linked, has_table, names_table, named_words}
 use Rattle.vd_split_ring.specs.SplitDevice.{loaded_head, IsNewHead, device_side, device_act, device_shows}
 use Rattle.vd_layout.specs.Begun.{DeviceOp}
 use Rattle.vd_layout.specs.Device.{DeviceModel}
@@ -61,6 +61,7 @@ pub record HasLoaded (f : Frame) (s : List DeviceDone) (pieces : List Piece) (w 
   pub limited : length (takes s) < limit f
   pub spelled : pieces_of ws ≡ pieces
   pub even : length ws ≡ 2 * length pieces
+  pub plain : has_table f ws ≡ false
   pub at : linked h ws ≡ 2 * p
   pub low : p < f.size
 
@@ -71,6 +72,29 @@ pub record IsTaking (f : Frame) (s : List DeviceDone) (pieces : List Piece) (r h
   pub is : d ≡ now.Taking (r ∷ word ∷ (words ++ more))
   pub loaded : HasLoaded f s pieces word h p words
 
+-- the words of a take in progress whose head names a table of m pieces, after the two of the head's descriptor, of which x is the
+-- second: whole places of the table, and maybe an address
+pub record HasTable (f : Frame) (s : List DeviceDone) (pieces : List Piece) (w h m x : ℕ) (ws : List ℕ) : Type 0 where
+  pub is_head : loaded_head f (length (takes s)) w ≡ h
+  pub new : IsNewHead f s h
+  pub limited : length (takes s) < limit f
+  pub on : f.features.indirect ≡ true
+  pub names : names_table x ≡ true
+  pub many : named_words x ≡ 2 * m
+  pub few : m ≤ 16
+  pub spelled : pieces_of ws ≡ pieces
+  pub even : length ws ≡ 2 * length pieces
+  pub left : length pieces < m
+
+-- a take has loaded the index word r, the entry's word, the head's descriptor, and whole places of the table that it names
+pub record IsTabling (f : Frame) (s : List DeviceDone) (pieces : List Piece) (r h m : ℕ) (more : List ℕ) (d : DeviceNow) : Type 0 where
+  pub word : ℕ
+  pub addr : ℕ
+  pub second : ℕ
+  pub words : List ℕ
+  pub is : d ≡ now.Taking (r ∷ word ∷ addr ∷ second ∷ (words ++ more))
+  pub loaded : HasTable f s pieces word h m second words
+
 abbrev pub DeviceStepStands : DeviceStep → List Piece → ℕ → Frame → List DeviceDone → DeviceNow → Type 0
 DeviceStepStands step.Idle ps a f s d = d ≡ now.Idle
 DeviceStepStands step.Resting ps a f s d = (d ≡ now.Idle) × (running s ≡ []) × IsWhole s
@@ -78,6 +102,8 @@ DeviceStepStands step.Look ps a f s d = d ≡ now.Idle
 DeviceStepStands (step.Entry r) ps a f s d = (d ≡ now.Taking (r ∷ [])) × (length (takes s) < limit f)
 DeviceStepStands (step.Address r h p) ps a f s d = IsTaking f s ps r h p [] d
 DeviceStepStands (step.Second r h p) ps a f s d = IsTaking f s ps r h p (a ∷ []) d
+DeviceStepStands (step.TableAddress r h m) ps a f s d = IsTabling f s ps r h m [] d
+DeviceStepStands (step.TableSecond r h m) ps a f s d = IsTabling f s ps r h m (a ∷ []) d
 DeviceStepStands (step.Name k h n) ps a f s d = (d ≡ now.Idle) × IsNext f s k h n
 DeviceStepStands (step.Measure k h n) ps a f s d = (x : ℕ) × (d ≡ now.Giving (x ∷ [])) × (lane32 x 1 ≡ h) × IsNext f s k h n
 DeviceStepStands (step.Publish k h n) ps a f s d = (x y : ℕ) × (d ≡ now.Giving (x ∷ y ∷ [])) × (lane32 x 1 ≡ h) × (lane32 y 0 ≡ n) × IsNext f s k h n
@@ -149,6 +175,8 @@ device_begun step.Look = DeviceOp.take
 device_begun (step.Entry r) = DeviceOp.take
 device_begun (step.Address r h p) = DeviceOp.take
 device_begun (step.Second r h p) = DeviceOp.take
+device_begun (step.TableAddress r h m) = DeviceOp.take
+device_begun (step.TableSecond r h m) = DeviceOp.take
 device_begun (step.Name k h n) = DeviceOp.give k n
 device_begun (step.Measure k h n) = DeviceOp.give k n
 device_begun (step.Publish k h n) = DeviceOp.give k n
@@ -171,6 +199,8 @@ device_left step.Look n = 36
 device_left (step.Entry r) n = 35
 device_left (step.Address r h p) n = 2 * (16 - n) + 2
 device_left (step.Second r h p) n = 2 * (16 - n) + 1
+device_left (step.TableAddress r h m) n = 2 * (15 - n) + 2
+device_left (step.TableSecond r h m) n = 2 * (15 - n) + 1
 device_left (step.Name k h l) n = 5
 device_left (step.Measure k h l) n = 4
 device_left (step.Publish k h l) n = 3

@@ -24,12 +24,13 @@ use Rattle.vd_split_ring.proofs.DeviceViews.{device_frame}
 use Rattle.vd_layout.proofs.InTable.{runs_in_table}
 use Rattle.vd_split_ring.proofs.Signalling.{device_unarmed}
 use Rattle.vd_split_ring.proofs.DeviceLooking.{device_looks}
+use Rattle.vd_split_ring.proofs.DeviceStaying.{device_stays}
 use Rattle.vd_layout.specs.Begun.{DeviceOp}
 use Rattle.vd_layout.specs.Device.{IsStill, IsLawfulDevice}
 use Rattle.vd_split.specs.declared.device.SplitDevice.{SplitDevice}
 use Rattle.vd_split.specs.declared.device.DeviceStep.{DeviceStep}
 use Rattle.vd_split.specs.declared.device.DeviceStep.TheVariants as step
-use Rattle.vd_split.specs.DeviceEnd.{DeviceStepArmed, device_owes, not_armed, is_armed, HoldsRunning, number_at, IsNext, IsTaking, DeviceStands, DeviceStepStands, device_begun, device_left, is_resting, is_idle, split_device}
+use Rattle.vd_split.specs.DeviceEnd.{DeviceStepArmed, device_owes, not_armed, is_armed, HoldsRunning, number_at, IsNext, IsTaking, IsTabling, DeviceStands, DeviceStepStands, device_begun, device_left, is_resting, is_idle, split_device}
 use Rattle.vd_split.specs.Plans.{copies_other}
 
 -- ---- whole
@@ -60,6 +61,8 @@ rests_at step.Look ps a f s d h e = absurd (cc e)
 rests_at (step.Entry r) ps a f s d h e = absurd (cc e)
 rests_at (step.Address r k p) ps a f s d h e = absurd (cc e)
 rests_at (step.Second r k p) ps a f s d h e = absurd (cc e)
+rests_at (step.TableAddress r k p) ps a f s d h e = absurd (cc e)
+rests_at (step.TableSecond r k p) ps a f s d h e = absurd (cc e)
 rests_at (step.Name k h n) ps a f s d x e = absurd (cc e)
 rests_at (step.Measure k h n) ps a f s d x e = absurd (cc e)
 rests_at (step.Publish k h n) ps a f s d x e = absurd (cc e)
@@ -81,6 +84,8 @@ ends_at step.Look n h = absurd (omega arith)
 ends_at (step.Entry r) n h = absurd (omega arith)
 ends_at (step.Address r k p) n h = absurd (omega arith)
 ends_at (step.Second r k p) n h = absurd (omega arith)
+ends_at (step.TableAddress r k p) n h = absurd (omega arith)
+ends_at (step.TableSecond r k p) n h = absurd (omega arith)
 ends_at (step.Name k h l) n x = absurd (omega arith)
 ends_at (step.Measure k h l) n x = absurd (omega arith)
 ends_at (step.Publish k h l) n x = absurd (omega arith)
@@ -103,6 +108,8 @@ resting_idle step.Look e = absurd (cc e)
 resting_idle (step.Entry r) e = absurd (cc e)
 resting_idle (step.Address r k p) e = absurd (cc e)
 resting_idle (step.Second r k p) e = absurd (cc e)
+resting_idle (step.TableAddress r k p) e = absurd (cc e)
+resting_idle (step.TableSecond r k p) e = absurd (cc e)
 resting_idle (step.Name k h l) e = absurd (cc e)
 resting_idle (step.Measure k h l) e = absurd (cc e)
 resting_idle (step.Publish k h l) e = absurd (cc e)
@@ -130,6 +137,8 @@ fresh_idle step.Look m n e = absurd (cc e)
 fresh_idle (step.Entry r) m n e = absurd (cc e)
 fresh_idle (step.Address r k p) m n e = absurd (cc e)
 fresh_idle (step.Second r k p) m n e = absurd (cc e)
+fresh_idle (step.TableAddress r k p) m n e = absurd (cc e)
+fresh_idle (step.TableSecond r k p) m n e = absurd (cc e)
 fresh_idle (step.Name k h l) m n e = absurd (cc e)
 fresh_idle (step.Measure k h l) m n e = absurd (cc e)
 fresh_idle (step.Publish k h l) m n e = absurd (cc e)
@@ -202,8 +211,30 @@ taking_loaded f s ps r h p more d l i y t = record {
     limited = t.loaded.limited;
     spelled = t.loaded.spelled;
     even = t.loaded.even;
+    plain = t.loaded.plain;
     at = t.loaded.at;
     low = t.loaded.low;
+  };
+}
+
+tabling_loaded : (f : Frame) (s : List DeviceDone) (ps : List Piece) (r h m : ℕ) (more : List ℕ) (d : DeviceNow) (l i y : ℕ) → IsTabling f s ps r h m more d → IsTabling f (LoadCommand l i y ∷ s) ps r h m more d
+tabling_loaded f s ps r h m more d l i y t = record {
+  word = t.word;
+  addr = t.addr;
+  second = t.second;
+  words = t.words;
+  is = t.is;
+  loaded = record {
+    is_head = t.loaded.is_head;
+    new = record { inside = t.loaded.new.inside; apart = t.loaded.new.apart };
+    limited = t.loaded.limited;
+    on = t.loaded.on;
+    names = t.loaded.names;
+    many = t.loaded.many;
+    few = t.loaded.few;
+    spelled = t.loaded.spelled;
+    even = t.loaded.even;
+    left = t.loaded.left;
   };
 }
 
@@ -214,6 +245,8 @@ step_loaded step.Look ps a f s d l i y x = x
 step_loaded (step.Entry r) ps a f s d l i y x = x
 step_loaded (step.Address r h p) ps a f s d l i y x = taking_loaded f s ps r h p [] d l i y x
 step_loaded (step.Second r h p) ps a f s d l i y x = taking_loaded f s ps r h p (a ∷ []) d l i y x
+step_loaded (step.TableAddress r h m) ps a f s d l i y x = tabling_loaded f s ps r h m [] d l i y x
+step_loaded (step.TableSecond r h m) ps a f s d l i y x = tabling_loaded f s ps r h m (a ∷ []) d l i y x
 step_loaded (step.Name k h n) ps a f s d l i y x = (x.0, next_loaded f s k h n l i y x.1)
 step_loaded (step.Measure k h n) ps a f s d l i y x = (x.0, x.1, x.2, next_loaded f s k h n l i y x.3)
 step_loaded (step.Publish k h n) ps a f s d l i y x = (x.0, x.1, x.2, x.3, x.4, next_loaded f s k h n l i y x.5)
@@ -251,8 +284,30 @@ taking_stored f s ps r h p more d l y t = record {
     limited = t.loaded.limited;
     spelled = t.loaded.spelled;
     even = t.loaded.even;
+    plain = t.loaded.plain;
     at = t.loaded.at;
     low = t.loaded.low;
+  };
+}
+
+tabling_stored : (f : Frame) (s : List DeviceDone) (ps : List Piece) (r h m : ℕ) (more : List ℕ) (d : DeviceNow) (l y : ℕ) → IsTabling f s ps r h m more d → IsTabling f (StoreAck l y ∷ s) ps r h m more d
+tabling_stored f s ps r h m more d l y t = record {
+  word = t.word;
+  addr = t.addr;
+  second = t.second;
+  words = t.words;
+  is = t.is;
+  loaded = record {
+    is_head = t.loaded.is_head;
+    new = record { inside = t.loaded.new.inside; apart = t.loaded.new.apart };
+    limited = t.loaded.limited;
+    on = t.loaded.on;
+    names = t.loaded.names;
+    many = t.loaded.many;
+    few = t.loaded.few;
+    spelled = t.loaded.spelled;
+    even = t.loaded.even;
+    left = t.loaded.left;
   };
 }
 
@@ -263,6 +318,8 @@ step_stored step.Look ps a f s d l y x = x
 step_stored (step.Entry r) ps a f s d l y x = x
 step_stored (step.Address r h p) ps a f s d l y x = taking_stored f s ps r h p [] d l y x
 step_stored (step.Second r h p) ps a f s d l y x = taking_stored f s ps r h p (a ∷ []) d l y x
+step_stored (step.TableAddress r h m) ps a f s d l y x = tabling_stored f s ps r h m [] d l y x
+step_stored (step.TableSecond r h m) ps a f s d l y x = tabling_stored f s ps r h m (a ∷ []) d l y x
 step_stored (step.Name k h n) ps a f s d l y x = (x.0, next_stored f s k h n l y x.1)
 step_stored (step.Measure k h n) ps a f s d l y x = (x.0, x.1, x.2, next_stored f s k h n l y x.3)
 step_stored (step.Publish k h n) ps a f s d l y x = (x.0, x.1, x.2, x.3, x.4, next_stored f s k h n l y x.5)
@@ -332,6 +389,7 @@ device_laws = record {
   framed = λ v o a r. device_frame v o a r;
   stays_unarmed = λ v o a r other none. device_unarmed v o a r other none;
   looks = device_looks;
+  stays = device_stays;
   armed = λ e v st on. (length (takes v.done), is_armed e v st on);
   not_armed = λ e v st off. not_armed e v st off;
   unarmed_still = still_unarmed;

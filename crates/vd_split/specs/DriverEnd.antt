@@ -14,7 +14,7 @@ use Rattle.vd_ring.specs.declared.driver.DriverNow.TheVariants as now
 use Rattle.vd_ring.specs.declared.driver.DriverView.{DriverView}
 use Rattle.vd_ring.specs.History.{offers, collects, open_at, free, places, head, occurs}
 use Rattle.vd_ring.specs.Places.{Places}
-use Rattle.vd_split_ring.specs.SplitWords.{IsLawful, IsBuilt, avail_from, kick_at, width, command_word, ack_word}
+use Rattle.vd_split_ring.specs.SplitWords.{IsLawful, is_tabled, avail_from, kick_at, width, command_word, ack_word}
 use Rattle.vd_split_ring.specs.SplitDriver.{CanOffer, NamesOpen, plan, driver_side, driver_act, driver_shows}
 use Rattle.vd_layout.specs.Begun.{DriverOp}
 use Rattle.vd_layout.specs.Control.{ControlWords}
@@ -34,7 +34,6 @@ pub record IsMadeFor (size : ℕ) (features : Features) (f : Frame) : Type 0 whe
   pub sized : size ≡ f.size
   pub featured : features ≡ f.features
   pub lawful : IsLawful f
-  pub built : IsBuilt f
 
 -- the counts, and their places round the ring
 pub record DriverCounts (offered collected entry used : ℕ) (f : Frame) (o : List DriverDone) : Type 0 where
@@ -62,7 +61,8 @@ offering (suc n) ps = now.Offering ps
 
 abbrev pub DriverStepStands : DriverStep → List Piece → Frame → List DriverDone → DriverNow → Type 0
 DriverStepStands step.Idle c f o d = d ≡ now.Idle
-DriverStepStands (step.Describe at) c f o d = CanOffer f o c × (at < 2 * length c) × (d ≡ offering at (take at (plan f o c)))
+DriverStepStands (step.Describe at) c f o d = CanOffer f o c × (is_tabled f c ≡ false) × (at < 2 * length c) × (d ≡ offering at (take at (plan f o c)))
+DriverStepStands (step.Table at) c f o d = CanOffer f o c × (is_tabled f c ≡ true) × (at < 2 * length c + 2) × (d ≡ offering at (take at (plan f o c)))
 DriverStepStands step.Enter c f o d = CanOffer f o c × (d ≡ now.Offering (plan f o c))
 DriverStepStands step.Publish c f o d = CanOffer f o c × (d ≡ now.Entered (plan f o c))
 DriverStepStands step.Look c f o d = d ≡ now.Idle
@@ -129,6 +129,7 @@ is_armed e v st on = st.signals.is_armed ∙ ap (λ (b : Bool). if b then Some (
 abbrev pub driver_begun : DriverStep → List Piece → DriverOp
 driver_begun step.Idle c = DriverOp.idle
 driver_begun (step.Describe at) c = DriverOp.offer c
+driver_begun (step.Table at) c = DriverOp.offer c
 driver_begun step.Enter c = DriverOp.offer c
 driver_begun step.Publish c = DriverOp.offer c
 driver_begun step.Look c = DriverOp.collect
@@ -146,6 +147,7 @@ driver_begun step.Disarm c = DriverOp.disarm
 abbrev pub driver_left : DriverStep → List Piece → ℕ
 driver_left step.Idle c = 0
 driver_left (step.Describe at) c = 2 * length c - at + 4
+driver_left (step.Table at) c = 2 * length c + 2 - at + 4
 driver_left step.Enter c = 4
 driver_left step.Publish c = 3
 driver_left step.Look c = 3

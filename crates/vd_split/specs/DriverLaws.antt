@@ -1,8 +1,9 @@
 -- The laws of the driver's end of a split ring.
-use Rattle.std.proofs.Common.{◌≡◌, ℕ, ◌+◌, ◌-◌, ◌/◌, ◌%◌, ◌<◌, ◌≤◌, false, List, [], ◌∷◌, length, slice_set, refl, sym, ap, ◌∙◌, subst, arith}
+use Rattle.std.proofs.Common.{◌≡◌, ℕ, ◌+◌, ◌-◌, ◌/◌, ◌%◌, ◌≤◌, Bool, true, false, if◌then◌else◌, ◌&&◌, nat_lt, List, [], ◌∷◌, length, slice_set, refl, sym, ap, ◌∙◌, subst, arith}
 use Rattle.std.specs.Prelude.{unwrap_or}
 use Rattle.std.proofs.lemmas.List.{length-set}
 use Rattle.vd_model.specs.declared.chain.Piece.{Piece}
+use Rattle.vd_model.specs.declared.features.Features.{Features}
 use Rattle.vd_model.specs.Chains.{needs}
 use Rattle.vd_words.specs.declared.access.Access.{Access}
 use Rattle.vd_words.specs.declared.access.Access.TheVariants.{Load, Store}
@@ -18,20 +19,22 @@ use Rattle.vd_ring.specs.History.{collects, open_at, open_size, chain}
 use Rattle.vd_ring.specs.Control.{StoresCommand, last_collected}
 use Rattle.vd_ring.specs.Places.{Places}
 use Rattle.vd_ring.proofs.Counts.{sum_same}
-use Rattle.vd_split_ring.specs.SplitWords.{avail_from, tables_from, commands_from, command_word}
+use Rattle.vd_split_ring.specs.SplitWords.{is_tabled, avail_from, tables_from, commands_from, command_word}
 use Rattle.vd_split_ring.specs.SplitDriver.{CanOffer, DriverNextAt, driver_after_at}
 use Rattle.vd_split_ring.proofs.Areas.{areas}
 use Rattle.vd_split_ring.proofs.ControlFacts.{driver_controls}
 use Rattle.vd_split_ring.proofs.DriverViews.{driver_frame}
 use Rattle.vd_split_ring.proofs.Signalling.{driver_unarmed}
 use Rattle.vd_split_ring.proofs.DriverLooking.{driver_looks}
-use Rattle.vd_split_ring.proofs.Direct.{lent_needs, needs_pieces}
+use Rattle.vd_split_ring.proofs.DriverStaying.{driver_stays}
+use Rattle.vd_split_ring.proofs.Direct.{lent_needs}
 use Rattle.vd_layout.specs.Begun.{DriverOp}
 use Rattle.vd_layout.specs.Driver.{HasRoom, MayOffer, IsLawfulDriver}
 use Rattle.vd_split.specs.declared.driver.SplitDriver.{SplitDriver}
 use Rattle.vd_split.specs.declared.driver.DriverStep.{DriverStep}
 use Rattle.vd_split.specs.declared.driver.DriverStep.TheVariants as step
 use Rattle.vd_split.specs.DriverEnd.{DriverStands, DriverStepStands, DriverStepArmed, driver_owes, driver_begun, driver_left, split_driver, split_words, is_armed, not_armed}
+use Rattle.vd_split.specs.Parts.{needed, first_store}
 use Rattle.vd_split.specs.Plans.{copies_other}
 
 -- the free places are those that the open chains leave
@@ -39,16 +42,20 @@ pub free_rest : (e : SplitDriver) (v : DriverView) → DriverStands e v → open
 free_rest e v st =
     omega (arith, st.holds.held.sizes, sum_same (λ k. lent v.frame (chain v.done k)) (λ k. needs v.frame.features (chain v.done k)) (open_at v.done) (λ k a. lent_needs v.frame (chain v.done k) st.made.lawful), ap (λ (l : List ℕ). length l) st.holds.queued)
 
-pub room_from : (e : SplitDriver) (v : DriverView) (c : List Piece) → DriverStands e v → length c ≤ length e.free.items → HasRoom v.frame v.done c
-room_from e v c st h = omega (arith, free_rest e v st, needs_pieces v.frame c st.made.built)
+-- how many places a chain takes, by the end's features
+needs_is : (e : SplitDriver) (v : DriverView) (c : List Piece) → DriverStands e v → needed e.features.indirect (length c) ≡ needs v.frame.features c
+needs_is e v c st = ap (λ (y : Features). needed y.indirect (length c)) st.made.featured
 
-pub room_to : (e : SplitDriver) (v : DriverView) (c : List Piece) → DriverStands e v → HasRoom v.frame v.done c → length c ≤ length e.free.items
-room_to e v c st h = omega (arith, free_rest e v st, needs_pieces v.frame c st.made.built)
+pub room_from : (e : SplitDriver) (v : DriverView) (c : List Piece) → DriverStands e v → needed e.features.indirect (length c) ≤ length e.free.items → HasRoom v.frame v.done c
+room_from e v c st h = omega (arith, free_rest e v st, needs_is e v c st)
+
+pub room_to : (e : SplitDriver) (v : DriverView) (c : List Piece) → DriverStands e v → HasRoom v.frame v.done c → needed e.features.indirect (length c) ≤ length e.free.items
+room_to e v c st h = omega (arith, free_rest e v st, needs_is e v c st)
 
 pub can_offer : (e : SplitDriver) (v : DriverView) (c : List Piece) → DriverStands e v → MayOffer split_words v c → CanOffer v.frame v.done c
 can_offer e v c st m = record {
   fits = m.fits;
-  room = omega (arith, room_to e v c st m.room, needs_pieces v.frame c st.made.built, ap (λ (l : List ℕ). length l) st.holds.queued);
+  room = omega (arith, room_to e v c st m.room, needs_is e v c st, ap (λ (l : List ℕ). length l) st.holds.queued);
   limited = m.limited;
   control = m.control;
 }
@@ -56,6 +63,7 @@ can_offer e v c st m = record {
 rests_at : (t : DriverStep) (c : List Piece) (f : Frame) (o : List DriverDone) (d : DriverNow) → DriverStepStands t c f o d → driver_begun t c ≡ DriverOp.idle → d ≡ now.Idle
 rests_at step.Idle c f o d h e = h
 rests_at (step.Describe at) c f o d h e = absurd (cc e)
+rests_at (step.Table at) c f o d h e = absurd (cc e)
 rests_at step.Enter c f o d h e = absurd (cc e)
 rests_at step.Publish c f o d h e = absurd (cc e)
 rests_at step.Look c f o d h e = absurd (cc e)
@@ -70,23 +78,46 @@ rests_at step.WakeArming c f o d h e = absurd (cc e)
 rests_at step.WakeHearing c f o d h e = absurd (cc e)
 rests_at step.Disarm c f o d h e = absurd (cc e)
 
+-- the first step of an offer, by a table or not
+first_stands : (b : Bool) (f : Frame) (o : List DriverDone) (c : List Piece) (d : DriverNow) → is_tabled f c ≡ b → CanOffer f o c → d ≡ now.Idle → DriverStepStands (if b then step.Table 0 else step.Describe 0) c f o d
+first_stands true f o c d eq can idle = (can, eq, omega arith, idle)
+first_stands false f o c d eq can idle = (can, eq, omega (arith, can.fits.chain.0), idle)
+
+first_owes : (b : Bool) → driver_owes (if b then step.Table 0 else step.Describe 0) ≡ 0
+first_owes true = refl
+first_owes false = refl
+
+first_armed : (b a : Bool) → a ≡ false → DriverStepArmed (if b then step.Table 0 else step.Describe 0) a
+first_armed true a h = h
+first_armed false a h = h
+
+pub first_begun : (b : Bool) (c : List Piece) → driver_begun (if b then step.Table 0 else step.Describe 0) c ≡ DriverOp.offer c
+first_begun true c = refl
+first_begun false c = refl
+
+-- with the check and the bell
+pub first_left : (b : Bool) (c : List Piece) → length c ≤ 16 → driver_left (if b then step.Table 0 else step.Describe 0) c ≤ 38
+first_left true c h = omega arith
+first_left false c h = omega arith
+
 -- the end stands after the beginning of an offer that may be made
-pub begins_offer : (e e' : SplitDriver) (v : DriverView) (c : List Piece) → driver_begun e.doing e.pieces.items ≡ DriverOp.idle → e.armed ≡ false → DriverStands e v → MayOffer split_words v c → e'.pieces.items ≡ c → DriverStands (record e { pieces = e'.pieces; doing = step.Describe 0 }) v
-begins_offer e e' v c idle off st may same = record {
-  made = st.made;
-  counts = st.counts;
-  holds = st.holds;
-  area = st.area;
-  wide = st.wide;
-  shown = st.shown;
-  kick = st.kick;
-  signals = record { is_armed = st.signals.is_armed; hears = st.signals.hears; rings = st.signals.rings; few = omega (arith, st.signals.few); awake = off };
-  doing = subst (λ (ps : List Piece). DriverStepStands (step.Describe 0) ps v.frame v.done v.doing) (sym same) (
-    can_offer e v c st may,
-    let some : 0 < length c = may.fits.chain.0 in omega arith,
-    rests_at e.doing e.pieces.items v.frame v.done v.doing st.doing idle,
-  );
-}
+pub begins_offer : (e e' : SplitDriver) (v : DriverView) (c : List Piece) → driver_begun e.doing e.pieces.items ≡ DriverOp.idle → e.armed ≡ false → DriverStands e v → MayOffer split_words v c → e'.pieces.items ≡ c
+    → DriverStands (record e { pieces = e'.pieces; doing = first_store e.features.indirect (length c) }) v
+begins_offer e e' v c idle off st may same =
+    let b : Bool = e.features.indirect && nat_lt 1 (length c) in
+    let tabled : is_tabled v.frame c ≡ b = ap (λ (y : Features). y.indirect && nat_lt 1 (length c)) (sym st.made.featured) in
+    record {
+      made = st.made;
+      counts = st.counts;
+      holds = st.holds;
+      area = st.area;
+      wide = st.wide;
+      shown = st.shown;
+      kick = st.kick;
+      signals = record { is_armed = st.signals.is_armed; hears = st.signals.hears; rings = st.signals.rings; few = omega (arith, st.signals.few, first_owes b); awake = first_armed b e.armed off };
+      doing = subst (λ (ps : List Piece). DriverStepStands (first_store e.features.indirect (length c)) ps v.frame v.done v.doing) (sym same)
+          (first_stands b v.frame v.done c v.doing tabled (can_offer e v c st may) (rests_at e.doing e.pieces.items v.frame v.done v.doing st.doing idle));
+    }
 
 -- and after the beginning of another operation
 pub begins : (e : SplitDriver) (v : DriverView) (t : DriverStep) → driver_begun e.doing e.pieces.items ≡ DriverOp.idle → DriverStands e v → (v.doing ≡ now.Idle → DriverStepStands t e.pieces.items v.frame v.done v.doing) → DriverStepArmed t e.armed → driver_owes t ≡ 0 → DriverStands (record e { doing = t }) v
@@ -107,6 +138,7 @@ begins e v t idle st doing armed none = record {
 ends_at : (t : DriverStep) (c : List Piece) → driver_left t c ≡ 0 → driver_begun t c ≡ DriverOp.idle
 ends_at step.Idle c h = refl
 ends_at (step.Describe at) c h = absurd (omega arith)
+ends_at (step.Table at) c h = absurd (omega arith)
 ends_at step.Enter c h = absurd (omega arith)
 ends_at step.Publish c h = absurd (omega arith)
 ends_at step.Look c h = absurd (omega arith)
@@ -131,7 +163,8 @@ can_loaded f o c l y can = record { fits = can.fits; room = can.room; limited = 
 
 step_loaded : (t : DriverStep) (c : List Piece) (f : Frame) (o : List DriverDone) (d : DriverNow) (l y : ℕ) → DriverStepStands t c f o d → DriverStepStands t c f (LoadAck l y ∷ o) d
 step_loaded step.Idle c f o d l y s = s
-step_loaded (step.Describe at) c f o d l y s = (can_loaded f o c l y s.0, s.1, s.2)
+step_loaded (step.Describe at) c f o d l y s = (can_loaded f o c l y s.0, s.1, s.2, s.3)
+step_loaded (step.Table at) c f o d l y s = (can_loaded f o c l y s.0, s.1, s.2, s.3)
 step_loaded step.Enter c f o d l y s = (can_loaded f o c l y s.0, s.1)
 step_loaded step.Publish c f o d l y s = (can_loaded f o c l y s.0, s.1)
 step_loaded step.Look c f o d l y s = s
@@ -154,7 +187,8 @@ can_stored f o c h i y can = record { fits = can.fits; room = can.room; limited 
 
 step_stored : (t : DriverStep) (c : List Piece) (f : Frame) (o : List DriverDone) (d : DriverNow) (h i y : ℕ) → DriverStepStands t c f o d → DriverStepStands t c f (StoreCommand h i y ∷ o) d
 step_stored step.Idle c f o d h i y s = s
-step_stored (step.Describe at) c f o d h i y s = (can_stored f o c h i y s.0, s.1, s.2)
+step_stored (step.Describe at) c f o d h i y s = (can_stored f o c h i y s.0, s.1, s.2, s.3)
+step_stored (step.Table at) c f o d h i y s = (can_stored f o c h i y s.0, s.1, s.2, s.3)
 step_stored step.Enter c f o d h i y s = (can_stored f o c h i y s.0, s.1)
 step_stored step.Publish c f o d h i y s = (can_stored f o c h i y s.0, s.1)
 step_stored step.Look c f o d h i y s = s
@@ -218,6 +252,7 @@ driver_laws = record {
   framed = λ v o a r. driver_frame v o a r;
   stays_unarmed = λ v o a r other none. driver_unarmed v o a r other none;
   looks = driver_looks;
+  stays = driver_stays;
   armed = λ e v st on. (length (collects v.done), is_armed e v st on);
   unarmed = λ e v st off. not_armed e v st off;
   places = λ e v st. st.holds.held;

@@ -8,6 +8,7 @@ pub mod Opening
 pub mod DeviceEnd
 pub mod DeviceGiving
 pub mod DeviceTaking
+pub mod DeviceTabling
 pub mod DeviceLaws
 pub mod SplitLayout
 pub mod Rig

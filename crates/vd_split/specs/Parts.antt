@@ -1,9 +1,14 @@
 -- Places that run round a ring, copies of an area, and the order of an offer's stores.
-use Rattle.std.specs.Prelude.{◌≡◌, ℕ, ◌+◌, ◌*◌, ◌/◌, ◌<◌, ◌==◌, nat_lt, Bool, List, length, if◌then◌else◌, slice_index}
+use Rattle.std.specs.Prelude.{◌≡◌, ℕ, ◌+◌, ◌*◌, ◌/◌, ◌<◌, ◌==◌, ◌&&◌, nat_lt, Bool, List, [], ◌∷◌, ◌++◌, length, if◌then◌else◌, slice_index}
 use Rattle.vd_bits.specs.Lanes.{lane16}
 use Rattle.vd_event.specs.declared.rule.EventRule.TheVariants as rule
 use Rattle.vd_event.specs.Words.{arm_word}
 use Rattle.vd_event.specs.Rings.{wants}
+use Rattle.vd_model.specs.declared.chain.Piece.{Piece}
+use Rattle.vd_indirect.specs.declared.descriptor.TableKind.TheVariants.{Split}
+use Rattle.vd_indirect.specs.Tables.{table_words}
+use Rattle.vd_ring.specs.declared.frame.Put.{Put}
+use Rattle.vd_split_ring.specs.SplitWords.{put, row}
 use Rattle.vd_split.specs.declared.driver.DriverStep.{DriverStep}
 use Rattle.vd_split.specs.declared.driver.DriverStep.TheVariants as step
 
@@ -57,6 +62,26 @@ pub record Copies (area : List ℕ) (at n : ℕ) (stored : List ℕ) : Type 0 wh
   pub as_many : length area ≡ n
   pub same : (i : ℕ) → i < n → slice_index area i ≡ slice_index stored (at + i)
 
+-- the first word of the table of head h in a ring of n places
+abbrev pub table_place : ℕ → ℕ → ℕ
+table_place n h = used_area n + n + 1 + 32 * h
+
+-- the stores of a chain that stands in a table at place t, for the head h: the table's words, then those of the descriptor that names it
+abbrev pub tabled : ℕ → ℕ → List Piece → List Put
+tabled t h c = row t (table_words Split c) ++ put (2 * h) (8 * t) ∷ put (2 * h + 1) (16 * length c + 17179869184) ∷ []
+
+-- how many places a chain of n pieces takes
+abbrev pub needed : Bool → ℕ → ℕ
+needed indirect n = if indirect then 1 else n
+
+-- the first step of the offer of a chain of n pieces
+abbrev pub first_store : Bool → ℕ → DriverStep
+first_store indirect n = if indirect && nat_lt 1 n then step.Table 0 else step.Describe 0
+
 -- the step after word number `at` of the descriptors of n pieces
 abbrev pub described_step : ℕ → ℕ → DriverStep
 described_step at n = if nat_lt (at + 1) (2 * n) then step.Describe (at + 1) else step.Enter
+
+-- the step after word number `at` of a table of n pieces and of the descriptor that names it
+abbrev pub tabled_step : ℕ → ℕ → DriverStep
+tabled_step at n = if nat_lt (at + 1) (2 * n + 2) then step.Table (at + 1) else step.Enter

@@ -1,31 +1,69 @@
 -- The stores of an offer in order, places that run round a ring, and copies of an area after a store.
-use Rattle.std.proofs.Common.{◌≡◌, ℕ, suc, ◌+◌, ◌*◌, ◌%◌, ◌<◌, ◌≤◌, Bool, List, [], ◌∷◌, ◌++◌, length, take, if◌then◌else◌, slice_index, slice_index_or, slice_set, sym, ap, ◌∙◌, subst, arith, inl, inr}
+use Rattle.std.proofs.Common.{◌≡◌, ℕ, suc, ◌+◌, ◌*◌, ◌%◌, ◌<◌, ◌≤◌, Bool, true, false, List, [], ◌∷◌, ◌++◌, length, take, if◌then◌else◌, slice_index, slice_index_or, slice_set, sym, ap, ◌∙◌, subst, arith, inl, inr}
 use Rattle.std.proofs.lemmas.Bool.{cases_eq, eq-eqb, ne_eqb}
-use Rattle.std.proofs.lemmas.List.{length-take-le, length-set, take_more, get_or-set_same, get_or-set_other}
+use Rattle.std.proofs.lemmas.List.{length-append, length-take-le, get_or-take, length-set, take_more, get_or-set_same, get_or-set_other}
 use Rattle.std.proofs.lemmas.Nat.{mod_below}
 use Rattle.std.proofs.Math.Nat.{suc-mod, mod_self, mod-eq_of_lt}
 use Rattle.vd_model.specs.declared.chain.Piece.{Piece}
+use Rattle.vd_model.specs.declared.features.Features.{Features}
 use Rattle.vd_ring.specs.declared.frame.Frame.{Frame}
 use Rattle.vd_ring.specs.declared.frame.Put.{Put}
 use Rattle.vd_ring.specs.declared.driver.DriverDone.{DriverDone}
 use Rattle.vd_ring.specs.Frames.{lent}
-use Rattle.vd_ring.specs.History.{free}
-use Rattle.vd_split_ring.specs.SplitWords.{IsLawful, IsBuilt, put, described}
+use Rattle.vd_ring.specs.History.{free, first, next_head}
+use Rattle.vd_ring.specs.Places.{Places}
+use Rattle.vd_ring.proofs.HeldPlaces.{free_inside}
+use Rattle.vd_indirect.specs.declared.descriptor.TableKind.TheVariants.{Split}
+use Rattle.vd_indirect.specs.Tables.{table_words}
+use Rattle.vd_indirect.proofs.Written.{length-words_from}
+use Rattle.vd_split_ring.specs.SplitWords.{IsLawful, IsDescriptors, put, row, table, table_of, pointer, is_tabled, described}
 use Rattle.vd_split_ring.specs.SplitDriver.{CanOffer, Begins, plan}
 use Rattle.vd_split_ring.proofs.Descriptors.{length-described}
-use Rattle.vd_split_ring.proofs.Direct.{lent_pieces, needs_pieces, spelling_is}
-use Rattle.vd_split.specs.Parts.{next_place, Copies}
+use Rattle.vd_split_ring.proofs.Direct.{lent_needs}
+use Rattle.vd_split_ring.proofs.DriverParts.{needs_some, next_chain, next_free_place, word_descriptor}
+use Rattle.vd_split_ring.proofs.Rows.{length_row}
+use Rattle.vd_split_ring.proofs.Tables.{direct_needs, tabled_needs, spelling_direct, spelling_tabled, spelling_within}
+use Rattle.vd_split.specs.Parts.{next_place, needed, tabled, Copies}
 
 -- ---- the plan of an offer
 
-pub plan_is : (f : Frame) (o : List DriverDone) (c : List Piece) → IsLawful f → IsBuilt f → plan f o c ≡ described 0 (take (length c) (free f o)) c
-plan_is f o c l b = spelling_is f (take (lent f c) (free f o)) c b ∙ ap (λ n. described 0 (take n (free f o)) c) (lent_pieces f c l b)
+-- a chain that may be offered takes a free place at least
+pub some_free : (f : Frame) (o : List DriverDone) (c : List Piece) → CanOffer f o c → 0 < length (free f o)
+some_free f o c can = omega (arith, needs_some f c can.fits.chain, can.room)
 
-pub enough : (f : Frame) (o : List DriverDone) (c : List Piece) → IsBuilt f → CanOffer f o c → length c ≤ length (free f o)
-enough f o c b can = omega (arith, can.room, needs_pieces f c b)
+-- a direct chain stands in as many free places as it has pieces
+pub enough : (f : Frame) (o : List DriverDone) (c : List Piece) → CanOffer f o c → is_tabled f c ≡ false → length c ≤ length (free f o)
+enough f o c can off = omega (arith, can.room, direct_needs f c can.fits.chain.0 off)
 
-pub plan_length : (f : Frame) (o : List DriverDone) (c : List Piece) → IsLawful f → IsBuilt f → CanOffer f o c → length (plan f o c) ≡ 2 * length c
-plan_length f o c l b can = ap (λ (ps : List Put). length ps) (plan_is f o c l b) ∙ length-described 0 (take (length c) (free f o)) c (length-take-le (length c) (free f o) (enough f o c b can))
+pub plan_direct : (f : Frame) (o : List DriverDone) (c : List Piece) → IsLawful f → CanOffer f o c → is_tabled f c ≡ false → plan f o c ≡ described 0 (take (length c) (free f o)) c
+plan_direct f o c l can off = spelling_direct f (take (lent f c) (free f o)) c off ∙ ap (λ n. described 0 (take n (free f o)) c) (lent_needs f c l ∙ direct_needs f c can.fits.chain.0 off)
+
+pub direct_length : (f : Frame) (o : List DriverDone) (c : List Piece) → IsLawful f → CanOffer f o c → is_tabled f c ≡ false → length (plan f o c) ≡ 2 * length c
+direct_length f o c l can off = ap (λ (ps : List Put). length ps) (plan_direct f o c l can off) ∙ length-described 0 (take (length c) (free f o)) c (length-take-le (length c) (free f o) (enough f o c can off))
+
+-- another stands in the table of the next head
+pub plan_tabled : (f : Frame) (o : List DriverDone) (c : List Piece) → IsLawful f → CanOffer f o c → is_tabled f c ≡ true → plan f o c ≡ tabled (table_of f (next_head f o)) (next_head f o) c
+plan_tabled f o c l can on =
+    let one : lent f c ≡ 1 = lent_needs f c l ∙ tabled_needs f c on in
+    let h : first (take (lent f c) (free f o)) ≡ next_head f o = get_or-take (lent f c) (free f o) 0 0 (omega arith) in
+    spelling_tabled f (take (lent f c) (free f o)) c on ∙ ap (λ n. table f n c ++ pointer f n c) h
+
+pub length-tabled : (t h : ℕ) (c : List Piece) → length (tabled t h c) ≡ 2 * length c + 2
+length-tabled t h c = length-append (row t (table_words Split c)) (put (2 * h) (8 * t) ∷ put (2 * h + 1) (16 * length c + 17179869184) ∷ []) ∙ omega (arith, length_row t (table_words Split c), length-words_from Split 0 c)
+
+pub tabled_length : (f : Frame) (o : List DriverDone) (c : List Piece) → IsLawful f → CanOffer f o c → is_tabled f c ≡ true → length (plan f o c) ≡ 2 * length c + 2
+tabled_length f o c l can on = ap (λ (ps : List Put). length ps) (plan_tabled f o c l can on) ∙ length-tabled (table_of f (next_head f o)) (next_head f o) c
+
+-- how many places it is lent
+pub needed_is : (f : Frame) (fs : Features) (c : List Piece) → IsLawful f → fs ≡ f.features → needed fs.indirect (length c) ≡ lent f c
+needed_is f fs c l same = ap (λ (y : Features). needed y.indirect (length c)) same ∙ sym (lent_needs f c l)
+
+-- its words are the ring's descriptors
+pub plan_inside : (f : Frame) (o : List DriverDone) (c : List Piece) (k : ℕ) → IsLawful f → Places f o → CanOffer f o c → k < length (plan f o c) → IsDescriptors f (slice_index_or (plan f o c) k (put 0 0)).place
+plan_inside f o c k l pl can below =
+    let ps : List ℕ = take (lent f c) (free f o) in
+    let next = next_chain f o c l can in
+    word_descriptor f ps (slice_index_or (plan f o c) k (put 0 0)).place (omega (arith, next.0, needs_some f c next.1)) (λ q a. free_inside f o q pl (next_free_place f o c q a)) (spelling_within f ps c next.0 next.1 k (put 0 0) below)
 
 -- the first stores, and the one after them, are the first stores
 pub begins_at : (f : Frame) (o : List DriverDone) (c : List Piece) (at : ℕ) → CanOffer f o c → at < length (plan f o c) → Begins f o (take at (plan f o c) ++ slice_index_or (plan f o c) at (put 0 0) ∷ [])

@@ -12,7 +12,7 @@ use Rattle.vd_ring.specs.declared.driver.DriverDone.{DriverDone}
 use Rattle.vd_ring.specs.declared.driver.DriverView.{DriverView}
 use Rattle.vd_ring.specs.Fresh.{fresh_driver, fresh_device}
 use Rattle.vd_ring.specs.History.{offers, head, next_head, chain, chain_at}
-use Rattle.vd_split_ring.specs.SplitWords.{IsLawful, IsBuilt, Spells, width, commands_from, acks_from}
+use Rattle.vd_split_ring.specs.SplitWords.{IsLawful, Spells, width, commands_from, acks_from}
 use Rattle.vd_split_ring.specs.SplitDriver.{driver_after}
 use Rattle.vd_split_ring.specs.SplitDriverLaws.{IsOffered}
 use Rattle.vd_split_ring.specs.SplitDeviceLaws.{HasLastUsed}
@@ -53,7 +53,7 @@ SpellsLast f ws o = Spells f ws (head f o (length (offers o) - 1)) (chain o (len
 abbrev pub split_layout : LayoutModel
 split_layout = record {
   packed = false;
-  lawful_frame = λ f. IsLawful f × IsBuilt f;
+  lawful_frame = IsLawful;
   ring = Ring;
   lawful_size = lawful_size;
   lawful_base = lawful_base;
@@ -92,7 +92,6 @@ made_for n f c g can with =
       sized = sym with.size;
       featured = sym with.features;
       lawful = record { split = with.packed; some_place = omega (arith, with.size); small = omega (arith, with.size) };
-      built = record { direct = ap (λ (x : Features). x.indirect) with.features ∙ can.direct };
     }
 
 -- the areas of a frame, by what it was made with
@@ -123,13 +122,13 @@ split_laws = record {
   device_end = device_laws;
   driver_keeps = λ ws v w op a r n. driver_keeps ws v w op a r n;
   device_keeps = λ ws v w op a r n. device_keeps ws v w op a r n;
-  opens = λ n f c g can with. let m = made_for n f c g can with in opens g m.lawful m.built;
+  opens = λ n f c g can with. opens g (made_for n f c g can with).lawful;
   wide = λ ws v w r. (r.words.wide.0, r.same);
-  frames = λ ws v w r. (r.lawful, r.built);
-  framed = λ n f c g can with. let m = made_for n f c g can with in (m.lawful, m.built);
+  frames = λ ws v w r. r.lawful;
+  framed = λ n f c g can with. (made_for n f c g can with).lawful;
   some_word = λ g h. omega arith;
-  driver_low = λ v op a l n. (driver_alone v op a l.0 n).inside;
-  device_low = λ w op a l n. device_inside w op a l.0 n;
+  driver_low = λ v op a l n. (driver_alone v op a l n).inside;
+  device_low = λ w op a l n. device_inside w op a l n;
   places = λ ws v w r. r.places;
   lists = λ ws v w r. r.lists;
   rested = λ ws v w r. r.rested;

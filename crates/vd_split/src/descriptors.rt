@@ -98,6 +98,7 @@ pub fn descriptor_word(free: &HeapCircularBuffer<u32>, pieces: &[Piece], at: u32
 }
 
 /// A descriptor's second word: the length, NEXT where `more` is 1, WRITE, and the next place.
+#[inline]
 fn second(piece: &Piece, more: u64, next: u32) -> u64
     requires { (more ≤ 1) × (next < 32768) }
     ensures { result ≡ piece.now.len + (more + (if piece.now.write then 2 else 0)) * 4294967296 + next * 281474976710656 }

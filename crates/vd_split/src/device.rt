@@ -9,10 +9,11 @@ mod make;
 mod running;
 mod signal;
 mod sleep;
+mod table;
 mod take;
 
-/// What the next step does. A take has the index word that it loaded, its chain's head and the next descriptor's place;
-/// a give has the chain's number and head, and the length. `Check` has the published range, its end not included.
+/// What the next step does. A take has the index word that it loaded, its chain's head and the next descriptor's place, or, by a
+/// table, the number of its pieces; a give has the chain's number and head, and the length. `Check` has the published range, its end not included.
 #[derive(Copy, Clone)]
 pub enum DeviceStep {
     Idle,
@@ -22,6 +23,8 @@ pub enum DeviceStep {
     Entry(u64),
     Address(u64, u32, u32),
     Second(u64, u32, u32),
+    TableAddress(u64, u32, u32),
+    TableSecond(u64, u32, u32),
     Name(u32, u32, u32),
     Measure(u32, u32, u32),
     Publish(u32, u32, u32),

@@ -15,12 +15,13 @@ mod offer;
 mod signal;
 mod sleep;
 
-/// What the next step does. `Describe` has the number of descriptor words stored so far; `Find` and `Finish` have the
-/// words loaded. `Check` has the published range, its end not included.
+/// What the next step does. `Describe` has the number of descriptor words stored so far, `Table` that of the words of a table and
+/// of the descriptor that names it; `Find` and `Finish` have the words loaded. `Check` has the published range, its end not included.
 #[derive(Copy, Clone)]
 pub enum DriverStep {
     Idle,
     Describe(u32),
+    Table(u32),
     Enter,
     Publish,
     Look,

@@ -7,6 +7,7 @@ mod driver;
 mod layout;
 mod pieces;
 mod places;
+mod tables;
 
 pub use device::SplitDevice;
 pub use driver::SplitDriver;

@@ -102,7 +102,7 @@ piece a l w = record { addr = a; len = l; write = w }
 same_piece : (a l m : ℕ) (v w : Bool) → m ≡ l → v ≡ w → piece a m v ≡ piece a l w
 same_piece a l m v w h k = ap (λ (n : ℕ). piece a n v) h ∙ ap (λ (b : Bool). piece a l b) k
 
-reads : (a l m next : ℕ) (w : Bool) → m ≤ 1 → l < 2 ^ 32 → piece_of a (l + (m + (if w then 2 else 0)) * 4294967296 + next * 281474976710656) ≡ piece a l w
+pub reads : (a l m next : ℕ) (w : Bool) → m ≤ 1 → l < 2 ^ 32 → piece_of a (l + (m + (if w then 2 else 0)) * 4294967296 + next * 281474976710656) ≡ piece a l w
 reads a l m next true h k = same_piece a l _ _ true (omega arith) (eq-eqb _ 1 (omega arith))
 reads a l m next false h k = same_piece a l _ _ false (omega arith) (ne_eqb _ 1 (λ e. omega arith))
 

@@ -45,7 +45,6 @@ pub ring_with : (ws us : List ℕ) (d : DriverView) (e v : DeviceView) → Ring 
 ring_with ws us d e v r s = record {
   same = s.same;
   lawful = r.lawful;
-  built = r.built;
   words = s.words;
   places = r.places;
   driver_words = r.driver_words;

@@ -46,7 +46,6 @@ ring_after : (ws us : List ℕ) (d : DriverView) (e : DeviceView) (st : List ℕ
 ring_after ws us d e st now at h b n x r s = record {
   same = r.same;
   lawful = r.lawful;
-  built = r.built;
   words = s.words;
   places = r.places;
   driver_words = s.driver_words;

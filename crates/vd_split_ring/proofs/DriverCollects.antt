@@ -39,7 +39,6 @@ looks_at : (ws : List ℕ) (d : DriverView) (e : DeviceView) (g : ℕ) (b : Bool
 looks_at ws d e g true lane r unarmed eq = record {
   same = r.same;
   lawful = r.lawful;
-  built = r.built;
   words = r.words;
   places = r.places;
   driver_words = r.driver_words;
@@ -67,7 +66,6 @@ looks_at ws d e g false lane r unarmed eq =
     let more : length (collects d.done) < length (gives e.done) = shows_more g (length (collects d.done)) (length (gives e.done)) lane r.lists.fewer eq in record {
       same = r.same;
       lawful = r.lawful;
-      built = r.built;
       words = r.words;
       places = r.places;
       driver_words = r.driver_words;
@@ -124,7 +122,6 @@ finds ws d e g w r is =
       record {
         same = r.same;
         lawful = r.lawful;
-        built = r.built;
         words = r.words;
         places = r.places;
         driver_words = r.driver_words;
@@ -213,7 +210,6 @@ collects_last ws d e g w x r is =
       subst (λ (us : List Used). Ring ws (record d { done = Collect us ∷ o; shown = not (shows g (length (collects o ++ us))); doing = Idle }) e) (sym c.0) record {
         same = r.same;
         lawful = r.lawful;
-        built = r.built;
         words = r.words;
         places = collect_places f o u r.places c.2;
         driver_words = driver_words_collected f o u d.stored c.2 r.driver_words;

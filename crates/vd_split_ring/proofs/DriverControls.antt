@@ -123,7 +123,6 @@ stores_command ws d e p x r n =
       record {
         same = r.same;
         lawful = r.lawful;
-        built = r.built;
         words = driver_stores f ws d.stored e.stored q x r.words own;
         places = places_stored f o h i x r.places;
         driver_words = driver_words_stored f o h i x (slice_set d.stored q x) (driver_words_past f o d.stored q x r.lawful r.places r.driver_words (omega arith));
@@ -158,7 +157,6 @@ loads_ack ws d e y r k on last is =
     subst (λ (j : ℕ). Ring ws (record d { done = LoadAck j y ∷ o; doing = Idle }) e) (sym (ap (λ (z : Option ℕ). unwrap_or z 0) last)) record {
       same = r.same;
       lawful = r.lawful;
-      built = r.built;
       words = r.words;
       places = places_loaded f o k y r.places;
       driver_words = driver_words_loaded f o k y d.stored r.driver_words;

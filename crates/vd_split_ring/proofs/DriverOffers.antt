@@ -64,7 +64,6 @@ describes ws d e now puts p x r unarmed kicks stand n =
       record {
         same = r.same;
         lawful = r.lawful;
-        built = r.built;
         words = driver_stores f ws d.stored e.stored p x r.words (descriptor_drivers f p own);
         places = r.places;
         driver_words = driver_words_described f o d.stored ps p x r.lawful r.places r.driver_words own some are_free w;
@@ -123,7 +122,6 @@ enters ws d e puts p x r n =
       record {
         same = r.same;
         lawful = r.lawful;
-        built = r.built;
         words = driver_stores f ws d.stored e.stored (lane_word f j) y r.words (inl low);
         places = r.places;
         driver_words = driver_words_entered f o c d.stored h r.lawful r.places r.driver_words n.can small far;
@@ -200,7 +198,6 @@ publishes ws d e puts p x r n =
     (subst (λ (cs : List Piece). Ring (slice_set ws q y) (record d { done = Offer cs ∷ o; stored = slice_set d.stored q y; doing = Checking (length (offers o)) (length (offers o) + 1) }) e) (sym (staged_is_chain f o c puts r.lawful h.can h.whole)) record {
       same = r.same;
       lawful = r.lawful;
-      built = r.built;
       words = driver_stores f ws d.stored e.stored q y r.words (inl low);
       places = offer_places f o c r.places h.can.fits (room_lent f o c r.lawful h.can) h.can.limited;
       driver_words = driver_words_published f o c d.stored r.places r.driver_words h.can r.lawful far (subst (λ (l : List Put). Stand d.stored l) h.whole h.stand) h.entry;

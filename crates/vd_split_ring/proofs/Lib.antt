@@ -1,6 +1,7 @@
 pub mod Areas
 pub mod Descriptors
 pub mod Direct
+pub mod Rows
 pub mod Tables
 pub mod Reading
 pub mod DriverParts
@@ -30,5 +31,8 @@ pub mod Signalling
 pub mod Sleeping
 pub mod DriverLooking
 pub mod DeviceLooking
+pub mod TableReads
 mod Examples
 pub mod ControlFacts
+pub mod DriverStaying
+pub mod DeviceStaying

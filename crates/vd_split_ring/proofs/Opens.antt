@@ -7,7 +7,7 @@ use Rattle.vd_ring.specs.declared.frame.Frame.{Frame}
 use Rattle.vd_ring.specs.Frames.{Fits}
 use Rattle.vd_ring.specs.Signals.{opens as signals_open}
 use Rattle.vd_ring.proofs.Counts.{one_above, length_upto, occurs_upto}
-use Rattle.vd_split_ring.specs.SplitWords.{IsLawful, IsBuilt, width, used_from, kick_at, call_at, command_word, ack_word, lane_word, event_lane}
+use Rattle.vd_split_ring.specs.SplitWords.{IsLawful, width, used_from, kick_at, call_at, command_word, ack_word, lane_word, event_lane}
 use Rattle.vd_split_ring.specs.SplitLaws.{IsFresh}
 use Rattle.vd_split_ring.proofs.Areas.{areas, lane_inside, drivers_inside, devices_inside, command_drivers, ack_devices}
 
@@ -20,15 +20,14 @@ zero_lane (suc zero) = refl
 zero_lane (suc (suc zero)) = refl
 zero_lane (suc (suc (suc i))) = refl
 
-pub opens : (f : Frame) → IsLawful f → IsBuilt f → IsFresh f
-opens f l b =
+pub opens : (f : Frame) → IsLawful f → IsFresh f
+opens f l =
     let n : ℕ = width f in
     let len : length (replicate {A = ℕ} n 0) ≡ n = length-replicate n 0 in
     let lane = λ (p i : ℕ) (h : p < n). ap (λ w. lane16 w i) (zeros n p h) in
     record {
       same = refl;
       lawful = l;
-      built = b;
       words = record { wide = (len, len, len); drivers = λ i h. refl; devices = λ i h. refl };
       places = record {
         once = λ p. omega (arith, occurs_upto p f.size);

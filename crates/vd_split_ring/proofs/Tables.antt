@@ -9,14 +9,18 @@ use Rattle.vd_model.specs.declared.chain.Piece.{Piece}
 use Rattle.vd_model.specs.Chains.{IsChain, needs}
 use Rattle.vd_ring.specs.declared.frame.Frame.{Frame}
 use Rattle.vd_ring.specs.declared.frame.Put.{Put}
-use Rattle.vd_ring.specs.History.{occurs, first, upto}
-use Rattle.vd_ring.proofs.Counts.{one_small, one_above, occurs_upto, length_upto, first_occurs}
+use Rattle.vd_ring.specs.History.{occurs, first}
+use Rattle.vd_ring.proofs.Counts.{first_occurs}
+use Rattle.vd_indirect.specs.declared.descriptor.TableKind.TheVariants.{Split}
+use Rattle.vd_indirect.specs.Tables.{table_words}
+use Rattle.vd_indirect.proofs.Written.{length-words_from}
 use Rattle.vd_split_ring.specs.SplitWords.{table_of, put, words_of, described, table, pointer, is_tabled, spelling, reading, pieces_of, staged_chain}
 use Rattle.vd_split_ring.proofs.Descriptors.{IsAt, IsApart, length-described, described_within, described_before, pieces_back}
+use Rattle.vd_split_ring.proofs.Rows.{row_place, row_differs, length_table, table_spells}
 
 -- ---- which chains stand in a table
 
-both_true : (b t : Bool) → b && t ≡ true → (b ≡ true) × (t ≡ true)
+pub both_true : (b t : Bool) → b && t ≡ true → (b ≡ true) × (t ≡ true)
 both_true true true h = (refl, refl)
 both_true true false h = absurd (let e : false ≡ true = h in cc)
 both_true false t h = absurd (let e : false ≡ true = h in cc)
@@ -75,13 +79,11 @@ pub record IsInTable (f : Frame) (h q : ℕ) : Type 0 where
 abbrev pub IsWord : Frame → List ℕ → ℕ → Type 0
 IsWord f ps q = IsAt 0 ps q ⊎ IsInTable f (first ps) q
 
-upto_below : (p n : ℕ) → 1 ≤ occurs p (upto n) → p < n
-upto_below p n h = elim (cases_lt p n) [ inl a ↦ a | inr a ↦ absurd (omega (arith, h, occurs_upto p n, one_above p n a)) ]
-
 pub table_within : (f : Frame) (h : ℕ) (c : List Piece) → f.features.indirect ≡ true → length c ≤ 16 → All (λ s. IsInTable f h s.place) (table f h c)
 table_within f h c on few = λ k d inside.
-    let a = described_within (table_of f h) (upto (length c)) c k d inside in
-    record { on = on; low = omega (arith, a.low); high = omega (arith, a.high, upto_below a.place (length c) a.here) }
+    let long = length_table f h c in
+    let a : (slice_index_or (table f h c) k d).place ≡ table_of f h + k = row_place (table_of f h) (table_words Split c) k d (omega (arith, length-words_from Split 0 c)) in
+    record { on = on; low = omega arith; high = omega arith }
 
 pub pointer_within : (f : Frame) (ps : List ℕ) (c : List Piece) → 1 ≤ length ps → All (λ s. IsAt 0 ps s.place) (pointer f (first ps) c)
 pointer_within f ps c some =
@@ -140,7 +142,7 @@ spelling_differ f ps c len is once inside = elim (is_either (is_tabled f c)) [
       let t = tabled_is f c on in
       let h : ℕ = first ps in
       subst (λ (l : List Put). Differ l) (sym (spelling_tabled f ps c on))
-      (differ_append (table f h c) (pointer f h c) (λ k a. described_before (table_of f h) (upto (length c)) c k (λ p. omega (arith, occurs_upto p (length c), one_small (nat_lt p (length c)))) a) (pointer_differ f h c)
+      (differ_append (table f h c) (pointer f h c) (λ k a. row_differs (table_of f h) (table_words Split c) k a) (pointer_differ f h c)
       (λ k d a.
       let w = pointer_within f ps c (omega (arith, len, tabled_needs f c on)) k d a in
       λ i d2 b e. omega (arith, (table_within f h c t.0 is.1 i d2 b).low, w.high, inside w.place w.here)))
@@ -173,12 +175,11 @@ staged_spelling f ps c len is = elim (is_either (is_tabled f c)) [
   | inl on ↦ (
       let t = tabled_is f c on in
       let h : ℕ = first ps in
-      let as_many : length (upto (length c)) ≡ length c = length_upto (length c) in
-      let tl : length (words_of (table f h c)) ≡ 2 * length c = length-map (table f h c) (λ (p : Put). p.word) ∙ length-described (table_of f h) (upto (length c)) c as_many in
+      let tl : length (words_of (table f h c)) ≡ 2 * length c = length-map (table f h c) (λ (p : Put). p.word) ∙ length_table f h c in
       ap (λ (l : List Put). staged_chain f (words_of l)) (spelling_tabled f ps c on)
       ∙ ap (staged_chain f) (map-append (λ (p : Put). p.word) (table f h c) (pointer f h c))
       ∙ staged_on f (words_of (table f h c)) (8 * table_of f h) (16 * length c + 17179869184) t.0 (omega (arith, tl, t.1))
-      ∙ pieces_back (table_of f h) (upto (length c)) c as_many is.3
+      ∙ table_spells f h c is.3
       )
   | inr off ↦ (
       let as_many : length ps ≡ length c = len ∙ direct_needs f c is.0 off in

@@ -4,4 +4,5 @@ pub mod SplitDevice
 pub mod SplitRing
 pub mod SplitDriverLaws
 pub mod SplitLaws
+pub mod SplitTableLaws
 pub mod SplitDeviceLaws

@@ -23,7 +23,7 @@ use Rattle.vd_ring.specs.Places.{Places}
 use Rattle.vd_ring.specs.Lists.{Lists, Rested, entry_at}
 use Rattle.vd_ring.specs.Signals.{Publisher, Listener, Signals}
 use Rattle.vd_ring.specs.Sleep.{driver_owed, device_owed, driver_idle, device_idle, gives_made}
-use Rattle.vd_split_ring.specs.SplitWords.{IsLawful, IsBuilt, IsDrivers, IsDevices, width, command_word, ack_word, kick_at, call_at, used_from, lane_at, entry_lane, event_lane, used_index, used_id, used_len, words_of, Stand, spelling, reading}
+use Rattle.vd_split_ring.specs.SplitWords.{IsLawful, IsDrivers, IsDevices, width, command_word, ack_word, kick_at, call_at, used_from, lane_at, entry_lane, event_lane, used_index, used_id, used_len, words_of, Stand, spelling, reading}
 use Rattle.vd_split_ring.specs.SplitDriver.{CanOffer, Begins, plan}
 use Rattle.vd_split_ring.specs.SplitDevice.{loaded_head}
 
@@ -190,8 +190,6 @@ pub record Ring (ws : List ℕ) (d : DriverView) (e : DeviceView) : Type 0 where
   pub same : e.frame ≡ d.frame
   -- it is a split ring of 1 to 32,768 places
   pub lawful : IsLawful d.frame
-  -- without tables
-  pub built : IsBuilt d.frame
   -- each word is what its one writer last stored in it
   pub words : Words d.frame ws d.stored e.stored
   -- each place is free or held by one open chain; no chain was offered past the limit, the size or the bounds

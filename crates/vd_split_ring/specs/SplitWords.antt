@@ -6,20 +6,18 @@ use Rattle.vd_bits.specs.Event.{apart}
 use Rattle.vd_event.specs.declared.rule.EventRule.TheVariants as rule
 use Rattle.vd_event.specs.Words.{arm_word}
 use Rattle.vd_event.specs.Rings
+use Rattle.vd_indirect.specs.declared.descriptor.TableKind.TheVariants as kind
+use Rattle.vd_indirect.specs.Tables.{table_words}
 use Rattle.vd_model.specs.declared.chain.Piece.{Piece}
 use Rattle.vd_ring.specs.declared.frame.Frame.{Frame}
 use Rattle.vd_ring.specs.declared.frame.Put.{Put}
-use Rattle.vd_ring.specs.History.{occurs, first, upto}
+use Rattle.vd_ring.specs.History.{occurs, first}
 
 -- a split ring's frame: 1 to 32,768 places
 pub record IsLawful (f : Frame) : Type 0 where
   pub split : f.packed ≡ false
   pub some_place : 0 < f.size
   pub small : f.size ≤ 32768
-
--- what is built: INDIRECT_DESC is off
-pub record IsBuilt (f : Frame) : Type 0 where
-  pub direct : f.features.indirect ≡ false
 
 -- ---- the areas, one after the other: descriptors from word 0 on, driver area, device area, tables, commands, acks, two bells.
 -- Each name is its area's first word
@@ -188,9 +186,14 @@ described base (p ∷ ps) (x ∷ xs) = put (base + 2 * p) x.addr ∷ put (base +
 abbrev pub is_tabled : Frame → List Piece → Bool
 is_tabled f c = f.features.indirect && nat_lt 1 (length c)
 
--- the words of the table of head h: its descriptors 0, 1, 2 and so on, linked in order
+-- words that stand one after the other, from place `at` on
+abbrev pub row : ℕ → List ℕ → List Put
+row at [] = []
+row at (w ∷ ws) = put at w ∷ row (at + 1) ws
+
+-- the words of the table of head h, from its first word on
 abbrev pub table : Frame → ℕ → List Piece → List Put
-table f h c = described (table_of f h) (upto (length c)) c
+table f h c = row (table_of f h) (table_words kind.Split c)
 
 -- the words of the descriptor at place h that names its table: the table's address in bytes, its length in bytes, INDIRECT alone
 abbrev pub pointer : Frame → ℕ → List Piece → List Put
@@ -265,12 +268,12 @@ has_table f (a ∷ []) = false
 has_table f (a ∷ s ∷ ws) = f.features.indirect && names_table s
 
 -- how many words the table has that the second word s names
-abbrev pub table_words : ℕ → ℕ
-table_words s = 2 * ((s % 4294967296) / 16)
+abbrev pub named_words : ℕ → ℕ
+named_words s = 2 * ((s % 4294967296) / 16)
 
 -- these words, in the order of a take, are a whole chain's
 abbrev pub is_whole : Frame → List ℕ → Bool
-is_whole f ws = if has_table f ws then length ws == 2 + table_words (slice_index ws 1) else ends ws
+is_whole f ws = if has_table f ws then length ws == 2 + named_words (slice_index ws 1) else ends ws
 
 -- the chain that they spell
 abbrev pub chain_of : Frame → List ℕ → List Piece

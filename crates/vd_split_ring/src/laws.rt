@@ -13,11 +13,11 @@ ghost use Rattle.vd_split_ring.specs.SplitDevice.{DeviceNext, device_after};
 ghost use Rattle.vd_split_ring.specs.SplitDriver.{DriverNext, driver_after};
 ghost use Rattle.vd_split_ring.specs.SplitLaws.{IsFresh, Agree, LooksShow};
 ghost use Rattle.vd_split_ring.specs.SplitRing.{Ring};
-ghost use Rattle.vd_split_ring.specs.SplitWords.{IsLawful, IsBuilt, Spells};
+ghost use Rattle.vd_split_ring.specs.SplitWords.{IsLawful, Spells};
 
 /// Words of 0 and the views of a fresh ring meet the ring invariant.
 pub fn fresh_law()
-    ensures { (f : Frame) → IsLawful f → IsBuilt f → IsFresh f }
+    ensures { (f : Frame) → IsLawful f → IsFresh f }
 {}
 
 /// Each chain offered and not collected is spelled at its head.

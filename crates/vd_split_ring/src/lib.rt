@@ -6,6 +6,7 @@ mod device_laws;
 mod driver_laws;
 mod laws;
 mod signal_laws;
+mod table_laws;
 
 pub use control_laws::{control_law, control_words_law};
 pub use device_laws::{
@@ -20,3 +21,4 @@ pub use laws::{account_law, agreement_law, fresh_law, looks_law, seen_law, spell
 pub use signal_laws::{
     answers_law, asleep_law, bells_law, hears_law, signals_law, sleep_law, unarmed_law,
 };
+pub use table_laws::{loaded_law, table_law};

@@ -129,6 +129,8 @@ impl PackedDevice {
             DeviceStep::Look => self.look(port),
             DeviceStep::Address => self.address(port),
             DeviceStep::Second => self.second(port),
+            DeviceStep::TableAddress => self.table_address(port),
+            DeviceStep::TableSecond(addr) => self.table_second(port, addr),
             DeviceStep::Give(number, head, len) => self.give(port, number, head, len),
             DeviceStep::Check(_)
             | DeviceStep::Ring
@@ -157,6 +159,8 @@ impl PackedDevice {
             | DeviceStep::Look
             | DeviceStep::Address
             | DeviceStep::Second
+            | DeviceStep::TableAddress
+            | DeviceStep::TableSecond(_)
             | DeviceStep::Give(_, _, _) => unreachable!(),
             DeviceStep::Check(count) => self.check(port, count),
             DeviceStep::Ring => self.ring(port),

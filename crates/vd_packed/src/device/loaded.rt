@@ -1,14 +1,16 @@
 //! What a take does with a word that it has loaded.
-ghost use Rattle.std.specs.Prelude.{◌≡◌, ◌<◌, ◌≤◌, ◌+◌, ◌++◌, ◌∷◌, [], ℕ, true, false, length};
-ghost use Rattle.vd_packed_ring.specs.PackedWords.{goes_on, id_of};
+ghost use Rattle.std.specs.Prelude.{◌≡◌, ◌<◌, ◌≤◌, ◌+◌, ◌/◌, ◌++◌, ◌∷◌, [], ℕ, true, false, length};
+ghost use Rattle.vd_packed_ring.specs.PackedWords.{goes_on, id_of, len_of};
 ghost use Rattle.vd_packed_ring.specs.PackedChains.{piece_of};
-ghost use Rattle.vd_packed.specs.Loaded.{HasSeen, HasMore, HasTaken, MayTake};
+ghost use Rattle.vd_packed.specs.Loaded.{HasSeen, HasMore, HasPiece, HasCounted, HasTaken, MayTake, names_its_table};
+ghost use Rattle.vd_packed.specs.Spots.{forward};
 ghost use Rattle.vd_packed.specs.Seconds.{shows_available};
 ghost use Rattle.vd_packed.specs.Telling.{TakesNone};
 
 use super::running::remember;
 use super::{DeviceStep, PackedDevice, Told};
 use crate::spot::forward;
+use crate::tables::{is_indirect, places_of};
 use crate::words::{has_next, piece_from, shows_available};
 use vd_bits::lane16;
 
@@ -44,6 +46,28 @@ impl PackedDevice {
         Told::Moved
     }
 
+    /// Whether the second word loaded last is that of a descriptor that names the chain's table: only the first may.
+    #[inline(always)]
+    pub(crate) fn names_its_table(&self) -> bool
+        ensures { result ≡ names_its_table self.now }
+    {
+        self.features.indirect && self.pieces.is_empty() && is_indirect(self.second)
+    }
+
+    /// The address of a table was loaded. The table stands at the place of its head.
+    #[inline(always)]
+    pub(crate) fn loaded_pointer(&mut self) -> Told
+        requires { (1 ≤ self.old.size) × (self.old.at.place < self.old.size) × (self.old.size ≤ 32768) }
+        ensures moved { result ≡ Told.Moved }
+        ensures table { self.new ≡ record self.old { at = forward self.old.at 1 self.old.size; doing = DeviceStep.TableAddress } }
+    {
+        let spot = forward(self.at, 1, self.size);
+        self.at.place = spot.place;
+        self.at.wrap = spot.wrap;
+        self.doing = DeviceStep::TableAddress;
+        Told::Moved
+    }
+
     /// A descriptor's address was loaded. Where its second word doesn't go on the chain is whole, and this second word has its id: it
     /// stands in the last descriptor, and a driver need not write it in the others (VIRTIO 1.2, 2.8).
     #[inline(always)]
@@ -51,7 +75,7 @@ impl PackedDevice {
         requires some { (length self.old.pieces.items < 16) × (self.old.at.place < self.old.size) × (self.old.size ≤ 32768) }
         requires may { goes_on self.old.second ≡ false → MayTake self.old (id_of self.old.second) }
         ensures more { goes_on self.old.second ≡ true → (result ≡ Told.Moved) × HasMore addr self.old self.new }
-        ensures whole { goes_on self.old.second ≡ false → (result ≡ Told.Taken self.old.taken) × HasTaken addr (id_of self.old.second) self.old self.new }
+        ensures whole { goes_on self.old.second ≡ false → (result ≡ Told.Taken self.old.taken) × HasTaken (piece_of addr self.old.second) (forward self.old.at 1 self.old.size) (length self.old.pieces.items + 1) self.old self.new }
     {
         self.pieces.push(piece_from(addr, self.second));
         let spot = forward(self.at, 1, self.size);
@@ -61,9 +85,46 @@ impl PackedDevice {
             self.doing = DeviceStep::Second;
             return Told::Moved;
         }
+        let count = self.pieces.len() as u32;
+        self.take_in(count)
+    }
+
+    /// A piece's address was loaded from a table.
+    #[inline(always)]
+    pub(crate) fn loaded_table_address(&mut self, addr: u64) -> Told
+        ensures moved { result ≡ Told.Moved }
+        ensures address { self.new ≡ record self.old { doing = DeviceStep.TableSecond addr } }
+    {
+        self.doing = DeviceStep::TableSecond(addr);
+        Told::Moved
+    }
+
+    /// Its second word was loaded. With the last place of the table the chain is whole; its id is that of the descriptor on the ring.
+    #[inline(always)]
+    pub(crate) fn loaded_table_second(&mut self, addr: u64, word: u64) -> Told
+        requires some { length self.old.pieces.items < 16 }
+        requires may { len_of self.old.second / 16 ≤ length self.old.pieces.items + 1 → MayTake self.old (id_of self.old.second) }
+        ensures more { length self.old.pieces.items + 1 < len_of self.old.second / 16 → (result ≡ Told.Moved) × HasPiece (piece_of addr word) self.old self.new }
+        ensures whole { len_of self.old.second / 16 ≤ length self.old.pieces.items + 1 → (result ≡ Told.Taken self.old.taken) × HasTaken (piece_of addr word) self.old.at 1 self.old self.new }
+    {
+        self.pieces.push(piece_from(addr, word));
+        if self.pieces.len() < places_of(self.second) {
+            self.doing = DeviceStep::TableAddress;
+            return Told::Moved;
+        }
+        self.take_in(1)
+    }
+
+    /// The chain of the pieces loaded, of so many descriptors on the ring, is taken.
+    #[inline(always)]
+    fn take_in(&mut self, count: u32) -> Told
+        requires may { MayTake self.old (id_of self.old.second) }
+        requires few { count ≤ 16 }
+        ensures told { result ≡ Told.Taken self.old.taken }
+        ensures counted { HasCounted count self.old self.new }
+    {
         let number = self.taken;
         let head = lane16(self.second, 2);
-        let count = self.pieces.len() as u32;
         self.running[head as usize] = Some(number);
         self.counts[head as usize] = count;
         remember(&mut self.guesses, number, head as u32);

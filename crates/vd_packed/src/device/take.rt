@@ -36,7 +36,7 @@ impl PackedDevice {
         self.loaded_second(word)
     }
 
-    /// The load of a descriptor's address, by which a whole chain is taken.
+    /// The load of a descriptor's address, by which a whole chain is taken where it has no table.
     #[inline(always)]
     pub(super) fn address<P: Port>(&mut self, port: &mut P) -> Told
         requires now { self.old.doing ≡ DeviceStep.Address }
@@ -45,6 +45,9 @@ impl PackedDevice {
         ensures chain { (k : ℕ) → result ≡ Told.Taken k → IsChain self.new.pieces.items }
     {
         let addr = port.access(Op::Take, Access::Load(2 * self.at.place));
+        if self.names_its_table() {
+            return self.loaded_pointer();
+        }
         self.loaded_address(addr)
     }
 }

@@ -1,14 +1,17 @@
 //! What the driver's end offers its holder.
-ghost use Rattle.std.specs.Prelude.{◌≡◌, ◌≤◌, length};
+ghost use Rattle.std.specs.Prelude.{◌≡◌, ◌≤◌, ◌<◌, length};
 ghost use Rattle.vd_words.specs.Own.{IsOwn};
 ghost use Rattle.vd_ring.specs.declared.driver.DriverView.{DriverView};
 ghost use Rattle.vd_packed_ring.specs.PackedDriver.{driver_side};
 ghost use Rattle.vd_layout.specs.Driver.{IsDriverStep};
 ghost use Rattle.vd_packed.specs.DriverEnd.{DriverStands, IsSignal, packed_driver};
 ghost use Rattle.vd_packed.specs.DriverLaws.{driver_laws};
+ghost use Rattle.vd_packed.specs.Tabled.{first_at, first_store};
 
 use super::ids::next_id;
 use super::{DriverStep, PackedDriver};
+use crate::spot::{Spot, forward};
+use crate::tables::{is_tabled, needed};
 use arrayvec::ArrayVec;
 use vd_layout::DriverEnd;
 use vd_model::{Chain, Features, Piece};
@@ -45,7 +48,7 @@ impl DriverEnd for PackedDriver {
     }
 
     fn room(&self, c: &Chain) -> bool {
-        c.pieces().len() <= self.space as usize
+        needed(self.features.indirect, c.pieces().len()) <= self.space as usize
     }
 
     fn next_head(&self) -> u32 {
@@ -54,9 +57,10 @@ impl DriverEnd for PackedDriver {
 
     fn begin_offer(&mut self, c: &Chain) {
         copy_pieces(&mut self.pieces, c.pieces());
-        self.at.place = self.next.place;
-        self.at.wrap = self.next.wrap;
-        self.doing = DriverStep::Describe(0);
+        let spot = first_at(self.features.indirect, c.pieces().len(), self.next, self.size);
+        self.at.place = spot.place;
+        self.at.wrap = spot.wrap;
+        self.doing = first_store(self.features.indirect, c.pieces().len());
     }
 
     fn begin_collect(&mut self) {
@@ -80,6 +84,7 @@ impl DriverEnd for PackedDriver {
         match self.doing {
             DriverStep::Idle => unreachable!(),
             DriverStep::Describe(at) => self.describe(port, at),
+            DriverStep::Table(at) => self.tabulate(port, at),
             DriverStep::Publish => self.publish(port),
             DriverStep::Look => self.look(port),
             DriverStep::Check(_)
@@ -103,8 +108,11 @@ impl PackedDriver {
         ensures { (v : DriverView) → DriverStands self.old v → IsOwn P.port driver_side port.old v → IsDriverStep P.port packed_driver port.old port.new v self.old self.new result }
     {
         match self.doing {
-            DriverStep::Idle | DriverStep::Describe(_) | DriverStep::Publish | DriverStep::Look =>
-                unreachable!(),
+            DriverStep::Idle
+            | DriverStep::Describe(_)
+            | DriverStep::Table(_)
+            | DriverStep::Publish
+            | DriverStep::Look => unreachable!(),
             DriverStep::Check(count) => self.check(port, count),
             DriverStep::Ring => self.ring(port),
             DriverStep::Arm => self.arm(port),
@@ -126,5 +134,30 @@ fn copy_pieces(to: &mut ArrayVec<Piece, 16>, from: &[Piece])
     match to.try_extend_from_slice(from) {
         Ok(()) => {}
         Err(_) => unreachable!(),
+    }
+}
+
+/// The first step of the offer of a chain of so many pieces.
+#[inline]
+fn first_store(indirect: bool, pieces: usize) -> DriverStep
+    ensures { result ≡ first_store indirect pieces }
+{
+    if is_tabled(indirect, pieces) {
+        DriverStep::Table(0)
+    } else {
+        DriverStep::Describe(0)
+    }
+}
+
+/// Where its first descriptor stands, or, of a chain by a table, the first after its one.
+#[inline]
+fn first_at(indirect: bool, pieces: usize, next: Spot, size: u32) -> Spot
+    requires { (next.place < size) × (1 ≤ size) × (size ≤ 32768) }
+    ensures { result ≡ first_at indirect pieces next size }
+{
+    if is_tabled(indirect, pieces) {
+        forward(next, 1, size)
+    } else {
+        next
     }
 }

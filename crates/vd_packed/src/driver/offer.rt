@@ -6,11 +6,13 @@ ghost use Rattle.vd_packed_ring.specs.PackedDriver.{driver_side};
 ghost use Rattle.vd_layout.specs.Driver.{IsDriverStep};
 ghost use Rattle.vd_packed.specs.DriverEnd.{DriverStands, packed_driver};
 ghost use Rattle.vd_packed.specs.Seconds.{described_step, spot_after};
+ghost use Rattle.vd_packed.specs.Tabled.{tabled_step};
 
 use super::ids::{next_id, take_id};
 use super::{DriverStep, PackedDriver, Slot};
 use crate::spot::{Spot, forward};
-use crate::words::{available_word, descriptor_word};
+use crate::tables::{needed, published_word, tabled_word};
+use crate::words::descriptor_word;
 use vd_ring::DriverAct;
 use vd_words::{Access, Op, Port};
 
@@ -22,6 +24,19 @@ fn after_word(at: u32, pieces: u32) -> DriverStep
 {
     if at + 2 < 2 * pieces {
         DriverStep::Describe(at + 1)
+    } else {
+        DriverStep::Publish
+    }
+}
+
+/// The step after word number `at` of a table of so many pieces and of the address of the descriptor that names it.
+#[inline]
+fn after_tabled(at: u32, pieces: u32) -> DriverStep
+    requires { (at < 2 * pieces + 1) × (pieces ≤ 16) }
+    ensures { result ≡ tabled_step at pieces }
+{
+    if at < 2 * pieces {
+        DriverStep::Table(at + 1)
     } else {
         DriverStep::Publish
     }
@@ -60,6 +75,22 @@ impl PackedDriver {
         DriverAct::Moved
     }
 
+    /// The store of a word of the chain's table, or, after them, of the address of the descriptor that names it.
+    #[inline(always)]
+    pub(super) fn tabulate<P: Port>(&mut self, port: &mut P, at: u32) -> DriverAct
+        requires now { self.old.doing ≡ DriverStep.Table at }
+        requires own { (v : DriverView) × DriverStands self.old v × IsOwn P.port driver_side port.old v }
+        ensures { (v : DriverView) → DriverStands self.old v → IsOwn P.port driver_side port.old v → IsDriverStep P.port packed_driver port.old port.new v self.old self.new result }
+    {
+        let id = next_id(&self.free);
+        let pieces = self.pieces.as_slice();
+        let (place, word) = tabled_word(self.size, id, self.next.place, pieces, at);
+        let count = pieces.len() as u32;
+        port.access(Op::Offer, Access::Store(place, word));
+        self.doing = after_tabled(at, count);
+        DriverAct::Moved
+    }
+
     /// The store of the first second word, after all others of the chain: by it the whole chain is available. The
     /// device's look at it is the first access of its take.
     #[inline(always)]
@@ -70,8 +101,8 @@ impl PackedDriver {
     {
         let id = next_id(&self.free);
         let pieces = self.pieces.as_slice();
-        let word = available_word(pieces, 0, id, self.next.wrap);
-        let count = pieces.len() as u32;
+        let word = published_word(pieces, self.features.indirect, id, self.next.wrap);
+        let count = needed(self.features.indirect, pieces.len()) as u32;
         port.access(Op::Offer, Access::Store(2 * self.next.place + 1, word));
         let number = self.offered;
         take_id(&mut self.free);

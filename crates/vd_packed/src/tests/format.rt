@@ -1,11 +1,13 @@
-//! The format of VIRTIO 1.2, 2.8, written anew in the fields of descriptors, for rings of up to 8 places: what stands
-//! there after each whole operation.
+//! The format of VIRTIO 1.2, 2.8, written anew in the fields of descriptors, for rings of up to 8 places, with tables or without: what
+//! stands there after each whole operation.
 use super::chains::{piece_of, pieces_of};
 use super::sleepers::{AWAKE, Sleeper};
 
 const NEXT: u16 = 1;
 
 const WRITE: u16 = 2;
+
+const INDIRECT: u16 = 4;
 
 const AVAIL: u16 = 1 << 7;
 
@@ -26,6 +28,15 @@ const EMPTY: Descriptor = Descriptor {
     id: 0,
     flags: 0,
 };
+
+/// The first or the second word of a descriptor.
+fn half(d: Descriptor, second: bool) -> u64 {
+    if second {
+        d.len as u64 | (d.id as u64) << 32 | (d.flags as u64) << 48
+    } else {
+        d.addr
+    }
+}
 
 /// A side's place in the ring and its wrap counter.
 #[derive(Copy, Clone)]
@@ -69,9 +80,14 @@ impl Counter {
 pub struct Format {
     pub(super) size: u32,
     pub(super) event_idx: bool,
+    indirect: bool,
+    // the most pieces of a chain
+    pub most: u32,
     pub(super) driver: Sleeper,
     pub(super) device: Sleeper,
     ring: [Descriptor; 8],
+    // the table of each id, of 16 descriptors
+    tables: [Descriptor; 128],
     // the free ids, and how many descriptors no chain has
     free: [u32; 8],
     free_from: u32,
@@ -96,13 +112,22 @@ pub struct Format {
 }
 
 impl Format {
-    pub fn new(size: u32, event_idx: bool) -> Format {
+    pub fn new(size: u32, indirect: bool, event_idx: bool) -> Format {
         Format {
             size,
             event_idx,
+            indirect,
+            most: if indirect {
+                16
+            } else if size < 4 {
+                size
+            } else {
+                4
+            },
             driver: AWAKE,
             device: AWAKE,
             ring: [EMPTY; 8],
+            tables: [EMPTY; 128],
             free: [0, 1, 2, 3, 4, 5, 6, 7],
             free_from: 0,
             free_count: size,
@@ -123,29 +148,56 @@ impl Format {
         }
     }
 
-    /// Word `i`: the bytes of two words a descriptor, the lowest first; behind them the event words and the bells.
+    /// Where the tables begin, behind the descriptors and the event words, and where they end.
+    fn tables(&self) -> (u32, u32) {
+        let start = self.size.wrapping_mul(2).wrapping_add(2);
+        let count = if self.indirect {
+            self.size.wrapping_mul(32)
+        } else {
+            0
+        };
+        (start, start.wrapping_add(count))
+    }
+
+    /// How many words there are.
+    pub fn words(&self) -> u32 {
+        self.tables().1.wrapping_add(2)
+    }
+
+    /// Word `i`: the bytes of two words a descriptor, the lowest first; behind them the event words, the tables and the bells.
     pub fn word(&self, i: u32) -> u64 {
         let end = self.size.wrapping_mul(2);
-        if i >= end {
-            return match i.wrapping_sub(end) {
-                0 => self.driver.event as u64,
-                1 => self.device.event as u64,
-                2 => self.driver.bells as u64,
-                3 => self.device.bells as u64,
-                _ => 0,
-            };
-        }
-        let d = self.ring[(i >> 1 & 7) as usize];
-        if i & 1 == 0 {
-            d.addr
+        let (start, bells) = self.tables();
+        if i < end {
+            half(self.ring[(i >> 1 & 7) as usize], i & 1 == 1)
+        } else if i == end {
+            self.driver.event as u64
+        } else if i < start {
+            self.device.event as u64
+        } else if i < bells {
+            let j = i.wrapping_sub(start);
+            half(self.tables[(j >> 1 & 127) as usize], j & 1 == 1)
+        } else if i == bells {
+            self.driver.bells as u64
+        } else if i == bells.wrapping_add(1) {
+            self.device.bells as u64
         } else {
-            d.len as u64 | (d.id as u64) << 32 | (d.flags as u64) << 48
+            0
+        }
+    }
+
+    /// How many places chain number `k` takes.
+    fn places_of(&self, k: u32) -> u32 {
+        if self.indirect {
+            1
+        } else {
+            pieces_of(self.most, k)
         }
     }
 
     /// Whether the next chain has room.
     pub fn room(&self) -> bool {
-        pieces_of(self.size, self.offered) <= self.space
+        self.places_of(self.offered) <= self.space
     }
 
     /// Where entry `i` of the queue of ids stands.
@@ -160,35 +212,61 @@ impl Format {
 
     pub fn offer(&mut self) {
         let k = self.offered;
-        let n = pieces_of(self.size, k);
+        let n = pieces_of(self.most, k);
+        let count = self.places_of(k);
         let id = self.free[(self.free_from & 7) as usize];
         self.free_from = self.queued(1);
         self.free_count = self.free_count.wrapping_sub(1);
-        self.space = self.space.wrapping_sub(n);
+        self.space = self.space.wrapping_sub(count);
         let first = self.avail;
+        let tabled = self.indirect && n > 1;
         for i in 0..n {
-            let piece = piece_of(self.size, k, i);
-            let next = if i.wrapping_add(1) < n { NEXT } else { 0 };
+            let piece = piece_of(self.most, k, i);
             let write = if piece.write { WRITE } else { 0 };
-            let made = if self.avail.wrap { AVAIL } else { USED };
-            self.ring[(self.avail.place & 7) as usize] = Descriptor {
-                addr: piece.addr,
-                len: piece.len,
-                id: (id & 0xffff) as u16,
-                flags: next | write | made,
-            };
-            self.avail = self.avail.step(self.size);
+            if tabled {
+                let at = id.wrapping_mul(16).wrapping_add(i);
+                self.tables[(at & 127) as usize] = Descriptor {
+                    addr: piece.addr,
+                    len: piece.len,
+                    id: 0,
+                    flags: write,
+                };
+            } else {
+                let next = if i.wrapping_add(1) < n { NEXT } else { 0 };
+                self.make_available(id, piece.addr, piece.len, next | write);
+            }
+        }
+        if tabled {
+            let table = self.tables().0.wrapping_add(id.wrapping_mul(32));
+            self.make_available(
+                id,
+                u64::from(table).wrapping_mul(8),
+                n.wrapping_mul(16),
+                INDIRECT,
+            );
         }
         self.numbers[(id & 7) as usize] = k;
         self.shown[(k & 7) as usize] = id;
         self.offered = k.wrapping_add(1);
-        self.ring_device(first, n);
+        self.ring_device(first, count);
+    }
+
+    /// The next descriptor, with AVAIL and USED of its lap.
+    fn make_available(&mut self, id: u32, addr: u64, len: u32, flags: u16) {
+        let made = if self.avail.wrap { AVAIL } else { USED };
+        self.ring[(self.avail.place & 7) as usize] = Descriptor {
+            addr,
+            len,
+            id: (id & 0xffff) as u16,
+            flags: flags | made,
+        };
+        self.avail = self.avail.step(self.size);
     }
 
     pub fn take(&mut self) {
         self.running[(self.runs & 7) as usize] = self.shown[(self.taken & 7) as usize];
         self.runs = self.runs.wrapping_add(1);
-        self.next = self.next.steps(pieces_of(self.size, self.taken), self.size);
+        self.next = self.next.steps(self.places_of(self.taken), self.size);
         self.taken = self.taken.wrapping_add(1);
     }
 
@@ -217,7 +295,7 @@ impl Format {
         self.ring[at].len = len;
         self.ring[at].id = (id & 0xffff) as u16;
         self.ring[at].flags = write | made;
-        let n = pieces_of(self.size, number);
+        let n = self.places_of(number);
         let first = self.used;
         self.used = first.steps(n, self.size);
         self.back[(self.given & 7) as usize] = (id, len);
@@ -232,7 +310,7 @@ impl Format {
         let at = self.queued(self.free_count);
         self.free[(at & 7) as usize] = id;
         self.free_count = self.free_count.wrapping_add(1);
-        let n = pieces_of(self.size, number);
+        let n = self.places_of(number);
         self.space = self.space.wrapping_add(n);
         self.back_at = self.back_at.steps(n, self.size);
         self.collected = self.collected.wrapping_add(1);

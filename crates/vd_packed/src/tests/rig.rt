@@ -1,6 +1,9 @@
 //! Whole operations of both ends over the plain words of their ring. An operation that isn't possible isn't made.
+ghost use Rattle.std.specs.Prelude.{◌≤◌};
 ghost use Rattle.vd_layout.specs.Layout.{CanMake};
 
+use crate::layout::all_words;
+use crate::{Packed, PackedDevice, PackedDriver};
 use std::alloc::{AllocError, Global};
 use std::marker::Model;
 use vd_layout::{
@@ -27,7 +30,31 @@ impl<L: Layout> Model for Rig<L> {
 
     ghost view = { λ r. tt };
 
-    ghost invariant = { λ r. IsRig L.Driver.driver L.Device.device L.layout r.driver r.device r.words.words r.count r.asleep };
+    ghost invariant = { λ r. IsRig L.Driver.driver L.Device.device L.layout r.driver r.device r.words r.count r.asleep };
+}
+
+impl Rig<Packed> {
+    /// Both ends of a fresh ring, with tables or without.
+    pub fn tabled(
+        alloc: Global,
+        ring: u32,
+        size: u32,
+        f: Features,
+    ) -> Result<Rig<Packed>, AllocError>
+        requires { (2 ≤ size) × (size ≤ 1024) }
+    {
+        let driver = PackedDriver::make(alloc, size, f, false)?;
+        let device = PackedDevice::make(alloc, size, f, false)?;
+        let count = all_words(size, f.indirect, false);
+        let words = PlainWords::new(alloc, ring, count)?;
+        Ok(Rig {
+            driver,
+            device,
+            words,
+            count,
+            asleep: false,
+        })
+    }
 }
 
 impl<L: Layout> Rig<L> {

@@ -7,17 +7,16 @@ use std::test::*;
 use vd_layout::{BadBase, DeviceAct, DriverAct, Layout};
 use vd_model::{Base, Chain, Features};
 
-/// What one case does: the ring's size, how many eighths of the gives are out of order, and whether it rests.
+/// What one case does: how many eighths of the gives are out of order, and whether it rests.
 #[derive(Drop)]
 struct Case {
-    size: u32,
     disorder: u32,
     rests: bool,
 }
 
 /// Whether every word of the ring is as the format has it.
 fn words_agree<L: Layout>(rig: &Rig<L>, format: &Format) -> bool {
-    for i in 0..32u32 {
+    for i in 0..format.words() {
         if rig.word(i) != format.word(i) {
             return false;
         }
@@ -26,23 +25,23 @@ fn words_agree<L: Layout>(rig: &Rig<L>, format: &Format) -> bool {
 }
 
 /// Whether the chain is number `k`.
-fn is_chain(size: u32, k: u32, c: &Chain) -> bool {
+fn is_chain(most: u32, k: u32, c: &Chain) -> bool {
     let pieces = c.pieces();
-    if pieces.len() != pieces_of(size, k) as usize {
+    if pieces.len() != pieces_of(most, k) as usize {
         return false;
     }
     for (i, p) in pieces.iter().enumerate() {
-        if *p != piece_of(size, k, (i & 15) as u32) {
+        if *p != piece_of(most, k, (i & 15) as u32) {
             return false;
         }
     }
     true
 }
 
-fn offer<L: Layout>(rig: &mut Rig<L>, format: &mut Format, size: u32) -> bool {
+fn offer<L: Layout>(rig: &mut Rig<L>, format: &mut Format) -> bool {
     let k = format.offered;
     let may = format.room() && !format.armed().0;
-    match rig.offer(&chain_of(size, k)) {
+    match rig.offer(&chain_of(format.most, k)) {
         Some(answer) => {
             format.offer();
             may && answer == DriverAct::Offered(k)
@@ -51,13 +50,13 @@ fn offer<L: Layout>(rig: &mut Rig<L>, format: &mut Format, size: u32) -> bool {
     }
 }
 
-fn take<L: Layout>(rig: &mut Rig<L>, format: &mut Format, size: u32) -> bool {
+fn take<L: Layout>(rig: &mut Rig<L>, format: &mut Format) -> bool {
     let k = format.taken;
     let shown = k != format.offered;
     match rig.take() {
         Some(DeviceAct::Taken(number, c)) => {
             format.take();
-            shown && number == k && is_chain(size, k, &c)
+            shown && number == k && is_chain(format.most, k, &c)
         }
         Some(DeviceAct::Nothing) => !shown,
         Some(_) => false,
@@ -164,9 +163,9 @@ fn sleep_device<L: Layout>(rig: &mut Rig<L>, format: &mut Format, disarms: bool)
 fn operate<L: Layout>(rig: &mut Rig<L>, format: &mut Format, case: &Case, x: u32) -> bool {
     let which = x & 31;
     if which < 8 {
-        offer(rig, format, case.size)
+        offer(rig, format)
     } else if which < 14 {
-        take(rig, format, case.size)
+        take(rig, format)
     } else if which < 20 {
         let j = if x >> 5 & 7 < case.disorder {
             x >> 8 & 7
@@ -199,13 +198,9 @@ fn words_are_as_the_format_has_them(rt: HostRuntime) -> Result<(), Fail> {
                 event_idx,
                 in_order,
             };
-            let case = Case {
-                size,
-                disorder,
-                rests,
-            };
+            let case = Case { disorder, rests };
             let mut rig = Rig::<Packed>::new(rt.alloc(), 0, size, f)?;
-            let mut format = Format::new(size, event_idx);
+            let mut format = Format::new(size, false, event_idx);
             for i in 0..6000u32 {
                 assert!(rt; operate(&mut rig, &mut format, &case, mixed(i)));
                 assert!(rt; words_agree(&rig, &format));
@@ -226,6 +221,36 @@ fn words_are_as_the_format_has_them(rt: HostRuntime) -> Result<(), Fail> {
             let (kicks, calls) = format.rung();
             assert!(rt; kicks > 20);
             assert!(rt; calls > 20);
+        }
+    }
+    Ok(())
+}
+
+/// The same with tables, which leave a place for any chain.
+#[test]
+fn words_are_as_the_format_has_them_with_tables(rt: HostRuntime) -> Result<(), Fail> {
+    for size in [2, 3, 5, 7] {
+        for (event_idx, in_order, disorder, rests) in [
+            (false, false, 8, false),
+            (false, true, 0, true),
+            (true, false, 4, true),
+            (true, true, 0, true),
+        ] {
+            let f = Features {
+                indirect: true,
+                event_idx,
+                in_order,
+            };
+            let case = Case { disorder, rests };
+            let mut rig = Rig::tabled(rt.alloc(), 0, size, f)?;
+            let mut format = Format::new(size, true, event_idx);
+            for i in 0..2000u32 {
+                assert!(rt; operate(&mut rig, &mut format, &case, mixed(i)));
+                assert!(rt; words_agree(&rig, &format));
+                assert!(rt; rig.whole() == format.whole());
+                assert!(rt; rig.armed() == format.armed());
+            }
+            assert!(rt; format.collected > 20);
         }
     }
     Ok(())

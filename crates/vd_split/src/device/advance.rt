@@ -29,6 +29,12 @@ impl SplitDevice {
             DeviceStep::Entry(word) => self.entry(port, word),
             DeviceStep::Address(word, head, place) => self.address(port, word, head, place),
             DeviceStep::Second(word, head, place) => self.second(port, word, head, place),
+            DeviceStep::TableAddress(word, head, count) => {
+                self.table_address(port, word, head, count)
+            }
+            DeviceStep::TableSecond(word, head, count) => {
+                self.table_second(port, word, head, count)
+            }
             DeviceStep::Name(number, head, len) => self.name(port, number, head, len),
             DeviceStep::Measure(number, head, len) => self.measure(port, number, head, len),
             DeviceStep::Publish(number, head, len) => self.publish(port, number, head, len),

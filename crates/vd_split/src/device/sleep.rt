@@ -123,8 +123,8 @@ impl SplitDevice {
     {
         let word = set_lane16(self.area[0], 0, 1);
         port.access(op, Access::Store(used_area(self.size), word));
-        self.area[0] = word;
         self.armed = false;
+        self.area[0] = word;
         self.doing = DeviceStep::Idle;
         Told::Awake
     }
@@ -154,8 +154,8 @@ impl SplitDevice {
     {
         let word = set_lane16(self.area[0], 0, 1);
         port.access(Op::Rest, Access::Store(used_area(self.size), word));
-        self.area[0] = word;
         self.armed = false;
+        self.area[0] = word;
         self.doing = DeviceStep::RestLook;
         Told::Moved
     }

@@ -1,10 +1,10 @@
 //! The steps of a take.
 ghost use Rattle.vd_model.specs.Chains.{IsChain};
-ghost use Rattle.std.specs.Prelude.{ℕ, ◌≡◌, ◌*◌, ◌<◌, Some, length, slice_set};
+ghost use Rattle.std.specs.Prelude.{ℕ, ◌≡◌, ◌*◌, ◌/◌, ◌%◌, ◌<◌, ◌&&◌, Some, length, slice_set};
 ghost use Rattle.vd_words.specs.Own.{IsOwn};
 ghost use Rattle.vd_ring.specs.declared.device.DeviceView.{DeviceView};
 ghost use Rattle.vd_split_ring.specs.SplitDevice.{device_side};
-ghost use Rattle.vd_split_ring.specs.SplitWords.{piece_of, goes_on, next_of};
+ghost use Rattle.vd_split_ring.specs.SplitWords.{piece_of, goes_on, next_of, names_table};
 ghost use Rattle.vd_layout.specs.Device.{IsDeviceStep};
 ghost use Rattle.vd_split.specs.DeviceEnd.{DeviceStands, split_device};
 ghost use Rattle.vd_split.specs.Telling.{act_of};
@@ -17,7 +17,7 @@ use vd_words::{Access, Op, Port};
 
 /// The piece of a descriptor's two words.
 #[inline]
-fn piece_from(addr: u64, second: u64) -> Piece
+pub(super) fn piece_from(addr: u64, second: u64) -> Piece
     ensures { result ≡ piece_of addr second }
 {
     Piece {
@@ -43,9 +43,25 @@ fn following(second: u64) -> u32
     (second / 0x1_0000_0000_0000) as u32
 }
 
+/// Whether a descriptor with this second word names a table, on a ring that has tables or not.
+#[inline]
+fn has_table(indirect: bool, second: u64) -> bool
+    ensures { result ≡ (indirect && names_table second) }
+{
+    indirect && second / 0x4_0000_0000 % 2 == 1
+}
+
+/// How many pieces the table has that it names.
+#[inline]
+fn table_pieces(second: u64) -> u32
+    ensures { result ≡ (second % 4294967296) / 16 }
+{
+    (second % 0x1_0000_0000 / 16) as u32
+}
+
 /// Remembers the head of a chain, at the low bits of its number.
 #[inline]
-fn remember(guesses: &mut Vec<u32>, number: u32, head: u32)
+pub(super) fn remember(guesses: &mut Vec<u32>, number: u32, head: u32)
     requires { 0 < length guesses.old.items }
     ensures { length guesses.new.items ≡ length guesses.old.items }
 {
@@ -106,7 +122,7 @@ impl SplitDevice {
         Told::Moved
     }
 
-    /// The load of its second word, by which a whole chain is taken.
+    /// The load of its second word, by which a whole chain is taken, or which names the table where the chain stands.
     #[inline(always)]
     pub(super) fn second<P: Port>(&mut self, port: &mut P, word: u64, head: u32, place: u32) -> Told
         requires now { self.old.doing ≡ DeviceStep.Second word head place }
@@ -115,6 +131,10 @@ impl SplitDevice {
         ensures chain { (k : ℕ) → result ≡ Told.Taken k → IsChain self.new.pieces.items }
     {
         let second = port.access(Op::Take, Access::Load(2 * place + 1));
+        if has_table(self.features.indirect, second) {
+            self.doing = DeviceStep::TableAddress(word, head, table_pieces(second));
+            return Told::Moved;
+        }
         self.pieces.push(piece_from(self.addr, second));
         if has_next(second) {
             self.doing = DeviceStep::Address(word, head, following(second));

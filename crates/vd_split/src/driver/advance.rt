@@ -23,6 +23,7 @@ impl SplitDriver {
         match self.doing {
             DriverStep::Idle => unreachable!(),
             DriverStep::Describe(at) => self.describe(port, at),
+            DriverStep::Table(at) => self.tabulate(port, at),
             DriverStep::Enter => self.enter(port),
             DriverStep::Publish => self.publish(port),
             DriverStep::Look => self.look(port),

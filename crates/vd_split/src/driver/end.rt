@@ -1,9 +1,12 @@
 //! What the driver's end offers its holder.
+ghost use Rattle.std.specs.Prelude.{◌≡◌};
 ghost use Rattle.vd_split.specs.DriverEnd.{split_driver};
 ghost use Rattle.vd_split.specs.DriverLaws.{driver_laws};
+ghost use Rattle.vd_split.specs.Parts.{first_store};
 
 use super::{DriverStep, SplitDriver};
 use crate::descriptors::place_at;
+use crate::tables::needed;
 use vd_layout::DriverEnd;
 use vd_model::{Chain, Features};
 use vd_ring::DriverAct;
@@ -39,7 +42,7 @@ impl DriverEnd for SplitDriver {
     }
 
     fn room(&self, c: &Chain) -> bool {
-        c.pieces().len() <= self.free.len()
+        needed(self.features.indirect, c.pieces().len()) <= self.free.len()
     }
 
     fn next_head(&self) -> u32 {
@@ -48,7 +51,7 @@ impl DriverEnd for SplitDriver {
 
     fn begin_offer(&mut self, c: &Chain) {
         self.pieces.fill(c.pieces());
-        self.doing = DriverStep::Describe(0);
+        self.doing = first_store(self.features.indirect, c.pieces().len());
     }
 
     fn begin_collect(&mut self) {
@@ -70,5 +73,17 @@ impl DriverEnd for SplitDriver {
     #[inline(always)]
     fn step<P: Port>(&mut self, port: &mut P) -> DriverAct {
         self.advance(port)
+    }
+}
+
+/// The first step of the offer of a chain of so many pieces: two and more stand in a table where the ring has them.
+#[inline]
+fn first_store(indirect: bool, pieces: usize) -> DriverStep
+    ensures { result ≡ first_store indirect pieces }
+{
+    if indirect && pieces > 1 {
+        DriverStep::Table(0)
+    } else {
+        DriverStep::Describe(0)
     }
 }

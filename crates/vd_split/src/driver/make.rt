@@ -3,7 +3,7 @@ ghost use Rattle.std.specs.Prelude.{◌≡◌, ◌<◌, ◌≤◌, ◌+◌, leng
 ghost use Rattle.vd_ring.specs.Fresh.{fresh_driver};
 ghost use Rattle.vd_ring.specs.History.{upto};
 ghost use Rattle.vd_ring.specs.declared.frame.Frame.{Frame};
-ghost use Rattle.vd_split_ring.specs.SplitWords.{IsLawful, IsBuilt, width};
+ghost use Rattle.vd_split_ring.specs.SplitWords.{IsLawful, width};
 ghost use Rattle.vd_split.specs.DriverEnd.{IsMadeFor, DriverStands};
 ghost use Rattle.vd_split.specs.Parts.{all_words};
 

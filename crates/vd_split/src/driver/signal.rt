@@ -17,6 +17,7 @@ use vd_ring::DriverAct;
 use vd_words::{Access, Op, Port};
 
 /// Whether an event word by this rule asks for a signal for the range `old` to `new - 1`.
+#[inline]
 fn rings(rule: EventRule, old: u64, new: u64, event: u16) -> bool
     requires some { old < new }
     requires near { new - old ≤ reach rule }
@@ -29,6 +30,7 @@ fn rings(rule: EventRule, old: u64, new: u64, event: u16) -> bool
 }
 
 /// Whether this event word asks for one.
+#[inline]
 pub(crate) fn wanted(event_idx: bool, old: u64, new: u64, event: u16) -> bool
     requires some { old < new }
     requires near { new - old ≤ 32768 }
@@ -42,6 +44,7 @@ pub(crate) fn wanted(event_idx: bool, old: u64, new: u64, event: u16) -> bool
 }
 
 /// Whether the loaded word with the device's event word asks for one.
+#[inline]
 fn asks(event_idx: bool, old: u64, new: u64, word: u64) -> bool
     requires some { old < new }
     requires near { new - old ≤ 32768 }

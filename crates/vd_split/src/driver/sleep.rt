@@ -126,8 +126,8 @@ impl SplitDriver {
     {
         let word = set_lane16(self.area[0], 0, 1);
         port.access(op, Access::Store(2 * self.size, word));
-        self.area[0] = word;
         self.armed = false;
+        self.area[0] = word;
         self.doing = DriverStep::Idle;
         DriverAct::Awake
     }

@@ -1,31 +1,26 @@
 //! The chains of the tests, each made of its number.
 use vd_model::{Chain, Piece};
 
-/// How many pieces chain number `k` has, 1 to 4.
-pub fn pieces_of(size: u32, k: u32) -> u32 {
-    let n = mixed(k) & 3;
-    if size == 2 {
-        (n & 1).wrapping_add(1)
-    } else {
-        n.wrapping_add(1)
-    }
+/// How many pieces chain number `k` has, 1 to `most`, a power of two.
+pub fn pieces_of(most: u32, k: u32) -> u32 {
+    (mixed(k) & most.wrapping_sub(1)).wrapping_add(1)
 }
 
 /// Piece `i` of chain number `k`.
-pub fn piece_of(size: u32, k: u32, i: u32) -> Piece {
+pub fn piece_of(most: u32, k: u32, i: u32) -> Piece {
     let x = mixed(k.wrapping_mul(4).wrapping_add(i));
     Piece {
         addr: (x as u64) << 20,
         len: (x & 0xffff).wrapping_add(1),
-        write: i >= mixed(k) & 7 || (i.wrapping_add(1) == pieces_of(size, k) && x & 1 == 1),
+        write: i >= mixed(k) & 7 || (i.wrapping_add(1) == pieces_of(most, k) && x & 1 == 1),
     }
 }
 
 /// Chain number `k`.
-pub fn chain_of(size: u32, k: u32) -> Chain {
-    let mut c = Chain::new(piece_of(size, k, 0));
-    for i in 1..pieces_of(size, k) {
-        let _ = c.push(piece_of(size, k, i));
+pub fn chain_of(most: u32, k: u32) -> Chain {
+    let mut c = Chain::new(piece_of(most, k, 0));
+    for i in 1..pieces_of(most, k) {
+        let _ = c.push(piece_of(most, k, i));
     }
     c
 }

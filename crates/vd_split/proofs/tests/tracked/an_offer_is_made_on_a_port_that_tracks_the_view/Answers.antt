@@ -10,7 +10,7 @@ begin_offer-requires-clause-may g c = (start_driver 4, c.in_ok-driver.ensures.dr
 
 pub finish_driver-requires-clause-own : goal.finish_driver-requires-clause-own
 finish_driver-requires-clause-own g c =
-    let can : CanMake split_layout 4 plain_features = record { lawful = refl; direct = refl } in (
+    let can : CanMake split_layout 4 plain_features = record { lawful = refl } in (
       start_driver 4,
       c.begin_offer.ensures.stands (start_driver 4) (c.in_ok-driver.ensures.drives (start_frame 4) (made 4)) (may_start 4 _ c.new-chain.result c.new-chain.ensures c.pieces.ensures.lawful (search rules) (search rules)),
       own_tracked _ (λ (p : Tracked). p.size) (λ (p : Tracked). p.words.words) (λ (p : Tracked). p.log.items) (λ p op a m. m) (λ p q op a r m. m.1) _ (start_driver 4)
