@@ -8,4 +8,5 @@ pub record Reserved (X : Type 0) : Type 0 where
   pub room : ℕ
 
 abbrev pub reserved_code : {X : Type 0} → Coded X → Coded (Reserved X)
-reserved_code {X} c = code_by (List X × ℕ) (coded× (coded_list c) coded_ℕ) (λ e. (e.items, e.room)) (λ p. record { items = p.0; room = p.1 }) (λ _. refl)
+reserved_code {X} c = code_by (List X × ℕ)
+    (coded× (coded_list c) coded_ℕ) (λ e. (e.items, e.room)) (λ p. record { items = p.0; room = p.1 }) (λ _. refl)

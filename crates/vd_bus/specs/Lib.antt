@@ -3,3 +3,5 @@ pub mod Entries
 pub mod Device
 pub mod Scripts
 pub mod Guest
+pub mod Pace
+pub mod Acts

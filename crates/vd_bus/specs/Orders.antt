@@ -22,9 +22,9 @@ pub record Terms : Type 0 where
 abbrev pub mode_of : ℕ → Mode
 mode_of ring = if nat_lt ring 16 then Pass else Shadow
 
--- the order is for a data queue
-abbrev pub IsData : Terms → Type 0
-IsData t = t.queue ≢ 15
+-- the number of a data queue: the control queue's is 15
+abbrev pub IsData : ℕ → Type 0
+IsData queue = queue ≢ 15
 
 -- a control ring is the control queue's
 abbrev pub FitsQueue : Terms → Frame → Type 0

@@ -1,12 +1,10 @@
 //! What a device of a queue is.
-ghost use Rattle.std.specs.Prelude.{◌≡◌, ◌≢◌, ℕ, ◌<◌, ◌≤◌, ◌+◌, ◌^◌, ◌↔◌, None, IsTrue, length, List, MatchResult, OnOk};
+ghost use Rattle.std.specs.Prelude.{◌≡◌, ◌≢◌, ℕ, ◌<◌, ◌≤◌, ◌+◌, ◌^◌, ◌↔◌, None, IsTrue, length, List, MatchResult, OnOk, OnErr};
 ghost use Rattle.std.specs.Option.{option_copied};
 ghost use Rattle.vd_ring.specs.declared.device.DeviceView.{DeviceView};
-ghost use Rattle.vd_ring.specs.declared.driver.DriverView.{DriverView};
-ghost use Rattle.vd_words.specs.Own.{IsOwn};
 ghost use Rattle.vd_layout.specs.Device.{IsStill};
 ghost use Rattle.vd_bus.specs.Orders.{IsData};
-ghost use Rattle.vd_bus.specs.Device.{DeviceParty, IsLawfulDeviceParty, IsUnchanged, IsAttach, IsRefused, IsDeviceAccess, IsDevicePhaseFrom, IsSuspend, IsReset};
+ghost use Rattle.vd_bus.specs.Device.{DeviceParty, IsLawfulDeviceParty, IsUnchanged, IsAttach, IsRefused, IsSuspend, IsReset, OwnsAsDevice, MakesDeviceAccess};
 
 use crate::journal::Journal;
 use crate::order::Order;
@@ -15,10 +13,13 @@ use vd_control::Settings;
 use vd_layout::{Layout, Move};
 use vd_words::Port;
 
-/// By what a device is attached.
-#[derive(Drop)]
+/// By what a device is attached: what it needs of its order, and where it stood then.
+#[derive(Copy, Clone)]
 pub struct Attached {
-    pub order: Order,
+    /// The queue's number.
+    pub queue: u32,
+    /// How many chains are begun under the order.
+    pub count: u32,
     /// How many chains it had begun before.
     pub at: u32,
     /// How many chains were taken on the ring before.
@@ -39,7 +40,8 @@ pub trait Device<L: Layout>: Drop {
 
     ghost party: { DeviceParty Self Self.Carried };
 
-    /// Makes room in the journal for so many events and chains. At most `window` chains are held at a time.
+    /// Makes room in the journal for so many events and chains, and sets the window: at most so many chains are to be held at
+    /// a time.
     fn reserve(
         &mut self,
         alloc: Global,
@@ -50,6 +52,8 @@ pub trait Device<L: Layout>: Drop {
         requires free { party.attached self.old ≡ None }
         requires window { (1 ≤ window) × (window ≤ 64) }
         ensures same { IsUnchanged party self.old self.new }
+        ensures window { OnOk result (party.window self.new ≡ window) }
+        ensures err { OnErr result (party.window self.new ≡ party.window self.old) }
         ensures room { OnOk result ((events ≤ party.event_room self.new) × (chains ≤ party.chain_room self.new)) };
 
     /// Attaches the device to a ring, with the settings of the control queue's device, or the default where there is none.
@@ -61,25 +65,22 @@ pub trait Device<L: Layout>: Drop {
         control: Option<&Self>,
     ) -> Result<(), Refused<L>>
         requires free { party.attached self.old ≡ None }
-        requires data { IsData order.now }
+        requires data { IsData order.now.queue }
         requires events { 2 ≤ party.event_room self.old }
         requires chains { order.now.count ≤ party.chain_room self.old }
         requires few { length (party.begun self.old) + order.now.count < 2 ^ 32 }
         requires still { IsStill L.Device.device end }
         requires base { L.Device.device.base end ≡ order.now.base.0 }
-        ensures { MatchResult result (λ _. IsAttach L.Device.device party order.now (option_copied control.entry) end self.old self.new) (λ r. (r.end ≡ end) × IsRefused party self.old self.new) };
+        ensures { MatchResult
+            result
+            (λ _. IsAttach L.Device.device party order.now (option_copied control.entry) end self.old self.new)
+            (λ r. (r.end ≡ end) × IsRefused party self.old self.new) };
 
     /// Makes one access of the ring's words.
     fn step<P: Port>(&mut self, port: &mut P) -> Move
         requires live { ¬ (party.is_done self.old) }
-        requires own { (w : DeviceView) × party.holds self.old w × IsOwn P.port L.Device.device.side port.old w }
-        ensures { (w : DeviceView) → party.holds self.old w → IsOwn P.port L.Device.device.side port.old w → IsDeviceAccess P.port L.Device.device party port.old port.new w self.old self.new result };
-
-    /// Makes whole operations over the plain words of its ring, until it is done or finds no further chain.
-    fn phase<P: Port>(&mut self, port: &mut P)
-        requires live { ¬ (party.is_done self.old) }
-        requires own { (ws : List ℕ) × (v : DriverView) × (w : DeviceView) × P.port.plain port.old ws × L.layout.ring ws v w × party.holds self.old w × (P.port.ring port.old ≡ v.frame.ring) }
-        ensures { IsDevicePhaseFrom P.port L.Device.device L.layout party port.old port.new self.old self.new };
+        requires own { OwnsAsDevice P.port L.Device.device party port.old self.old }
+        ensures { MakesDeviceAccess P.port L.Device.device party port.old port.new self.old self.new result };
 
     /// Whether all chains of its order were begun and given, and its end rests.
     fn done(&self) -> bool
@@ -90,6 +91,14 @@ pub trait Device<L: Layout>: Drop {
         requires done { party.is_done self.old }
         requires held { (w : DeviceView) × party.holds self.old w }
         ensures { IsSuspend L.Device.device party self.old self.new result };
+
+    /// How many of its steps did not answer Looked. It stays at the last u64.
+    fn accesses(&self) -> u64
+        ensures { result ≡ party.accesses self.now };
+
+    /// How many of its hearings ended with Awake. It stays at the last u64.
+    fn heard(&self) -> u64
+        ensures { result ≡ party.heard self.now };
 
     /// Sets the settings to the default.
     fn reset(&mut self)

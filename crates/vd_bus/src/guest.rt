@@ -1,11 +1,9 @@
 //! What a guest of a queue is.
 ghost use Rattle.std.specs.Prelude.{◌≡◌, ℕ, ◌↔◌, None, Some, [], IsTrue, List, OnOk, OnErr};
-ghost use Rattle.vd_ring.specs.declared.device.DeviceView.{DeviceView};
 ghost use Rattle.vd_ring.specs.declared.driver.DriverView.{DriverView};
-ghost use Rattle.vd_words.specs.Own.{IsOwn};
 ghost use Rattle.vd_layout.specs.Begun.{DriverOp};
 ghost use Rattle.vd_bus.specs.Scripts.{IsScript};
-ghost use Rattle.vd_bus.specs.Guest.{GuestParty, IsLawfulGuestParty, IsBoot, IsGuestAccess, IsGuestPhaseFrom, IsHalt};
+ghost use Rattle.vd_bus.specs.Guest.{GuestParty, IsLawfulGuestParty, IsBoot, IsHalt, HoldsNone, OwnsAsGuest, MakesGuestAccess};
 
 use std::alloc::{AllocError, Global};
 use vd_layout::{Layout, Move};
@@ -25,7 +23,8 @@ pub trait Guest<L: Layout>: Drop {
         ensures err { OnErr result (party.script self.new ≡ None) }
         ensures offered { party.offered self.new ≡ party.offered self.old }
         ensures returned { party.returned self.new ≡ party.returned self.old }
-        ensures free { (v : DriverView) → ¬ (party.holds self.new v) };
+        ensures counts { (party.accesses self.new ≡ party.accesses self.old) × (party.heard self.new ≡ party.heard self.old) }
+        ensures free { HoldsNone party self.new };
 
     /// Takes over the driver's end of a fresh ring.
     fn boot(&mut self, end: L::Driver)
@@ -37,14 +36,8 @@ pub trait Guest<L: Layout>: Drop {
     /// Makes one access of the ring's words.
     fn step<P: Port>(&mut self, port: &mut P) -> Move
         requires live { ¬ (party.is_done self.old) }
-        requires own { (v : DriverView) × party.holds self.old v × IsOwn P.port L.Driver.driver.side port.old v }
-        ensures { (v : DriverView) → party.holds self.old v → IsOwn P.port L.Driver.driver.side port.old v → IsGuestAccess P.port L.Driver.driver party port.old port.new v self.old self.new result };
-
-    /// Makes whole operations over the plain words of its ring, until it is done or can neither offer nor collect.
-    fn phase<P: Port>(&mut self, port: &mut P)
-        requires live { ¬ (party.is_done self.old) }
-        requires own { (ws : List ℕ) × (v : DriverView) × (w : DeviceView) × P.port.plain port.old ws × L.layout.ring ws v w × party.holds self.old v × (P.port.ring port.old ≡ v.frame.ring) }
-        ensures { IsGuestPhaseFrom P.port L.Driver.driver L.layout party port.old port.new self.old self.new };
+        requires own { OwnsAsGuest P.port L.Driver.driver party port.old self.old }
+        ensures { MakesGuestAccess P.port L.Driver.driver party port.old port.new self.old self.new result };
 
     /// Whether all chains of the script were offered and returned, and the end is idle.
     fn done(&self) -> bool
@@ -59,6 +52,14 @@ pub trait Guest<L: Layout>: Drop {
     /// How many chains were offered.
     fn offered(&self) -> u32
         ensures { result ≡ party.offered self.now };
+
+    /// How many of its steps did not answer Looked. It stays at the last u64.
+    fn accesses(&self) -> u64
+        ensures { result ≡ party.accesses self.now };
+
+    /// How many of its hearings ended with Awake. It stays at the last u64.
+    fn heard(&self) -> u64
+        ensures { result ≡ party.heard self.now };
 
     /// What came back, in order.
     fn returned(&self) -> &[Return]

@@ -50,21 +50,6 @@ impl Order {
         }
     }
 
-    /// The same order again. It takes no memory.
-    pub fn copy(&self) -> Order
-        ensures { result ≡ self.now }
-    {
-        Order {
-            queue: self.queue,
-            ring: self.ring,
-            base: self.base,
-            count: self.count,
-            size: self.size,
-            features: self.features,
-            map: self.map.copy(),
-        }
-    }
-
     /// The queue's number: a data queue's is below 8, the control queue's is 15.
     pub fn queue(&self) -> u32
         ensures { result ≡ self.now.queue }

@@ -21,7 +21,7 @@ use Rattle.vd_ring.specs.Frames.{Fits, limit}
 use Rattle.vd_ring.specs.History.{takes, gives, heads, running, running_size, taken_head, numbers, occurs, IsWhole}
 use Rattle.vd_ring.specs.Control.{IsControlChain}
 use Rattle.vd_ring.specs.ControlLaws.{DeviceControls, HasOwnHead}
-use Rattle.vd_ring.specs.Looks.{DeviceLooks}
+use Rattle.vd_ring.specs.Looks.{DeviceLooks, DeviceStays}
 use Rattle.vd_layout.specs.Control.{ControlWords}
 use Rattle.vd_layout.specs.Pairs.{WereGiven}
 use Rattle.vd_layout.specs.Begun.{DeviceOp, DevicePublished, DeviceGoesOn, DeviceMayWake, IsDeviceOp}
@@ -130,6 +130,8 @@ pub record IsLawfulDevice {E : Type 0} (m : DeviceModel E) : Type 0 where
   pub stays_unarmed : (v : DeviceView) (op : Op) (a : Access) (r : ℕ) → op ≢ Arm → v.armed ≡ None → (m.side.after v op a r).armed ≡ None
   -- when a look finds nothing, and when an arming or a hearing ends asleep or awake
   pub looks : DeviceLooks m.side m.act m.shows
+  -- what stays from one access to the next: armed, asleep, shown
+  pub stays : DeviceStays m.side m.act m.shows
   -- each chain taken runs or is given, and only once; the heads of those that run differ
   pub runs : (e : E) (v : DeviceView) → m.stands e v → Runs v.frame v.done
   -- when a command word may be loaded, and an ack stored, and the view after it

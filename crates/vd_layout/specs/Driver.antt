@@ -20,7 +20,7 @@ use Rattle.vd_ring.specs.Frames.{Fits, limit}
 use Rattle.vd_ring.specs.History.{offers, open_size, head, next_head}
 use Rattle.vd_ring.specs.Control.{IsControlChain}
 use Rattle.vd_ring.specs.ControlLaws.{DriverControls}
-use Rattle.vd_ring.specs.Looks.{DriverLooks}
+use Rattle.vd_ring.specs.Looks.{DriverLooks, DriverStays}
 use Rattle.vd_ring.specs.Places.{Places}
 use Rattle.vd_layout.specs.Control.{ControlWords}
 use Rattle.vd_layout.specs.Pairs.{WereCollected}
@@ -99,6 +99,8 @@ pub record IsLawfulDriver {E : Type 0} (m : DriverModel E) : Type 0 where
   pub stays_unarmed : (v : DriverView) (op : Op) (a : Access) (r : ℕ) → op ≢ Arm → v.armed ≡ None → (m.side.after v op a r).armed ≡ None
   -- when a look finds nothing, and when an arming or a hearing ends asleep or awake
   pub looks : DriverLooks m.side m.act m.shows
+  -- what stays from one access to the next: armed, asleep, shown
+  pub stays : DriverStays m.side m.act m.shows
   -- each place is free or held by one open chain; each chain offered is open or collected, and only once
   pub places : (e : E) (v : DriverView) → m.stands e v → Places v.frame v.done
   -- when a command word may be stored, and an ack loaded, and the view after it

@@ -258,7 +258,7 @@ fn names_the_first_broken_rule(rt: HostRuntime) -> Result<(), Fail> {
             MachineFault::M7,
         ),
         (
-            "layout = \"split\"\nsize = 4\nfeatures = [\"in_order\", \"event_idx\"]\nregions = [{ addr = 4096, size = 8192 }]\nqueues = [[\"r4096+10 w8192+64\"]]\n",
+            "layout = \"split\"\nsize = 4\nfeatures = [\"in_order\", \"indirect\"]\nregions = [{ addr = 4096, size = 8192 }]\nqueues = [[\"r4096+10 w8192+64\"]]\n",
             MachineFault::M7,
         ),
         (

@@ -5,7 +5,8 @@ use Rattle.std.proofs.lemmas.List.{drop-append-le, length_push}
 use Rattle.vd_bus.specs.declared.event.Event.{Event}
 use Rattle.vd_bus.specs.declared.event.Event.TheVariants.{Attach, Suspend, Reset}
 use Rattle.vd_models.specs.declared.refusal.Refusal.{Refusal}
-use Rattle.vd_models.specs.Faulty.{attaches, asked, refused, was_refused}
+use Rattle.vd_bus.specs.Pace.{attaches}
+use Rattle.vd_models.specs.Faulty.{asked, refused, was_refused}
 
 attaches_push : (es : List Event) (e : Event) → attaches (es ++ e ∷ []) ≡ attaches es + attaches (e ∷ [])
 attaches_push [] e = omega arith

@@ -17,8 +17,8 @@ use Rattle.vd_ring.proofs.HeldPlaces.{numbers_push}
 use Rattle.vd_layout.specs.Device.{MayGive}
 use Rattle.vd_bus.specs.declared.device.Attached.{Attached}
 use Rattle.vd_bus.specs.Device.{IsServing, IsJournalled, IsBegun, chains_of, lens_of}
-use Rattle.vd_models.specs.declared.serving.Held.{Held}
-use Rattle.vd_models.specs.Serving.{HaveLens, given_len, IsHeld, next_held, rest_held, held_numbers, begun_of, held_of}
+use Rattle.vd_models.specs.declared.window.Held.{Held}
+use Rattle.vd_models.specs.Holding.{HaveLens, given_len, IsHeld, next_held, rest_held, held_numbers, begun_of, held_of}
 use Rattle.vd_models.proofs.Lists.{next_is, All-rest_held}
 
 -- ---- the journal
@@ -51,7 +51,7 @@ now_journalled bs b by s v =
       len = ap (λ zs. slice_get zs (length (takes s) - by.from + by.at)) (lens_more bs b) ∙ ap (λ j. slice_get (lens_of bs ++ b.len ∷ []) j) e ∙ get_last (lens_of bs) b.len;
     }
 
-pub serving_taken : (bs : List Begun) (by : Attached) (s : List DeviceDone) (c : List Piece) (h : ℕ) → length bs < by.at + by.order.count → IsServing bs by s → IsServing (bs ++ begun_of c ∷ []) by (Take c h ∷ s)
+pub serving_taken : (bs : List Begun) (by : Attached) (s : List DeviceDone) (c : List Piece) (h : ℕ) → length bs < by.at + by.count → IsServing bs by s → IsServing (bs ++ begun_of c ∷ []) by (Take c h ∷ s)
 serving_taken bs by s c h more v =
     let b : Begun = begun_of c in
     let low : by.from ≤ length (takes s) = omega (arith, v.as_many, v.after) in

@@ -1,11 +1,11 @@
 pub mod Lists
 pub mod Holding
 pub mod Stages
+pub mod Going
 pub mod Turns
-pub mod Phases
 pub mod Parties
 pub mod Scripts
+pub mod GuestGoing
 pub mod Drives
-pub mod DrivePhases
 pub mod GuestParties
 pub mod Faults

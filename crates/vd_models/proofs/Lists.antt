@@ -11,8 +11,8 @@ use Rattle.vd_model.specs.declared.chain.Piece.{Piece}
 use Rattle.vd_model.specs.Chains.{total, readable, readable_len}
 use Rattle.vd_ring.specs.History.{without, occurs}
 use Rattle.vd_ring.proofs.Counts.{one_same, occurs_push}
-use Rattle.vd_models.specs.declared.serving.Held.{Held}
-use Rattle.vd_models.specs.Serving.{next_held, rest_held, held_numbers}
+use Rattle.vd_models.specs.declared.window.Held.{Held}
+use Rattle.vd_models.specs.Holding.{next_held, rest_held, held_numbers}
 
 -- ---- prefixes
 

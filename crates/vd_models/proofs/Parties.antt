@@ -1,10 +1,11 @@
 -- From what a model device holds to what its calls do.
-use Rattle.std.proofs.Common.{◌≡◌, ◌↔◌, ℕ, ◌+◌, ◌<◌, ◌≤◌, ◌==◌, Bool, true, false, Option, Some, None, Result, Ok, Err, is_err, OnOk, List, [], length, nat_lt, if◌then◌else◌, refl, sym, ◌∙◌, ap, subst, arith, inl, inr}
+use Rattle.std.proofs.Common.{◌≡◌, ◌↔◌, ℕ, ◌+◌, ◌-◌, ◌*◌, ◌<◌, ◌≤◌, ◌==◌, Bool, true, false, Option, Some, None, Result, Ok, Err, is_err, OnOk, List, [], ◌∷◌, ◌++◌, length, min, nat_lt, if◌then◌else◌, refl, sym, ◌∙◌, ap, subst, arith, inl, inr}
 use Rattle.std.specs.List.{All}
 use Rattle.std.proofs.lemmas.Bool.{cases_eq, cases_lt, eq-eqb, ne_eqb}
 use Rattle.std.proofs.lemmas.List.{drop_all, length-map}
 use Rattle.std.proofs.lemmas.List.Elements.{All-nil}
 use Rattle.vd_model.specs.declared.record.Begun.{Begun}
+use Rattle.vd_words.specs.Model.{PortModel}
 use Rattle.vd_ring.specs.declared.device.DeviceDone.{DeviceDone}
 use Rattle.vd_ring.specs.declared.device.DeviceView.{DeviceView}
 use Rattle.vd_ring.specs.declared.frame.Used.{Used}
@@ -15,55 +16,112 @@ use Rattle.vd_layout.specs.declared.moves.Move.TheVariants as move
 use Rattle.vd_layout.specs.Begun.{DeviceOp}
 use Rattle.vd_layout.specs.Device.{DeviceModel, IsLawfulDevice, IsStill}
 use Rattle.vd_bus.specs.declared.device.Attached.{Attached}
+use Rattle.vd_bus.specs.declared.event.Event.{Event}
+use Rattle.vd_bus.specs.declared.event.Event.TheVariants.{Attach, Suspend, Reset}
 use Rattle.vd_bus.specs.declared.journal.Journal.{Journal}
-use Rattle.vd_bus.specs.Device.{IsJournalled, IsBegun, chains_of}
+use Rattle.vd_bus.specs.Device.{IsJournalled, IsBegun, chains_of, gave}
 use Rattle.vd_bus.specs.Entries.{Reserved}
+use Rattle.vd_bus.specs.Pace.{last_count, raised, worked, attaches, KeepsPace}
 use Rattle.circular_buffer.specs.Buffer.{Buffer}
-use Rattle.vd_models.specs.declared.serving.Held.{Held}
+use Rattle.vd_models.specs.declared.counts.Counts.{Counts}
+use Rattle.vd_models.specs.declared.counts.Turn.{Turn}
+use Rattle.vd_models.specs.declared.counts.Turn.TheVariants.{Worked, Woke, Slept}
+use Rattle.vd_models.specs.declared.serving.Session.{Session}
 use Rattle.vd_models.specs.declared.serving.Stage.{Stage}
 use Rattle.vd_models.specs.declared.serving.Stage.TheVariants as stage
-use Rattle.vd_models.specs.Serving.{HaveLens, capacity_of, Holds, Serves, Opens, IsHeld, State, state, held_numbers, is_done, move_of, journal_room, HasWindow}
+use Rattle.vd_models.specs.declared.window.Held.{Held}
+use Rattle.vd_models.specs.Counting.{counted, woke, move_of}
+use Rattle.vd_models.specs.Holding.{HaveLens, IsHeld, held_numbers, capacity_of, journal_room}
+use Rattle.vd_models.specs.Stages.{is_done, owes}
+use Rattle.vd_models.specs.Serving.{State, state, Serves, IsTurn, Holds, IsPaid, owes_at, attached_of, is_done_of, all_of}
+use Rattle.vd_models.proofs.Stages.{idle_small, window_most}
 
 some_same : {A : Type 0} (x y : A) (o : Option A) → o ≡ Some x → o ≡ Some y → x ≡ y
 some_same x y o p q = cc
 
 -- what it holds, by the names that the code has for it
-pub opened : {E : Type 0} (e : DeviceModel E) (end : Option E) (by : Option Attached) (held : Option (Buffer Held)) (st : Stage) (j : Journal) (w : DeviceView) (x : E) (b : Attached) (h : Buffer Held)
-    → Holds e end by held st j w → end ≡ Some x → by ≡ Some b → held ≡ Some h → Serves e b (state x st h j.begun) w
-opened e end by held st j w x b h o is_end is_by is_held =
-    subst (λ z. Serves e b (state z st h j.begun) w) (some_same o.is_end x end o.at_end is_end)
-    (subst (λ (z : Attached). Serves e z (state o.is_end st h j.begun) w) (some_same o.is_by b by o.at_by is_by)
-    (subst (λ (z : Buffer Held). Serves e o.is_by (state o.is_end st z j.begun) w) (some_same o.is_held h held o.at_held is_held) o.serves))
+pub record Opened {E : Type 0} (e : DeviceModel E) (s : Session E) (h : Buffer Held) (j : Journal) (c : Counts) (w : DeviceView) : Type 0 where
+  pub serves : Serves e (state s h j.begun) w
+  pub paid : IsPaid c (owes_at e (state s h j.begun) w) (length j.begun.items + gave s.by w + attaches j.events.items)
 
-pub not_done : (st : Stage) → (is_done st ≡ true → ⊥) → is_done st ≡ false
-not_done stage.Taking n = refl
-not_done stage.Giving n = refl
-not_done stage.Done n = absurd (n refl)
+pub opened : {E : Type 0} (e : DeviceModel E) (o : Option (Session E)) (held : Option (Buffer Held)) (j : Journal) (c : Counts) (w : DeviceView) (s : Session E) (h : Buffer Held)
+    → Holds e o held j c w → o ≡ Some s → held ≡ Some h → Opened e s h j c w
+opened {E = E} e o held j c w s h x is_session is_held =
+    subst (λ (z : Session E). Opened e z h j c w) (some_same x.is_session s o x.at_session is_session)
+    (subst (λ (z : Buffer Held). Opened e x.is_session z j c w) (some_same x.is_held h held x.at_held is_held) (record { serves = x.serves; paid = x.paid }))
 
-pub finished : (done : Bool) → (move_of done ≡ move.Finished) ↔ (done ≡ true)
-finished true = ((λ e. refl), λ e. refl)
-finished false = ((λ e. absurd (cc)), λ e. absurd (cc))
+pub not_done : {E : Type 0} (o : Option (Session E)) (s : Session E) → o ≡ Some s → (is_done_of o ≡ true → ⊥) → is_done s.stage ≡ false
+not_done o s is n = at s.stage (λ d. n (ap is_done_of is ∙ d))
+  where
+    at : (st : Stage) → (is_done st ≡ true → ⊥) → is_done st ≡ false
+    at stage.Taking m = refl
+    at stage.Giving m = refl
+    at stage.Arming m = refl
+    at stage.Hearing m = refl
+    at stage.Done m = absurd (m refl)
 
-pub no_look : (done : Bool) → move_of done ≡ move.Looked → ⊥
-no_look true e = cc
-no_look false e = cc
+-- ---- the answer
+
+finished_is : (r : Move) (t : Turn) (d : Bool) → r ≡ move_of t d → (t ≡ Slept → d ≡ false) → (r ≡ move.Finished) ↔ (d ≡ true)
+finished_is r Slept d is n = ((λ e. absurd (cc (is, e))), λ e. absurd (cc (n refl, e)))
+finished_is r Worked true is n = ((λ e. refl), λ e. is)
+finished_is r Worked false is n = ((λ e. absurd (cc (is, e))), λ e. absurd (cc e))
+finished_is r Woke true is n = ((λ e. refl), λ e. is)
+finished_is r Woke false is n = ((λ e. absurd (cc (is, e))), λ e. absurd (cc e))
+
+pub finished_at : (r : Move) (t : Turn) (d b : Bool) → r ≡ move_of t d → d ≡ b → (t ≡ Slept → b ≡ false) → (r ≡ move.Finished) ↔ (b ≡ true)
+finished_at r t d b is same n = finished_is r t b (is ∙ ap (move_of t) same) n
+
+looked_is : (r : Move) (t : Turn) (d : Bool) → r ≡ move_of t d → (r ≡ move.Looked) ↔ (t ≡ Slept)
+looked_is r Slept d is = ((λ e. refl), λ e. is)
+looked_is r Worked true is = ((λ e. absurd (cc (is, e))), λ e. absurd (cc e))
+looked_is r Worked false is = ((λ e. absurd (cc (is, e))), λ e. absurd (cc e))
+looked_is r Woke true is = ((λ e. absurd (cc (is, e))), λ e. absurd (cc e))
+looked_is r Woke false is = ((λ e. absurd (cc (is, e))), λ e. absurd (cc e))
+
+pub looked_at : (r : Move) (t : Turn) (d : Bool) (A : Type 0) → r ≡ move_of t d → (t ≡ Slept) ↔ A → (r ≡ move.Looked) ↔ A
+looked_at r t d A is h = let l = looked_is r t d is in ((λ e. h.0 (l.0 e)), λ x. l.1 (h.1 x))
+
+pub counted_at : (r : Move) (t : Turn) (d : Bool) → r ≡ move_of t d → counted t ≡ worked r
+counted_at r Slept d is = sym (ap worked is)
+counted_at r Worked true is = sym (ap worked is)
+counted_at r Worked false is = sym (ap worked is)
+counted_at r Woke true is = sym (ap worked is)
+counted_at r Woke false is = sym (ap worked is)
+
+-- ---- the pace
+
+pub raised_small : (k n : ℕ) → raised k n < last_count → raised k n ≡ n + k
+raised_small k n h = omega arith
+
+pub pays : {P E : Type 0} (port : PortModel P) (e : DeviceModel E) (p q : P) (w : DeviceView) (x y : State E) (t : Turn) (by by' : Attached) (n : ℕ) (c d : Counts) → by' ≡ by → (h : IsTurn port e p q w x y t)
+    → d.accesses ≡ raised (counted t) c.accesses → d.heard ≡ raised (woke t) c.heard → by.from ≤ length (gives w.done) → by'.from ≤ length (gives (e.side.after w h.op h.access h.got).done)
+    → IsPaid c (owes_at e x w) (length x.begun.items + gave by w + n) → IsPaid d (owes_at e y (e.side.after w h.op h.access h.got)) (length y.begun.items + gave by' (e.side.after w h.op h.access h.got) + n)
+pays port e p q w x y t by by' n c d same h more heard low low' paid few fewer =
+    let a : d.accesses ≡ c.accesses + counted t = more ∙ raised_small (counted t) c.accesses (omega (arith, more)) in
+    let b : d.heard ≡ c.heard + woke t = heard ∙ raised_small (woke t) c.heard (omega (arith, heard)) in
+    omega (arith, a, b, low, low', ap (λ (z : Attached). z.at) same, ap (λ (z : Attached). z.from) same, h.paid, paid (omega (arith, a)) (omega (arith, b)))
+
+-- ---- an attach
 
 whole_spread : (s : List DeviceDone) → running s ≡ [] → length (takes s) ≡ length (gives s) → IsWhole s → (k : ℕ) → occurs k (running s) + occurs k (numbers (gives s)) ≡ (if nat_lt k (length (takes s)) then 1 else 0)
 whole_spread s none even whole k = elim (cases_lt k (length (gives s))) [
   | inl a ↦ omega (arith, ap (occurs k) none, whole k a, one_below k (length (takes s)) (omega arith))
   | inr a ↦ (
       let rest = occurs_rest (length (gives s)) k (numbers (gives s)) a (λ j b. omega (arith, whole j b)) in
-      omega (arith, ap (occurs k) none, rest, Rattle.std.proofs.lemmas.List.length-map (gives s) (λ (u : Used). u.number), one_above k (length (takes s)) (omega arith))
+      omega (arith, ap (occurs k) none, rest, length-map (gives s) (λ (u : Used). u.number), one_above k (length (takes s)) (omega arith))
       )
 ]
 
 -- an end that was resumed, with an empty window
-pub starts : {E : Type 0} (e : DeviceModel E) (law : IsLawfulDevice e) (end end' : E) (by : Attached) (held : Buffer Held) (begun : Reserved Begun) (w : DeviceView)
-    → e.stands end w → IsStill e end → e.stands end' w → e.begun end' ≡ DeviceOp.idle → e.resting end' ≡ false → by.at ≡ length begun.items → by.from ≡ length (takes w.done) → held.items ≡ [] → 0 < held.capacity
-    → by.order.count ≤ begun.room → by.at + by.order.count < 4294967296 → HaveLens begun.items → Serves e by (state end' stage.Taking held begun) w
-starts e law end end' by held begun w stands still stands' idle awake is_at is_from none some room small lens =
+pub starts : {E : Type 0} (e : DeviceModel E) (law : IsLawfulDevice e) (end : E) (s : Session E) (held : Buffer Held) (begun : Reserved Begun) (w : DeviceView)
+    → s.stage ≡ stage.Taking → e.stands end w → IsStill e end → e.stands s.end w → e.begun s.end ≡ DeviceOp.idle → e.resting s.end ≡ false → s.by.at ≡ length begun.items → s.by.from ≡ length (takes w.done) → held.items ≡ [] → 0 < held.capacity
+    → s.by.count ≤ begun.room → all_of s.by < 4294967296 → HaveLens begun.items → Serves e (state s held begun) w
+starts e law end s held begun w taking stands still stands' idle awake is_at is_from none some room small lens =
     let h = law.whole end w stands still in
-    record {
+    let by = s.by in
+    let in_order = w.frame.features.in_order in
+    let at : Serves e (record { end = s.end; by = by; stage = stage.Taking; held = held; begun = begun }) w = record {
       stands = stands';
       serving = record {
         as_many = omega arith;
@@ -81,14 +139,34 @@ starts e law end end' by held begun w stands still stands' idle awake is_at is_f
         noted = All-nil (λ (y : Held). IsJournalled begun.items by.at by.from (entry y.number y.len));
         order = λ o j d below. absurd (omega arith);
       };
-      stage = subst (λ o. Rattle.vd_models.specs.Serving.StageIs stage.Taking o w.frame.features.in_order held.items (length begun.items) (by.at + by.order.count)) (sym idle) (inl none);
+      stage = subst (λ o. Rattle.vd_models.specs.Stages.StageIs stage.Taking o in_order held.items (length begun.items) (all_of by)) (sym idle) (inl none);
+      armed = law.unarmed end w stands still;
+      op = subst (λ o. Rattle.vd_models.specs.Stages.OpIs o w.doing w.shown (e.left s.end)) (sym idle) tt;
       rests = awake;
-      unarmed = law.unarmed end w stands still;
+      last = λ d. absurd (cc d);
       window = omega (arith, ap length none);
       room = omega arith;
       small = small;
       lens = lens;
-    }
+    } in
+    subst (λ (z : Stage). Serves e (record { end = s.end; by = by; stage = z; held = held; begun = begun }) w) (sym taking) at
+
+attaches_push : (es : List Event) (x : Event) → attaches (es ++ x ∷ []) ≡ attaches es + attaches (x ∷ [])
+attaches_push [] x = omega arith
+attaches_push (Attach at ring base mode settings map ∷ es) x = omega (arith, attaches_push es x)
+attaches_push (Suspend at base ∷ es) x = attaches_push es x
+attaches_push (Reset at ∷ es) x = attaches_push es x
+
+pub attaches_more : (es es' : List Event) (x : Event) → es' ≡ es ++ x ∷ [] → attaches es' ≡ attaches es + attaches (x ∷ [])
+attaches_more es es' x is = ap attaches is ∙ attaches_push es x
+
+-- it owes little when it is attached
+pub begins_paid : {E : Type 0} (e : DeviceModel E) (law : IsLawfulDevice e) (end : E) (s : Session E) (held : Buffer Held) (begun : Reserved Begun) (w : DeviceView) (c : Counts) (n n' : ℕ)
+    → e.stands end w → IsStill e end → e.begun s.end ≡ DeviceOp.idle → s.by.at ≡ length begun.items → s.by.from ≡ length (takes w.done) → n' ≡ n + 1
+    → KeepsPace c.accesses c.heard (length begun.items + length begun.items + c.heard + n) → IsPaid c (owes_at e (state s held begun) w) (length begun.items + gave s.by w + n')
+begins_paid e law end s held begun w c n n' stands still idle is_at is_from one paced few fewer =
+    let h = law.whole end w stands still in
+    omega (arith, paced few fewer, h.1, ap (λ o. owes s.stage o w.doing w.shown (e.left s.end)) idle, idle_small s.stage w.shown)
 
 -- ---- the room for events
 
@@ -109,34 +187,13 @@ room_some o b r is some = elim (cases_eq b.capacity 0) [
   | inr ne ↦ omega arith
 ]
 
-pub window_some : (st : Stage) (n capacity : ℕ) → HasWindow st n capacity → 0 < capacity
-window_some stage.Taking n capacity h = omega arith
-window_some stage.Giving n capacity h = h.1
-window_some stage.Done n capacity h = h.1
-
-pub finished_at : (r : Move) (d b : Bool) → r ≡ move_of d → d ≡ b → (r ≡ move.Finished) ↔ (b ≡ true)
-finished_at r d b is same = ((λ e. (finished b).0 (sym (is ∙ ap move_of same) ∙ e)), λ t. is ∙ ap move_of same ∙ (finished b).1 t)
-
-pub looked_at : (r : Move) (d : Bool) (A : Type 0) → r ≡ move_of d → (A → ⊥) → (r ≡ move.Looked) ↔ A
-looked_at r d A is never = ((λ e. absurd (no_look d (sym is ∙ e))), λ a. absurd (never a))
-
 pub ok_of : {T E : Type 0} (r : Result T E) (P : Type 0) → is_err r ≡ false → OnOk r P → P
 ok_of (Ok x) P ok h = h
 ok_of (Err x) P ok h = absurd (cc)
 
-pub same_by : (o : Option Attached) (a b : Attached) (n : ℕ) → o ≡ Some a → o ≡ Some b → n < a.at + a.order.count → n < b.at + b.order.count
-same_by o a b n p q h = subst (λ (z : Attached). n < z.at + z.order.count) (some_same a b o p q) h
-
--- ---- the window
-
-window_most : (st : Stage) (n capacity : ℕ) → HasWindow st n capacity → n ≤ capacity
-window_most stage.Taking n capacity h = omega arith
-window_most stage.Giving n capacity h = h.0
-window_most stage.Done n capacity h = h.0
-
 -- no more chains run than it has room for
-pub running_within : {E : Type 0} (e : DeviceModel E) (end : Option E) (by : Option Attached) (held : Option (Buffer Held)) (st : Stage) (j : Journal) (w : DeviceView) → Holds e end by held st j w → length (running w.done) ≤ capacity_of held
-running_within e end by held st j w h =
-    let most : length h.is_held.items ≤ h.is_held.capacity = window_most st (length h.is_held.items) h.is_held.capacity h.serves.window in
+pub running_within : {E : Type 0} (e : DeviceModel E) (o : Option (Session E)) (held : Option (Buffer Held)) (j : Journal) (c : Counts) (w : DeviceView) → Holds e o held j c w → length (running w.done) ≤ capacity_of held
+running_within e o held j c w h =
+    let most : length h.is_held.items ≤ h.is_held.capacity = window_most h.is_session.stage (length h.is_held.items) h.is_held.capacity h.serves.window in
     let many : length h.is_held.items ≡ length (running w.done) = sym (length-map h.is_held.items (λ (x : Held). x.number)) ∙ ap length h.serves.held.hand in
     omega (arith, most, many, ap capacity_of h.at_held)

@@ -1,125 +1,101 @@
 -- What a model guest holds from its boot on.
-use Rattle.std.specs.Prelude.{◌≡◌, ◌≢◌, ◌⊎◌, ℕ, ◌+◌, ◌-◌, ◌*◌, ◌<◌, ◌≤◌, Bool, true, false, Option, Some, None, List, [], length, map, take, drop, vec_capacity}
+use Rattle.std.specs.Prelude.{◌≡◌, ◌↔◌, ℕ, ◌+◌, ◌*◌, ◌<◌, ◌≤◌, Bool, true, false, Option, Some, None, List, [], length, map, take, drop, vec_capacity}
 use Rattle.std.specs.List.{All}
-use Rattle.vd_model.specs.declared.chain.Piece.{Piece}
 use Rattle.vd_model.specs.declared.record.Return.{Return}
 use Rattle.vd_model.specs.declared.record.Script.{Script}
 use Rattle.vd_words.specs.declared.access.Access.{Access}
 use Rattle.vd_words.specs.declared.access.Op.{Op}
 use Rattle.vd_words.specs.Model.{PortModel}
 use Rattle.vd_ring.specs.declared.act.DriverAct.TheVariants as act
-use Rattle.vd_ring.specs.declared.driver.DriverDone.{DriverDone}
-use Rattle.vd_ring.specs.declared.driver.DriverNow.TheVariants as now
 use Rattle.vd_ring.specs.declared.driver.DriverView.{DriverView}
-use Rattle.vd_ring.specs.declared.device.DeviceView.{DeviceView}
-use Rattle.vd_ring.specs.declared.frame.Frame.{Frame}
 use Rattle.vd_ring.specs.Frames.{Fits}
-use Rattle.vd_ring.specs.History.{offers, collects, open_at, gives}
-use Rattle.vd_layout.specs.Begun.{DriverOp}
-use Rattle.vd_layout.specs.Driver.{DriverModel, HasRoom}
-use Rattle.vd_layout.specs.Layout.{LayoutModel}
+use Rattle.vd_ring.specs.History.{offers, collects, open_at}
+use Rattle.vd_ring.specs.Sleep.{driver_woken}
+use Rattle.vd_layout.specs.Driver.{DriverModel}
+use Rattle.vd_bus.specs.Acts.{IsOneActMore}
 use Rattle.vd_bus.specs.Guest.{HasDriven, as_return}
+use Rattle.vd_bus.specs.Pace.{last_count}
 use Rattle.vd_bus.specs.Scripts.{chains, run_count}
+use Rattle.vd_models.specs.declared.counts.Counts.{Counts}
+use Rattle.vd_models.specs.declared.counts.Turn.{Turn}
+use Rattle.vd_models.specs.declared.counts.Turn.TheVariants.{Slept}
 use Rattle.vd_models.specs.declared.cursor.Cursor.{Cursor}
-use Rattle.vd_models.specs.declared.guest.Loaded.{Loaded}
-use Rattle.vd_models.specs.declared.serving.Turn.{Turn}
-use Rattle.vd_models.specs.declared.serving.Turn.TheVariants.{Worked, Waits}
+use Rattle.vd_models.specs.declared.driving.Loaded.{Loaded}
+use Rattle.vd_models.specs.declared.driving.GuestStage.{GuestStage}
+use Rattle.vd_models.specs.Counting.{counted, woke}
 use Rattle.vd_models.specs.Cursors.{left_at, next_at, IsSettled}
+use Rattle.vd_models.specs.GuestStages.{BegunIs, DoneIs, ArmedIs, OpIs, is_done, owes}
 
--- the end; the place in the script; how many chains were offered; what came back, and for how many there is room; whether all is
--- done; whether it collects until nothing is shown, before it offers again
-pub record Drive (D : Type 0) : Type 0 where
+-- the end; the script and the place in it; how many chains were offered; what came back; and what comes next
+pub record Driven (D : Type 0) : Type 0 where
   pub end : D
+  pub script : Script
   pub at : Cursor
   pub offered : ℕ
   pub returned : List Return
-  pub capacity : ℕ
-  pub done : Bool
-  pub turn : Bool
+  pub stage : GuestStage
 
-abbrev pub drive : {D : Type 0} → D → Cursor → ℕ → List Return → ℕ → Bool → Bool → Drive D
-drive e a o r n d u = record { end = e; at = a; offered = o; returned = r; capacity = n; done = d; turn = u }
+abbrev pub drive : {D : Type 0} → D → Loaded → Driven D
+drive e x = record { end = e; script = x.script; at = x.at; offered = x.offered; returned = x.returned.items; stage = x.stage }
 
--- the next chain, if one is left, has no room
-abbrev pub IsStuck : Option (List Piece) → Frame → List DriverDone → Type 0
-IsStuck None f o = Unit {0}
-IsStuck (Some c) f o = HasRoom f o c → ⊥
-
--- what the operation that was begun goes with: a collect is begun out of turn only where nothing can be offered
-abbrev pub BegunIs : Bool → DriverOp → Option (List Piece) → Frame → List DriverDone → Type 0
-BegunIs u DriverOp.idle next f o = Unit {0}
-BegunIs u DriverOp.signal next f o = Unit {0}
-BegunIs u (DriverOp.offer c) next f o = next ≡ Some c
-BegunIs u DriverOp.collect next f o = u ≡ false → IsStuck next f o
-BegunIs u _ next f o = ⊥
-
-abbrev pub DoneIs : Bool → DriverOp → ℕ → ℕ → Type 0
-DoneIs true op returned all = (op ≡ DriverOp.idle) × (returned ≡ all)
-DoneIs false op returned all = returned < all
-
-pub record Drives {D : Type 0} (d : DriverModel D) (s : Script) (x : Drive D) (v : DriverView) : Type 0 where
+pub record Drives {D : Type 0} (d : DriverModel D) (x : Driven D) (v : DriverView) : Type 0 where
   pub stands : d.stands x.end v
-  pub settled : IsSettled s.runs x.at
-  pub left : left_at s.runs x.at ≡ drop x.offered (chains s)
-  pub offers : Rattle.vd_ring.specs.History.offers v.done ≡ take x.offered (chains s)
-  pub some : x.offered ≤ length (chains s)
+  pub settled : IsSettled x.script.runs x.at
+  pub left : left_at x.script.runs x.at ≡ drop x.offered (chains x.script)
+  pub offers : Rattle.vd_ring.specs.History.offers v.done ≡ take x.offered (chains x.script)
+  pub some : x.offered ≤ length (chains x.script)
   pub returned : x.returned ≡ map as_return (collects v.done)
   pub count : length (Rattle.vd_ring.specs.History.offers v.done) ≡ length (collects v.done) + length (open_at v.done)
-  pub begun : BegunIs x.turn (d.begun x.end) (next_at s.runs x.at) v.frame v.done
-  -- it never arms
-  pub unarmed : v.armed ≡ None
-  pub done : DoneIs x.done (d.begun x.end) (length x.returned) (length (chains s))
-  pub room : length (chains s) ≤ x.capacity
-  pub few : length (chains s) ≤ 4000000000
-  pub fits : All (Fits v.frame) (chains s)
-  pub control : (s.runs ≡ [] → ⊥) → v.frame.control ≡ false
+  pub begun : BegunIs x.stage (d.begun x.end) (next_at x.script.runs x.at) v.frame v.done
+  pub done : DoneIs x.stage (length x.returned) (length (chains x.script))
+  pub armed : ArmedIs x.stage (d.begun x.end) v.doing v.armed
+  pub op : OpIs (d.begun x.end) v.doing v.shown (d.left x.end)
+  pub few : length (chains x.script) ≤ 4000000000
+  pub fits : All (Fits v.frame) (chains x.script)
+  pub control : (x.script.runs ≡ [] → ⊥) → v.frame.control ≡ false
 
-pub record DriveOpens {D : Type 0} (d : DriverModel D) (s : Script) (x : Drive D) (v : DriverView) : Type 0 where
-  pub drives : Drives d s x v
-  pub live : x.done ≡ false
+-- the script's chains are counted, and there is room for all that will come back
+pub record IsPlan (x : Loaded) : Type 0 where
+  pub total : x.total ≡ run_count x.script.runs
+  pub few : x.total ≤ 4000000000
+  pub room : x.total ≤ vec_capacity x.returned
 
--- ---- how much there is to do
+-- and it isn't done
+pub record DriveOpens {D : Type 0} (d : DriverModel D) (x : Driven D) (v : DriverView) : Type 0 where
+  pub drives : Drives d x v
+  pub live : is_done x.stage ≡ false
 
-abbrev pub drive_weight : DriverOp → ℕ → ℕ
-drive_weight DriverOp.idle n = 45
-drive_weight DriverOp.signal n = 46 + n
-drive_weight _ n = n
+abbrev pub owes_at : {D : Type 0} → DriverModel D → Driven D → DriverView → ℕ
+owes_at d x v = owes x.stage (d.begun x.end) v.doing v.shown (d.left x.end)
 
-abbrev pub turn_left : Bool → ℕ
-turn_left true = 1
-turn_left false = 0
+-- an operation is in progress, which owes no more accesses than the guest did before it was begun
+pub record BeginsDrive {D : Type 0} (d : DriverModel D) (v : DriverView) (x y : Driven D) : Type 0 where
+  pub opens : DriveOpens d y v
+  pub owes : owes_at d y v ≤ owes_at d x v
 
-abbrev pub drive_left : {D : Type 0} → DriverModel D → Script → Drive D → ℕ
-drive_left d s x = 50 * (4 * (length (chains s) - x.offered) + (x.offered - length x.returned) + turn_left x.turn) + drive_weight (d.begun x.end) (d.left x.end)
+-- what a step keeps
+pub record IsKept (x y : Loaded) : Type 0 where
+  pub plan : IsPlan y
+  pub script : y.script ≡ x.script
+  pub booted : y.booted ≡ x.booted
 
--- one access of the port was made, which was next in the view, and the guest drives on at the view after it
-pub record IsDriveTurn {P D : Type 0} (port : PortModel P) (d : DriverModel D) (s : Script) (p q : P) (v : DriverView) (x y : Drive D) (answer : Turn) : Type 0 where
+-- one access of the port was made, which was next in the view, and the guest drives on at the view after it. It is paid for: by one
+-- that it owed, or by a chain offered or collected, or a bell heard
+pub record IsDriveTurn {P D : Type 0} (port : PortModel P) (d : DriverModel D) (p q : P) (v : DriverView) (x y : Driven D) (answer : Turn)
+    : Type 0 where
   pub op : Op
   pub access : Access
   pub got : ℕ
   pub was_next : d.side.next v op access
   pub moved : port.moves p op access got q
-  pub drives : Drives d s y (d.side.after v op access got)
+  pub drives : Drives d y (d.side.after v op access got)
   pub grows : HasDriven v (d.side.after v op access got)
-  pub looked : d.act v op access got ≢ act.Asleep
-  pub waits : answer ≡ Waits → (d.act v op access got ≡ act.Nothing) × (y.done ≡ false) × (d.begun y.end ≡ DriverOp.idle) × IsStuck (next_at s.runs y.at) (d.side.after v op access got).frame (d.side.after v op access got).done
-  pub nearer : answer ≡ Worked → drive_left d s y < drive_left d s x
-
--- turns so far over plain words, from the words and views with which they began, the device's view unchanged
-pub record DroveSoFar {P D : Type 0} (port : PortModel P) (d : DriverModel D) (l : LayoutModel) (s : Script) (p q : P) (v : DriverView) (w : DeviceView) (y : Drive D) : Type 0 where
-  pub words : List ℕ
-  pub view : DriverView
-  pub same : port.same p q
-  pub plain : port.plain q words
-  pub ring : l.ring words view w
-  pub drives : Drives d s y view
-  pub grows : HasDriven v view
-
--- until the guest is done, or waits
-pub record IsDrivenAll {P D : Type 0} (port : PortModel P) (d : DriverModel D) (l : LayoutModel) (s : Script) (p q : P) (v : DriverView) (w : DeviceView) (y : Drive D) : Type 0 where
-  pub so_far : DroveSoFar port d l s p q v w y
-  pub idle : so_far.view.doing ≡ now.Idle
-  pub ends : (y.done ≡ true) ⊎ ((collects so_far.view.done ≡ gives w.done) × (y.done ≡ false) × IsStuck (next_at s.runs y.at) so_far.view.frame so_far.view.done)
+  pub acts : IsOneActMore v.done (d.side.after v op access got).done
+  pub looked : (answer ≡ Slept) ↔ (d.act v op access got ≡ act.Asleep)
+  pub slept : answer ≡ Slept → is_done y.stage ≡ false
+  pub woken : woke answer ≡ driver_woken op (d.act v op access got)
+  pub paid : owes_at d y (d.side.after v op access got) + counted answer + 64 * (x.offered + length x.returned)
+      ≤ owes_at d x v + 64 * (y.offered + length y.returned + woke answer)
 
 -- ---- the guest
 
@@ -137,23 +113,37 @@ returned_of (Some x) = x.returned.items
 
 abbrev pub is_done_of : Option Loaded → Bool
 is_done_of None = false
-is_done_of (Some x) = x.done
+is_done_of (Some x) = is_done x.stage
 
--- the script's chains are counted, and there is room for all that will come back
-pub record IsPlan (x : Loaded) : Type 0 where
-  pub total : x.total ≡ run_count x.script.runs
-  pub few : x.total ≤ 4000000000
-  pub room : x.total ≤ vec_capacity x.returned
-
+-- it is loaded, and was not booted
 abbrev pub IsLoaded : Option Loaded → Type 0
 IsLoaded None = ⊥
-IsLoaded (Some x) = IsPlan x
+IsLoaded (Some x) = IsPlan x × (x.booted ≡ false)
+
+-- the accesses made and those owed are within the pace, for counts below the last
+abbrev pub IsPaid : Counts → ℕ → ℕ → Type 0
+IsPaid c owed did = c.accesses < last_count → c.heard < last_count → c.accesses + owed ≤ 64 * (did + c.heard + 1)
+
+abbrev pub booted_of : Option Loaded → Bool
+booted_of None = false
+booted_of (Some x) = x.booted
+
+-- a guest that was not booted has made no access
+abbrev pub IsFresh : Option Loaded → Counts → Type 0
+IsFresh x c = booted_of x ≡ false → c.accesses ≡ 0
+
+-- it keeps the pace
+abbrev pub Paces : Option Loaded → Counts → Type 0
+Paces x c = IsPaid c 0 (offered_of x + length (returned_of x))
 
 -- it is loaded, and its end stands for the view
-pub record GuestHolds {D : Type 0} (d : DriverModel D) (end : Option D) (loaded : Option Loaded) (v : DriverView) : Type 0 where
+pub record GuestHolds {D : Type 0} (d : DriverModel D) (end : Option D) (loaded : Option Loaded) (counts : Counts) (v : DriverView)
+    : Type 0 where
   pub is_end : D
   pub is_loaded : Loaded
   pub at_end : end ≡ Some is_end
   pub at_loaded : loaded ≡ Some is_loaded
   pub plan : IsPlan is_loaded
-  pub drives : Drives d is_loaded.script (drive is_end is_loaded.at is_loaded.offered is_loaded.returned.items (vec_capacity is_loaded.returned) is_loaded.done is_loaded.turn) v
+  pub booted : is_loaded.booted ≡ true
+  pub drives : Drives d (drive is_end is_loaded) v
+  pub paid : IsPaid counts (owes_at d (drive is_end is_loaded) v) (is_loaded.offered + length is_loaded.returned.items)

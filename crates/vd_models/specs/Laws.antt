@@ -1,44 +1,121 @@
 -- A model device's laws.
-use Rattle.std.specs.Prelude.{◌≡◌, ℕ, ◌+◌, Bool, true, Option, Some, IsSome, List, [], length, if◌then◌else◌}
+use Rattle.std.specs.Prelude.{◌≡◌, ◌≢◌, ℕ, ◌+◌, ◌*◌, ◌<◌, ◌≤◌, Bool, true, false, Option, Some, None, IsSome, List, [], length, if◌then◌else◌}
 use Rattle.std.proofs.Common.{refl, sym, ◌∙◌, ap, subst, arith}
 use Rattle.std.proofs.lemmas.Bool.{lt-ltb}
+use Rattle.vd_model.specs.declared.record.Begun.{Begun}
+use Rattle.vd_ring.specs.declared.device.DeviceDone.{DeviceDone}
+use Rattle.vd_ring.specs.declared.device.DeviceNow.{DeviceNow}
 use Rattle.vd_ring.specs.declared.device.DeviceView.{DeviceView}
+use Rattle.vd_ring.specs.declared.frame.Frame.{Frame}
 use Rattle.vd_ring.specs.History.{takes, gives, running, occurs, IsWhole}
 use Rattle.vd_layout.specs.Begun.{DeviceOp}
-use Rattle.vd_layout.specs.Device.{DeviceModel}
+use Rattle.vd_layout.specs.Device.{DeviceModel, IsLawfulDevice}
 use Rattle.vd_bus.specs.declared.device.Attached.{Attached}
+use Rattle.vd_bus.specs.declared.event.Event.{Event}
 use Rattle.vd_bus.specs.declared.journal.Journal.{Journal}
-use Rattle.vd_bus.specs.Device.{IsServing}
+use Rattle.vd_bus.specs.Device.{IsServing, HasServedAll, ArmsRightly, gave}
+use Rattle.vd_bus.specs.Pace.{KeepsPace, attaches}
 use Rattle.circular_buffer.specs.Buffer.{Buffer}
-use Rattle.vd_models.specs.declared.serving.Held.{Held}
+use Rattle.vd_models.specs.declared.counts.Counts.{Counts}
+use Rattle.vd_models.specs.declared.serving.Session.{Session}
 use Rattle.vd_models.specs.declared.serving.Stage.{Stage}
 use Rattle.vd_models.specs.declared.serving.Stage.TheVariants as stage
-use Rattle.vd_models.specs.Serving.{Holds, IsHeld, StageIs, is_done}
+use Rattle.vd_models.specs.declared.window.Held.{Held}
+use Rattle.vd_models.specs.Holding.{IsHeld}
+use Rattle.vd_models.specs.Stages.{StageIs, ArmedIs, is_done}
+use Rattle.vd_models.specs.Serving.{Holds, attached_of, is_done_of, all_of}
 
-pub at_done : (st : Stage) (op : DeviceOp) (io : Bool) (hs : List Held) (n all : ℕ) → is_done st ≡ true → StageIs st op io hs n all → (hs ≡ []) × (n ≡ all)
-at_done stage.Done op io hs n all d h = h
+at_done : (st : Stage) (op : DeviceOp) (io : Bool) (hs : List Held) (n all : ℕ) → is_done st ≡ true → StageIs st op io hs n all
+    → (op ≡ DeviceOp.idle) × (hs ≡ []) × (n ≡ all)
+at_done stage.Done DeviceOp.idle io hs n all d h = (refl, h.0, h.1)
+at_done stage.Done DeviceOp.signal io hs n all d h = absurd h
+at_done stage.Done DeviceOp.take io hs n all d h = absurd h
+at_done stage.Done (DeviceOp.give k l) io hs n all d h = absurd h
+at_done stage.Done DeviceOp.rest io hs n all d h = absurd h
+at_done stage.Done DeviceOp.arm io hs n all d h = absurd h
+at_done stage.Done DeviceOp.hear io hs n all d h = absurd h
+at_done stage.Done DeviceOp.disarm io hs n all d h = absurd h
 at_done stage.Taking op io hs n all d h = absurd (cc)
 at_done stage.Giving op io hs n all d h = absurd (cc)
+at_done stage.Arming op io hs n all d h = absurd (cc)
+at_done stage.Hearing op io hs n all d h = absurd (cc)
 
-some_same : {A : Type 0} (x y : A) (o : Option A) → o ≡ Some x → o ≡ Some y → x ≡ y
-some_same x y o p q = cc
-
-pub held_law : {E : Type 0} (e : DeviceModel E) (end : Option E) (by : Option Attached) (held : Option (Buffer Held)) (st : Stage) (j : Journal) (w : DeviceView) → Holds e end by held st j w → IsSome by
-held_law e end by held st j w h = subst (λ (o : Option Attached). IsSome o) (sym h.at_by) refl
-
-pub serves_law : {E : Type 0} (e : DeviceModel E) (end : Option E) (by : Option Attached) (held : Option (Buffer Held)) (st : Stage) (j : Journal) (w : DeviceView) (a : Attached) → Holds e end by held st j w → by ≡ Some a → IsServing j.begun.items a w.done
-serves_law e end by held st j w a h is = subst (λ b. IsServing j.begun.items b w.done) (some_same h.is_by a by h.at_by is) h.serves.serving
-
-whole : (begun : List Rattle.vd_model.specs.declared.record.Begun.Begun) (by : Attached) (f : Rattle.vd_ring.specs.declared.frame.Frame.Frame) (s : List Rattle.vd_ring.specs.declared.device.DeviceDone.DeviceDone) → IsHeld begun by [] f s → (running s ≡ []) × (length (takes s) ≡ length (gives s)) × IsWhole s
-whole begun by f s h =
-    let none : running s ≡ [] = sym h.hand in
-    let even : length (takes s) ≡ length (gives s) = omega (arith, h.as_many) in
+whole : (begun : List Begun) (by : Attached) (hs : List Held) (f : Frame) (s : List DeviceDone) → hs ≡ [] → IsHeld begun by hs f s
+    → (running s ≡ []) × (length (takes s) ≡ length (gives s)) × IsWhole s
+whole begun by hs f s empty h =
+    let none : running s ≡ [] = sym h.hand ∙ ap (λ (zs : List Held). Rattle.vd_models.specs.Holding.held_numbers zs) empty in
+    let even : length (takes s) ≡ length (gives s) = omega (arith, h.as_many, ap length empty) in
     (none, even, λ k below. omega (arith, h.spread k, ap (occurs k) none, ap {B = ℕ} (λ (b : Bool). if b then 1 else 0) (lt-ltb k (length (takes s)) (omega arith))))
 
-pub done_law : {E : Type 0} (e : DeviceModel E) (end : Option E) (by : Option Attached) (held : Option (Buffer Held)) (st : Stage) (j : Journal) (w : DeviceView) (a : Attached) → Holds e end by held st j w → by ≡ Some a → is_done st ≡ true
-    → (length j.begun.items ≡ a.at + a.order.count) × (running w.done ≡ []) × (length (takes w.done) ≡ length (gives w.done)) × IsWhole w.done
-done_law e end by held st j w a h is d =
-    let v = h.serves in
-    let f = at_done st (e.begun h.is_end) w.frame.features.in_order h.is_held.items (length j.begun.items) (h.is_by.at + h.is_by.order.count) d v.stage in
-    let g = whole j.begun.items h.is_by w.frame w.done (subst (λ (hs : List Held). IsHeld j.begun.items h.is_by hs w.frame w.done) f.0 v.held) in
-    (f.1 ∙ ap (λ (b : Attached). b.at + b.order.count) (some_same h.is_by a by h.at_by is), g.0, g.1, g.2)
+-- where an end is armed its device arms or hears
+arms : (st : Stage) (op : DeviceOp) (d : DeviceNow) (io : Bool) (hs : List Held) (n all t : ℕ) (o : Option ℕ) → o ≡ Some t → ArmedIs st op d o
+    → StageIs st op io hs n all → (hs ≡ []) × (n < all)
+arms stage.Hearing DeviceOp.idle d io hs n all t o is a h = h
+arms stage.Hearing DeviceOp.hear d io hs n all t o is a h = h
+arms stage.Hearing DeviceOp.signal d io hs n all t o is a h = absurd h
+arms stage.Hearing DeviceOp.take d io hs n all t o is a h = absurd h
+arms stage.Hearing (DeviceOp.give k l) d io hs n all t o is a h = absurd h
+arms stage.Hearing DeviceOp.rest d io hs n all t o is a h = absurd h
+arms stage.Hearing DeviceOp.arm d io hs n all t o is a h = absurd h
+arms stage.Hearing DeviceOp.disarm d io hs n all t o is a h = absurd h
+arms stage.Arming DeviceOp.idle d io hs n all t o is a h = h
+arms stage.Arming DeviceOp.arm d io hs n all t o is a h = h
+arms stage.Arming DeviceOp.hear d io hs n all t o is a h = absurd h
+arms stage.Arming DeviceOp.signal d io hs n all t o is a h = absurd h
+arms stage.Arming DeviceOp.take d io hs n all t o is a h = absurd h
+arms stage.Arming (DeviceOp.give k l) d io hs n all t o is a h = absurd h
+arms stage.Arming DeviceOp.rest d io hs n all t o is a h = absurd h
+arms stage.Arming DeviceOp.disarm d io hs n all t o is a h = absurd h
+arms stage.Taking op d io hs n all t o is a h = absurd (cc (is, a))
+arms stage.Giving op d io hs n all t o is a h = absurd (cc (is, a))
+arms stage.Done op d io hs n all t o is a h = absurd (cc (is, a))
+
+same_by : {E : Type 0} (o : Option (Session E)) (s : Session E) (a : Attached) → o ≡ Some s → attached_of o ≡ Some a → s.by ≡ a
+same_by o s a p q = some (sym (ap attached_of p) ∙ q)
+  where
+    some : Some s.by ≡ Some a → s.by ≡ a
+    some e = cc
+
+module _ {E : Type 0} (e : DeviceModel E) where
+  pub held_law : (o : Option (Session E)) (held : Option (Buffer Held)) (j : Journal) (c : Counts) (w : DeviceView) → Holds e o held j c w
+      → IsSome (attached_of o)
+  held_law o held j c w h = subst (λ (z : Option (Session E)). IsSome (attached_of z)) (sym h.at_session) refl
+
+  pub serves_law : (o : Option (Session E)) (held : Option (Buffer Held)) (j : Journal) (c : Counts) (w : DeviceView) (a : Attached)
+      → Holds e o held j c w → attached_of o ≡ Some a → IsServing j.begun.items a w.done
+  serves_law o held j c w a h is = subst (λ b. IsServing j.begun.items b w.done) (same_by o h.is_session a h.at_session is) h.serves.serving
+
+  pub done_law : (law : IsLawfulDevice e) (o : Option (Session E)) (held : Option (Buffer Held)) (j : Journal) (c : Counts) (w : DeviceView)
+      (a : Attached) → Holds e o held j c w → attached_of o ≡ Some a → is_done_of o ≡ true → HasServedAll (length j.begun.items) a w
+  done_law law o held j c w a h is d =
+      let v = h.serves in
+      let s : Session E = h.is_session in
+      let done : is_done s.stage ≡ true = sym (ap is_done_of h.at_session) ∙ d in
+      let f = at_done s.stage (e.begun s.end) w.frame.features.in_order h.is_held.items (length j.begun.items) (all_of s.by) done v.stage in
+      let g = whole j.begun.items s.by h.is_held.items w.frame w.done f.1 v.held in
+      let l = v.last done in
+      record {
+        all = f.2 ∙ ap all_of (same_by o s a h.at_session is);
+        none_runs = g.0;
+        as_many = g.1;
+        whole = g.2;
+        idle = law.at_rest s.end w v.stands f.0;
+        before = l.0;
+        rests = l.1;
+      }
+
+  pub armed_law : (o : Option (Session E)) (held : Option (Buffer Held)) (j : Journal) (c : Counts) (w : DeviceView) (a : Attached)
+      → Holds e o held j c w → attached_of o ≡ Some a → ArmsRightly (length j.begun.items) a w
+  armed_law o held j c w a h is t some =
+      let v = h.serves in
+      let s : Session E = h.is_session in
+      let f = arms s.stage (e.begun s.end) w.doing w.frame.features.in_order h.is_held.items (length j.begun.items) (all_of s.by) t w.armed some v.armed v.stage in
+      let g = whole j.begun.items s.by h.is_held.items w.frame w.done f.0 v.held in
+      (g.0, subst (λ (b : Attached). length j.begun.items < all_of b) (same_by o s a h.at_session is) f.1)
+
+  pub pace_law : (o : Option (Session E)) (held : Option (Buffer Held)) (j : Journal) (c : Counts) (w : DeviceView) (a : Attached)
+      → Holds e o held j c w → attached_of o ≡ Some a
+      → KeepsPace c.accesses c.heard (length j.begun.items + gave a w + c.heard + attaches j.events.items)
+  pace_law o held j c w a h is few fewer =
+      let paid = h.paid few fewer in
+      omega (arith, paid, ap (λ (b : Attached). gave b w) (same_by o h.is_session a h.at_session is))

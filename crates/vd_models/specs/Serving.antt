@@ -1,212 +1,129 @@
 -- What a model device holds while it is attached to a data queue's ring.
-use Rattle.std.specs.Prelude.{◌≡◌, ◌≢◌, ◌⊎◌, ◌↔◌, ℕ, zero, suc, ◌+◌, ◌-◌, ◌*◌, ◌<◌, ◌≤◌, ◌==◌, Bool, true, false, Option, Some, None, List, [], length, map, take, drop, slice_get, slice_index_or, nat_lt, min, if◌then◌else◌, IsTrue}
-use Rattle.std.specs.List.{All}
+use Rattle.std.specs.Prelude.{◌≡◌, ◌↔◌, ℕ, ◌+◌, ◌*◌, ◌<◌, ◌≤◌, Bool, true, false, Option, Some, None, List, [], ◌∷◌, length, IsTrue}
 use mathlib.Core.List.{IsPrefix}
-use Rattle.vd_model.specs.declared.chain.Piece.{Piece}
 use Rattle.vd_model.specs.declared.record.Begun.{Begun}
-use Rattle.vd_model.specs.Chains.{readable, writable}
 use Rattle.vd_words.specs.declared.access.Access.{Access}
 use Rattle.vd_words.specs.declared.access.Op.{Op}
 use Rattle.vd_words.specs.Model.{PortModel}
 use Rattle.vd_ring.specs.declared.act.DeviceAct.TheVariants as act
 use Rattle.vd_ring.specs.declared.device.DeviceDone.{DeviceDone}
-use Rattle.vd_ring.specs.declared.device.DeviceNow.TheVariants as now
+use Rattle.vd_ring.specs.declared.device.DeviceDone.TheVariants.{Rest}
 use Rattle.vd_ring.specs.declared.device.DeviceView.{DeviceView}
-use Rattle.vd_ring.specs.declared.driver.DriverView.{DriverView}
-use Rattle.vd_ring.specs.declared.frame.Frame.{Frame}
-use Rattle.vd_ring.specs.History.{entry, offers, takes, gives, running, numbers, occurs}
-use Rattle.vd_layout.specs.declared.moves.Move.{Move}
-use Rattle.vd_layout.specs.declared.moves.Move.TheVariants as move
-use Rattle.vd_layout.specs.Begun.{DeviceOp}
+use Rattle.vd_ring.specs.History.{gives}
+use Rattle.vd_ring.specs.Sleep.{device_woken}
 use Rattle.vd_layout.specs.Device.{DeviceModel}
-use Rattle.vd_layout.specs.Layout.{LayoutModel}
 use Rattle.vd_bus.specs.declared.device.Attached.{Attached}
+use Rattle.vd_bus.specs.declared.event.Event.{Event}
 use Rattle.vd_bus.specs.declared.journal.Journal.{Journal}
-use Rattle.vd_bus.specs.Device.{IsServing, IsJournalled, HasServed, chains_of, lens_of}
+use Rattle.vd_bus.specs.Acts.{IsOneActMore}
+use Rattle.vd_bus.specs.Device.{IsServing, HasServed, gave}
 use Rattle.vd_bus.specs.Entries.{Reserved}
-use Rattle.circular_buffer.specs.Buffer.{Buffer, last_item}
-use Rattle.vd_models.specs.declared.serving.Held.{Held}
+use Rattle.vd_bus.specs.Pace.{last_count, KeepsPace, attaches}
+use Rattle.circular_buffer.specs.Buffer.{Buffer}
+use Rattle.vd_models.specs.declared.counts.Counts.{Counts}
+use Rattle.vd_models.specs.declared.counts.Turn.{Turn}
+use Rattle.vd_models.specs.declared.counts.Turn.TheVariants.{Slept}
+use Rattle.vd_models.specs.declared.serving.Session.{Session}
 use Rattle.vd_models.specs.declared.serving.Stage.{Stage}
-use Rattle.vd_models.specs.declared.serving.Stage.TheVariants as stage
-use Rattle.vd_models.specs.declared.serving.Turn.{Turn}
-use Rattle.vd_models.specs.declared.serving.Turn.TheVariants.{Worked, Waits}
+use Rattle.vd_models.specs.declared.window.Held.{Held}
+use Rattle.vd_models.specs.Counting.{counted, woke}
+use Rattle.vd_models.specs.Holding.{IsHeld, HaveLens}
+use Rattle.vd_models.specs.Stages.{StageIs, HasWindow, ArmedIs, OpIs, is_done, owes}
 
--- the chain that is given next, and those that are left then
-abbrev pub next_held : Bool → List Held → Option Held
-next_held true hs = slice_get hs 0
-next_held false hs = last_item hs
-
-abbrev pub rest_held : Bool → List Held → List Held
-rest_held true hs = drop 1 hs
-rest_held false hs = take (length hs - 1) hs
-
-abbrev pub held_numbers : List Held → List ℕ
-held_numbers hs = map (λ h. h.number) hs
-
--- the end, what comes next, the chains held in the order in which they were begun, and the journal's chains
+-- the end, by what it is attached, what comes next, the chains held in the order in which they were begun, and the journal's chains
 pub record State (E : Type 0) : Type 0 where
   pub end : E
+  pub by : Attached
   pub stage : Stage
   pub held : Buffer Held
   pub begun : Reserved Begun
 
-abbrev pub state : {E : Type 0} → E → Stage → Buffer Held → Reserved Begun → State E
-state e s h b = record { end = e; stage = s; held = h; begun = b }
+abbrev pub state : {E : Type 0} → Session E → Buffer Held → Reserved Begun → State E
+state s h b = record { end = s.end; by = s.by; stage = s.stage; held = h; begun = b }
 
--- each chain taken runs or is given, and only once
-abbrev pub IsSpread : List DeviceDone → Type 0
-IsSpread s = (k : ℕ) → occurs k (running s) + occurs k (numbers (gives s)) ≡ (if nat_lt k (length (takes s)) then 1 else 0)
+-- how many chains are begun since the journal's first, once the order is fulfilled
+abbrev pub all_of : Attached → ℕ
+all_of by = by.at + by.count
 
--- the chains held are those that run, each with the length that the journal has for it; under IN_ORDER they are the next to give
-pub record IsHeld (begun : List Begun) (by : Attached) (hs : List Held) (f : Frame) (s : List DeviceDone) : Type 0 where
-  pub spread : IsSpread s
-  pub hand : held_numbers hs ≡ running s
-  pub as_many : length (takes s) ≡ length (gives s) + length hs
-  pub noted : All (λ h. IsJournalled begun by.at by.from (entry h.number h.len)) hs
-  pub order : f.features.in_order ≡ true → (j : ℕ) (d : Held) → j < length hs → (slice_index_or hs j d).number ≡ length (gives s) + j
-
--- what is held, and what is still to begin, at each stage and operation
-abbrev pub StageIs : Stage → DeviceOp → Bool → List Held → ℕ → ℕ → Type 0
-StageIs stage.Taking DeviceOp.idle io hs n all = (hs ≡ []) ⊎ (n < all)
-StageIs stage.Taking DeviceOp.signal io hs n all = (hs ≡ []) ⊎ (n < all)
-StageIs stage.Taking DeviceOp.take io hs n all = n < all
-StageIs stage.Taking DeviceOp.rest io hs n all = (hs ≡ []) × (n ≡ all)
-StageIs stage.Giving DeviceOp.idle io hs n all = 0 < length hs
-StageIs stage.Giving DeviceOp.signal io hs n all = 0 < length hs
-StageIs stage.Giving (DeviceOp.give k len) io hs n all = next_held io hs ≡ Some (record { number = k; len = len })
-StageIs stage.Done op io hs n all = (hs ≡ []) × (n ≡ all)
-StageIs _ _ io hs n all = ⊥
-
-abbrev pub is_done : Stage → Bool
-is_done stage.Done = true
-is_done _ = false
-
--- the window has room while chains are taken
-abbrev pub HasWindow : Stage → ℕ → ℕ → Type 0
-HasWindow stage.Taking n capacity = n < capacity
-HasWindow _ n capacity = (n ≤ capacity) × (0 < capacity)
-
--- the length that a chain is given with: the smaller of what may be read and written
-abbrev pub given_len : List Piece → ℕ
-given_len c = min (readable c) (writable c)
-
--- each chain that was begun has that length
-abbrev pub HaveLens : List Begun → Type 0
-HaveLens bs = lens_of bs ≡ map given_len (chains_of bs)
-
-pub record Serves {E : Type 0} (e : DeviceModel E) (by : Attached) (x : State E) (w : DeviceView) : Type 0 where
+pub record Serves {E : Type 0} (e : DeviceModel E) (x : State E) (w : DeviceView) : Type 0 where
   pub stands : e.stands x.end w
-  pub serving : IsServing x.begun.items by w.done
-  pub held : IsHeld x.begun.items by x.held.items w.frame w.done
-  pub stage : StageIs x.stage (e.begun x.end) w.frame.features.in_order x.held.items (length x.begun.items) (by.at + by.order.count)
+  pub serving : IsServing x.begun.items x.by w.done
+  pub held : IsHeld x.begun.items x.by x.held.items w.frame w.done
+  pub stage : StageIs x.stage (e.begun x.end) w.frame.features.in_order x.held.items (length x.begun.items) (all_of x.by)
+  pub armed : ArmedIs x.stage (e.begun x.end) w.doing w.armed
+  pub op : OpIs (e.begun x.end) w.doing w.shown (e.left x.end)
   pub rests : e.resting x.end ≡ is_done x.stage
-  -- it never arms
-  pub unarmed : w.armed ≡ None
+  -- where it is done its last act was the rest
+  pub last : is_done x.stage ≡ true → (before : List DeviceDone) × (w.done ≡ Rest ∷ before)
   pub window : HasWindow x.stage (length x.held.items) x.held.capacity
-  pub room : by.at + by.order.count ≤ length x.begun.items + x.begun.room
-  pub small : by.at + by.order.count < 4294967296
+  pub room : all_of x.by ≤ length x.begun.items + x.begun.room
+  pub small : all_of x.by < 4294967296
   pub lens : HaveLens x.begun.items
 
 -- and it isn't done
-pub record Opens {E : Type 0} (e : DeviceModel E) (by : Attached) (x : State E) (w : DeviceView) : Type 0 where
-  pub serves : Serves e by x w
+pub record Opens {E : Type 0} (e : DeviceModel E) (x : State E) (w : DeviceView) : Type 0 where
+  pub serves : Serves e x w
   pub live : is_done x.stage ≡ false
 
 abbrev pub HasMore : Bool → Attached → List Begun → Type 0
-HasMore more by begun = IsTrue more ↔ (length begun < by.at + by.order.count)
+HasMore more by begun = IsTrue more ↔ (length begun < all_of by)
 
-abbrev pub begun_of : List Piece → Begun
-begun_of c = record { chain = c; len = given_len c; bytes = record { items = [] } }
+abbrev pub owes_at : {E : Type 0} → DeviceModel E → State E → DeviceView → ℕ
+owes_at e x w = owes x.stage (e.begun x.end) w.doing w.shown (e.left x.end)
 
-abbrev pub held_of : ℕ → List Piece → Held
-held_of k c = record { number = k; len = given_len c }
+-- an operation is in progress, which owes no more accesses than the device did before it was begun
+pub record BeginsNext {E : Type 0} (e : DeviceModel E) (w : DeviceView) (x y : State E) : Type 0 where
+  pub opens : Opens e y w
+  pub owes : owes_at e y w ≤ owes_at e x w
 
--- what comes after a take: once the window is full, or all chains are begun, they are given; and after a give
-abbrev pub taken_stage : Bool → Stage
-taken_stage true = stage.Giving
-taken_stage false = stage.Taking
-
-abbrev pub given_stage : Bool → Stage
-given_stage true = stage.Taking
-given_stage false = stage.Giving
-
--- ---- how much there is to do: of the operation in progress, and in all
-
-abbrev pub weight : DeviceOp → ℕ → ℕ
-weight DeviceOp.idle n = 45
-weight DeviceOp.signal n = 46 + n
-weight _ n = n
-
-abbrev pub some_held : ℕ → ℕ
-some_held zero = 0
-some_held (suc n) = 1
-
-abbrev pub operations : Stage → ℕ → ℕ → ℕ
-operations stage.Taking more held = 4 * more + held + some_held held + 1
-operations stage.Giving more held = 4 * more + held + 1
-operations stage.Done more held = 0
-
-abbrev pub work_left : {E : Type 0} → DeviceModel E → Attached → State E → ℕ
-work_left e by x = 50 * operations x.stage (by.at + by.order.count - length x.begun.items) (length x.held.items) + weight (e.begun x.end) (e.left x.end)
-
--- one access of the port was made, which was next in the view, and the device serves on at the view after it
-pub record IsTurn {P E : Type 0} (port : PortModel P) (e : DeviceModel E) (by : Attached) (p q : P) (w : DeviceView) (x y : State E) (answer : Turn) : Type 0 where
+-- one access of the port was made, which was next in the view, and the device serves on at the view after it. It is paid for: by one
+-- that it owed, or by a chain begun or given, or a bell heard
+pub record IsTurn {P E : Type 0} (port : PortModel P) (e : DeviceModel E) (p q : P) (w : DeviceView) (x y : State E) (answer : Turn)
+    : Type 0 where
   pub op : Op
   pub access : Access
   pub got : ℕ
   pub was_next : e.side.next w op access
   pub moved : port.moves p op access got q
-  pub serves : Serves e by y (e.side.after w op access got)
+  pub serves : Serves e y (e.side.after w op access got)
   pub grows : HasServed w (e.side.after w op access got)
+  pub acts : IsOneActMore w.done (e.side.after w op access got).done
   pub begun : IsPrefix x.begun.items y.begun.items
   pub room : x.begun.room + length x.begun.items ≤ y.begun.room + length y.begun.items
   pub capacity : y.held.capacity ≡ x.held.capacity
-  pub looked : e.act w op access got ≢ act.Asleep
+  pub looked : (answer ≡ Slept) ↔ (e.act w op access got ≡ act.Asleep)
+  pub slept : answer ≡ Slept → is_done y.stage ≡ false
+  pub woken : woke answer ≡ device_woken op (e.act w op access got)
   pub rested : e.act w op access got ≡ act.Rested → is_done y.stage ≡ true
-  pub waits : answer ≡ Waits → (e.act w op access got ≡ act.Nothing) × (y.held.items ≡ []) × (length y.begun.items < by.at + by.order.count) × (is_done y.stage ≡ false) × (e.begun y.end ≡ DeviceOp.idle)
-  pub nearer : answer ≡ Worked → work_left e by y < work_left e by x
-
--- turns so far over plain words, from the words and views with which they began, the driver's view unchanged
-pub record SoFar {P E : Type 0} (port : PortModel P) (e : DeviceModel E) (l : LayoutModel) (by : Attached) (p q : P) (v : DriverView) (w : DeviceView) (x y : State E) : Type 0 where
-  pub words : List ℕ
-  pub view : DeviceView
-  pub same : port.same p q
-  pub plain : port.plain q words
-  pub ring : l.ring words v view
-  pub serves : Serves e by y view
-  pub grows : HasServed w view
-  pub begun : IsPrefix x.begun.items y.begun.items
-  pub room : x.begun.room + length x.begun.items ≤ y.begun.room + length y.begun.items
-  pub capacity : y.held.capacity ≡ x.held.capacity
-
--- until the device is done, or waits: all that was offered is taken and given
-pub record IsServedAll {P E : Type 0} (port : PortModel P) (e : DeviceModel E) (l : LayoutModel) (by : Attached) (p q : P) (v : DriverView) (w : DeviceView) (x y : State E) : Type 0 where
-  pub so_far : SoFar port e l by p q v w x y
-  pub idle : so_far.view.doing ≡ now.Idle
-  pub given : y.held.items ≡ []
-  pub ends : (is_done y.stage ≡ true) ⊎ ((takes so_far.view.done ≡ offers v.done) × (length y.begun.items < by.at + by.order.count))
+  pub paid : owes_at e y (e.side.after w op access got) + counted answer + 64 * (length x.begun.items + length (gives w.done))
+      ≤ owes_at e x w + 64 * (length y.begun.items + length (gives (e.side.after w op access got).done) + woke answer)
 
 -- ---- the device
 
-abbrev pub capacity_of : Option (Buffer Held) → ℕ
-capacity_of None = 0
-capacity_of (Some b) = b.capacity
-
-abbrev pub journal_room : Option (Buffer Held) → ℕ → ℕ
-journal_room None room = 0
-journal_room (Some b) room = if b.capacity == 0 then 0 else room
+-- the accesses made and those owed are within the pace, for counts below the last
+abbrev pub IsPaid : Counts → ℕ → ℕ → Type 0
+IsPaid c owed did = c.accesses < last_count → c.heard < last_count → c.accesses + owed ≤ 64 * (did + c.heard)
 
 -- it is attached, and its end stands for the view
-pub record Holds {E : Type 0} (e : DeviceModel E) (end : Option E) (by : Option Attached) (held : Option (Buffer Held)) (st : Stage) (journal : Journal) (w : DeviceView) : Type 0 where
-  pub is_end : E
-  pub is_by : Attached
+pub record Holds {E : Type 0} (e : DeviceModel E) (session : Option (Session E)) (held : Option (Buffer Held)) (journal : Journal)
+    (counts : Counts) (w : DeviceView) : Type 0 where
+  pub is_session : Session E
   pub is_held : Buffer Held
-  pub at_end : end ≡ Some is_end
-  pub at_by : by ≡ Some is_by
+  pub at_session : session ≡ Some is_session
   pub at_held : held ≡ Some is_held
-  pub serves : Serves e is_by (state is_end st is_held journal.begun) w
+  pub serves : Serves e (state is_session is_held journal.begun) w
+  pub paid : IsPaid counts (owes_at e (state is_session is_held journal.begun) w)
+      (length journal.begun.items + gave is_session.by w + attaches journal.events.items)
   pub event : 0 < journal.events.room
 
-abbrev pub move_of : Bool → Move
-move_of true = move.Finished
-move_of false = move.Worked
+abbrev pub attached_of : {E : Type 0} → Option (Session E) → Option Attached
+attached_of None = None
+attached_of (Some s) = Some s.by
+
+abbrev pub is_done_of : {E : Type 0} → Option (Session E) → Bool
+is_done_of None = false
+is_done_of (Some s) = is_done s.stage
+
+-- while it isn't attached it keeps the pace: all that it began it gave
+abbrev pub PacesFree : {E : Type 0} → Option (Session E) → Counts → List Begun → List Event → Type 0
+PacesFree o c bs es = attached_of o ≡ None → KeepsPace c.accesses c.heard (length bs + length bs + c.heard + attaches es)

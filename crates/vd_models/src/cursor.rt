@@ -8,7 +8,7 @@ use vd_model::{Chain, Run};
 
 /// The run that is offered next, and how many of its chains are offered.
 #[derive(Copy, Clone)]
-pub(crate) struct Cursor {
+pub struct Cursor {
     pub run: usize,
     pub used: u32,
 }

@@ -1,13 +1,16 @@
-//! A device that takes chains up to its window, and then gives all of them back.
-ghost use Rattle.std.specs.Prelude.{◌≡◌, ◌<◌, ◌≤◌, ◌^◌, ◌↔◌, IsTrue, true, false, None, [], length, min, OnOk};
+//! A device that takes chains up to its window, and then gives all of them back; where none is there it sleeps.
+ghost use Rattle.std.specs.Prelude.{◌≡◌, ◌≤◌, true, false, None, [], length, min, OnOk, OnErr};
 ghost use Rattle.vd_ring.specs.declared.device.DeviceView.{DeviceView};
 ghost use Rattle.vd_ring.specs.History.{running};
 ghost use Rattle.vd_control.specs.Settings.{default};
-ghost use Rattle.vd_bus.specs.Device.{IsUnchanged};
-ghost use Rattle.vd_models.specs.Serving.{Holds, HaveLens, capacity_of, journal_room, is_done, move_of};
-ghost use Rattle.vd_models.specs.Laws.{held_law, serves_law, done_law};
+ghost use Rattle.vd_models.specs.Unused.{IsUnused, IsWindow};
+ghost use Rattle.vd_models.specs.Holding.{HaveLens, capacity_of, journal_room};
+ghost use Rattle.vd_models.specs.Serving.{Holds, PacesFree, attached_of, is_done_of};
+ghost use Rattle.vd_models.specs.Laws.{held_law, serves_law, done_law, armed_law, pace_law};
 
-use crate::serving::{Held, Stage, serve, serve_all};
+use crate::counts::{Counts, move_of};
+use crate::serving::{Session, Stage, serve};
+use crate::window::Held;
 use circular_buffer::HeapCircularBuffer;
 use std::alloc::{AllocError, Global};
 use vd_bus::{Attached, Device, Event, Journal, Order, Refused};
@@ -16,85 +19,74 @@ use vd_layout::{DeviceEnd, Layout, Move};
 use vd_words::Port;
 
 /// A device that takes while fewer chains than its window are held. Where the window is full, all are begun, or no further
-/// chain is there, it gives all that it holds: the one begun last first, under IN_ORDER the one begun first. It writes as
-/// many bytes as it may read and write.
+/// chain is there, it gives all that it holds: the one begun last first, under IN_ORDER the one begun first. Where none is there
+/// and none is held it arms its end, and hears its bell until it wakes. It writes as many bytes as it may read and write.
 #[derive(Drop)]
 pub struct ModelDevice<L: Layout> {
-    end: Option<L::Device>,
-    by: Option<Attached>,
-    stage: Stage,
+    session: Option<Session<L::Device>>,
     held: Option<HeapCircularBuffer<Held>>,
     window: u32,
     // the most chains that it holds, whatever its window
     most: u32,
     settings: Settings,
     journal: Journal,
+    counts: Counts,
     ghost some: { 1 ≤ most },
     ghost sized: { capacity_of held ≤ min window most },
     ghost lens: { HaveLens journal.begun.items },
+    ghost paced: { PacesFree session counts journal.begun.items journal.events.items },
 }
 
 impl<L: Layout> ModelDevice<L> {
     /// An unattached device with an empty journal. It takes no memory.
     pub fn new(alloc: Global, window: u32) -> ModelDevice<L>
-        requires { (1 ≤ window) × (window ≤ 64) }
-        ensures free { ⟦<ModelDevice<L> as Device<L>>⟧.party.attached result ≡ None }
-        ensures events { ⟦<ModelDevice<L> as Device<L>>⟧.party.events result ≡ [] }
-        ensures begun { ⟦<ModelDevice<L> as Device<L>>⟧.party.begun result ≡ [] }
-        ensures settings { ⟦<ModelDevice<L> as Device<L>>⟧.party.settings result ≡ default }
+        requires { IsWindow window }
+        ensures unused { IsUnused ⟦<ModelDevice<L> as Device<L>>⟧.party result }
         ensures faults { ⟦<ModelDevice<L> as Device<L>>⟧.party.faults result ≡ 0 }
-        ensures window { result.window ≡ window }
+        ensures window { ⟦<ModelDevice<L> as Device<L>>⟧.party.window result ≡ window }
+        ensures most { ⟦<ModelDevice<L> as Device<L>>⟧.party.carried result ≡ 64 }
     {
         ModelDevice::with_most(alloc, window, 64)
     }
 
-    /// The same, which holds at most so many chains, whatever its window.
-    pub(crate) fn with_most(alloc: Global, window: u32, most: u32) -> ModelDevice<L>
+    /// The same, which holds one chain at a time, whatever its window.
+    pub fn single(alloc: Global, window: u32) -> ModelDevice<L>
+        requires { IsWindow window }
+        ensures unused { IsUnused ⟦<ModelDevice<L> as Device<L>>⟧.party result }
+        ensures faults { ⟦<ModelDevice<L> as Device<L>>⟧.party.faults result ≡ 0 }
+        ensures window { ⟦<ModelDevice<L> as Device<L>>⟧.party.window result ≡ window }
+        ensures most { ⟦<ModelDevice<L> as Device<L>>⟧.party.carried result ≡ 1 }
+    {
+        ModelDevice::with_most(alloc, window, 1)
+    }
+
+    fn with_most(alloc: Global, window: u32, most: u32) -> ModelDevice<L>
         requires { 1 ≤ most }
-        ensures free { ⟦<ModelDevice<L> as Device<L>>⟧.party.attached result ≡ None }
-        ensures events { ⟦<ModelDevice<L> as Device<L>>⟧.party.events result ≡ [] }
-        ensures begun { ⟦<ModelDevice<L> as Device<L>>⟧.party.begun result ≡ [] }
-        ensures settings { ⟦<ModelDevice<L> as Device<L>>⟧.party.settings result ≡ default }
+        ensures unused { IsUnused ⟦<ModelDevice<L> as Device<L>>⟧.party result }
         ensures window { result.window ≡ window }
         ensures most { result.most ≡ most }
     {
         ModelDevice {
-            end: None,
-            by: None,
-            stage: Stage::Taking,
+            session: None,
             held: None,
             window,
             most,
             settings: Settings::new(),
             journal: Journal::new(alloc),
+            counts: Counts::new(),
         }
     }
 
-    /// The most chains that it holds at a time. What it has begun has the smaller of the readable and the writable bytes as
-    /// its length, and no attach of it is refused.
+    /// The window that was reserved. It holds at most so many chains, and no more than `most`, at a time. What it has begun has
+    /// the smaller of the readable and the writable bytes as its length, and no attach of it is refused.
     pub fn window(&self) -> u32
-        ensures window { result ≡ self.now.window }
-        ensures holds { (w : DeviceView) → ⟦<ModelDevice<L> as Device<L>>⟧.party.holds self.now w → length (running w.done) ≤ result }
+        ensures window { result ≡ ⟦<ModelDevice<L> as Device<L>>⟧.party.window self.now }
+        ensures holds { (w : DeviceView) → ⟦<ModelDevice<L> as Device<L>>⟧.party.holds self.now w → length (running w.done) ≤ min result (⟦<ModelDevice<L> as Device<L>>⟧.party.carried self.now) }
         ensures lens { HaveLens (⟦<ModelDevice<L> as Device<L>>⟧.party.begun self.now) }
         ensures faultless { ⟦<ModelDevice<L> as Device<L>>⟧.party.faults self.now ≡ 0 }
     {
         self.window
     }
-
-    /// The most chains that it holds, whatever its window.
-    pub(crate) fn most(&self) -> u32
-        ensures most { result ≡ self.now.most }
-        ensures holds { (w : DeviceView) → ⟦<ModelDevice<L> as Device<L>>⟧.party.holds self.now w → length (running w.done) ≤ result }
-    {
-        self.most
-    }
-}
-
-/// What a step was, after which the device is done or isn't.
-pub(crate) fn move_of(done: bool) -> Move
-    ensures { result ≡ move_of done }
-{
-    if done { Move::Finished } else { Move::Worked }
 }
 
 impl<L: Layout> Device<L> for ModelDevice<L> {
@@ -108,16 +100,22 @@ impl<L: Layout> Device<L> for ModelDevice<L> {
       chain_room = λ m. m.journal.begun.room;
       settings = λ m. m.settings;
       faults = λ m. 0;
+      window = λ m. m.window;
       carried = λ m. m.most;
-      attached = λ m. m.by;
-      holds = λ m w. Holds L.Device.device m.end m.by m.held m.stage m.journal w;
-      is_done = λ m. is_done m.stage ≡ true;
+      attached = λ m. attached_of m.session;
+      holds = λ m w. Holds L.Device.device m.session m.held m.journal m.counts w;
+      is_done = λ m. is_done_of m.session ≡ true;
+      accesses = λ m. m.counts.accesses;
+      heard = λ m. m.counts.heard;
     } };
 
     ghost lawful = { record {
-      held = λ x w h. held_law L.Device.device x.end x.by x.held x.stage x.journal w h;
-      serves = λ x w a h is d. serves_law L.Device.device x.end x.by x.held x.stage x.journal w a h is;
-      done = λ x w a h is d. done_law L.Device.device x.end x.by x.held x.stage x.journal w a h is d;
+      held = λ x w h. held_law L.Device.device x.session x.held x.journal x.counts w h;
+      serves = λ x w a h is d. serves_law L.Device.device x.session x.held x.journal x.counts w a h is;
+      done = λ x w a h is d. done_law L.Device.device L.Device.device_lawful x.session x.held x.journal x.counts w a h is d;
+      armed = λ x w a h is. armed_law L.Device.device x.session x.held x.journal x.counts w a h is;
+      pace = λ x w a h is. pace_law L.Device.device x.session x.held x.journal x.counts w a h is;
+      pace_free = λ x is. x.paced is;
     } };
 
     fn reserve(
@@ -126,18 +124,14 @@ impl<L: Layout> Device<L> for ModelDevice<L> {
         window: u32,
         events: u32,
         chains: u32,
-    ) -> Result<(), AllocError>
-        requires free { ⟦<ModelDevice<L> as Device<L>>⟧.party.attached self.old ≡ None }
-        requires window { (1 ≤ window) × (window ≤ 64) }
-        ensures same { IsUnchanged ⟦<ModelDevice<L> as Device<L>>⟧.party self.old self.new }
-        ensures room { OnOk result ((events ≤ ⟦<ModelDevice<L> as Device<L>>⟧.party.event_room self.new) × (chains ≤ ⟦<ModelDevice<L> as Device<L>>⟧.party.chain_room self.new)) }
-        ensures most { OnOk result (self.new.window ≡ window) }
-    {
+    ) -> Result<(), AllocError> {
         let most = window.min(self.most);
-        self.held = Some(HeapCircularBuffer::with_capacity(alloc, most as usize)?);
-        self.window = window;
+        let held = HeapCircularBuffer::with_capacity(alloc, most as usize)?;
         self.journal.events.reserve(events as usize)?;
-        self.journal.begun.reserve(chains as usize)
+        self.journal.begun.reserve(chains as usize)?;
+        self.held = Some(held);
+        self.window = window;
+        Ok(())
     }
 
     fn attach(
@@ -167,67 +161,48 @@ impl<L: Layout> Device<L> for ModelDevice<L> {
             unreachable!()
         };
         held.clear();
-        self.by = Some(Attached {
-            order: order.copy(),
+        let by = Attached {
+            queue: order.queue(),
+            count: order.count(),
             at,
             from: end.taken(),
+        };
+        self.session = Some(Session {
+            end,
+            by,
+            stage: Stage::Taking,
         });
-        self.stage = Stage::Taking;
-        self.end = Some(end);
         Ok(())
     }
 
     fn step<P: Port>(&mut self, port: &mut P) -> Move {
-        let Some(end) = &mut self.end else {
+        let Some(session) = &mut self.session else {
             unreachable!()
         };
-        let Some(by) = &self.by else { unreachable!() };
         let Some(held) = &mut self.held else {
             unreachable!()
         };
-        serve::<L, P>(
-            end,
-            by,
-            &mut self.stage,
-            held,
-            &mut self.journal.begun,
-            port,
-        );
-        move_of(self.stage.is_done())
-    }
-
-    fn phase<P: Port>(&mut self, port: &mut P) {
-        let Some(end) = &mut self.end else {
-            unreachable!()
-        };
-        let Some(by) = &self.by else { unreachable!() };
-        let Some(held) = &mut self.held else {
-            unreachable!()
-        };
-        serve_all::<L, P>(
-            end,
-            by,
-            &mut self.stage,
-            held,
-            &mut self.journal.begun,
-            port,
-        );
+        let turn = serve::<L, P>(session, held, &mut self.journal.begun, port);
+        let done = session.stage.is_done();
+        self.counts.note(turn);
+        move_of(turn, done)
     }
 
     fn done(&self) -> bool {
-        self.stage.is_done()
+        match &self.session {
+            Some(session) => session.stage.is_done(),
+            None => false,
+        }
     }
 
     fn suspend(&mut self) -> L::Device {
-        let Some(end) = self.end.take() else {
+        let Some(session) = self.session.take() else {
             unreachable!()
         };
         let at = self.journal.begun.len() as u32;
-        let base = end.base();
+        let base = session.end.base();
         self.journal.events.push(Event::Suspend { at, base });
-        self.by = None;
-        self.stage = Stage::Taking;
-        end
+        session.end
     }
 
     fn reset(&mut self) {
@@ -246,5 +221,13 @@ impl<L: Layout> Device<L> for ModelDevice<L> {
 
     fn faults(&self) -> u64 {
         0
+    }
+
+    fn accesses(&self) -> u64 {
+        self.counts.accesses
+    }
+
+    fn heard(&self) -> u64 {
+        self.counts.heard
     }
 }

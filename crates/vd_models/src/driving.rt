@@ -1,18 +1,51 @@
 //! What a model guest does with the end that it holds.
-ghost use Rattle.std.specs.Prelude.{◌≡◌, ◌<◌, ◌≤◌, ◌++◌, ◌∷◌, [], List, ℕ, length, vec_len, vec_capacity, true, false, IsTrue};
+ghost use Rattle.std.specs.Prelude.{◌≡◌, ◌<◌, ◌≤◌, ◌++◌, ◌∷◌, [], vec_len, vec_capacity};
 ghost use Rattle.vd_model.specs.declared.record.Return.{Return};
 ghost use Rattle.vd_words.specs.Own.{IsOwn};
-ghost use Rattle.vd_ring.specs.declared.device.DeviceView.{DeviceView};
 ghost use Rattle.vd_ring.specs.declared.driver.DriverView.{DriverView};
 ghost use Rattle.vd_layout.specs.Begun.{DriverOp};
-ghost use Rattle.vd_bus.specs.Scripts.{chains};
-ghost use Rattle.vd_models.specs.Driving.{DriveOpens, IsDriveTurn, IsDrivenAll, drive, drive_weight};
+ghost use Rattle.vd_models.specs.GuestStages.{is_done, offered_stage, woken_stage, none_stage, waking_turn};
+ghost use Rattle.vd_models.specs.Driving.{DriveOpens, BeginsDrive, IsDriveTurn, IsKept, IsPlan, drive};
 
+use crate::counts::Turn;
 use crate::cursor::{Cursor, next_chain, settle};
-use crate::serving::Turn;
 use vd_layout::{DriverAct, DriverEnd, Layout};
 use vd_model::{Return, Script};
 use vd_words::Port;
+
+/// What comes next: an offer while a chain is left and has room, else a collect. In its turn to collect a guest begins no offer.
+/// Where it can't offer and no entry is there, it sleeps.
+#[derive(Copy, Clone)]
+pub enum GuestStage {
+    Offering,
+    Collecting,
+    Arming,
+    Hearing,
+    Done,
+}
+
+impl GuestStage {
+    /// Whether all came back.
+    pub fn is_done(&self) -> bool
+        ensures { result ≡ is_done self.now }
+    {
+        matches!(self, GuestStage::Done)
+    }
+}
+
+/// A script that is loaded, and how far it is.
+#[derive(Drop)]
+pub struct Loaded {
+    pub script: Script,
+    /// How many chains the script has.
+    pub total: u32,
+    pub at: Cursor,
+    pub offered: u32,
+    pub returned: Vec<Return>,
+    pub stage: GuestStage,
+    /// Whether it was booted: that is once.
+    pub booted: bool,
+}
 
 /// Appends what came back, into the room that is there.
 fn keep(list: &mut Vec<Return>, item: Return)
@@ -25,19 +58,55 @@ fn keep(list: &mut Vec<Return>, item: Return)
     }
 }
 
-/// Begins the next operation where none is in progress: an offer while a chain is left and has room, else a collect. In
-/// its turn to collect it begins no offer.
-pub(crate) fn begin_drive<L: Layout>(end: &mut L::Driver, script: &Script, at: Cursor, turn: bool)
-    requires { (offered : ℕ) × (returned : List Return) × (capacity : ℕ) × (v : DriverView) × DriveOpens L.Driver.driver script.now (drive end.old at offered returned capacity false turn) v }
+/// What comes after an offer: with `turns` a turn to collect.
+fn after_offer(turns: bool) -> GuestStage
+    ensures { result ≡ offered_stage turns }
+{
+    if turns { GuestStage::Collecting } else { GuestStage::Offering }
+}
+
+/// What comes after a look that showed no entry: after its turn to collect a guest offers again, else it sleeps.
+fn after_nothing(stage: GuestStage) -> GuestStage
+    ensures { result ≡ none_stage stage }
+{
+    match stage {
+        GuestStage::Collecting => GuestStage::Offering,
+        _ => GuestStage::Arming,
+    }
+}
+
+/// What comes after Awake: the end is armed no longer, and goes on.
+fn after_waking(armed: bool) -> GuestStage
+    ensures { result ≡ woken_stage armed }
+{
+    if armed { GuestStage::Hearing } else { GuestStage::Offering }
+}
+
+/// What Awake ended: a hearing, or an arming.
+fn waking(stage: GuestStage) -> Turn
+    ensures { result ≡ waking_turn stage }
+{
+    match stage {
+        GuestStage::Hearing => Turn::Woke,
+        _ => Turn::Worked,
+    }
+}
+
+/// Begins the next operation where none is in progress.
+fn begin_drive<L: Layout>(end: &mut L::Driver, loaded: &Loaded)
+    requires { (v : DriverView) × DriveOpens L.Driver.driver (drive end.old loaded.now) v }
     ensures busy { ¬ (L.Driver.driver.begun end.new ≡ DriverOp.idle) }
-    ensures drives { (offered : ℕ) (returned : List Return) (capacity : ℕ) (v : DriverView) → DriveOpens L.Driver.driver script.now (drive end.old at offered returned capacity false turn) v → DriveOpens L.Driver.driver script.now (drive end.new at offered returned capacity false turn) v }
-    ensures turn { IsTrue turn → L.Driver.driver.begun end.old ≡ DriverOp.idle → L.Driver.driver.begun end.new ≡ DriverOp.collect }
-    ensures nearer { drive_weight (L.Driver.driver.begun end.new) (L.Driver.driver.left end.new) ≤ drive_weight (L.Driver.driver.begun end.old) (L.Driver.driver.left end.old) }
+    ensures next { (v : DriverView) → DriveOpens L.Driver.driver (drive end.old loaded.now) v → BeginsDrive L.Driver.driver v (drive end.old loaded.now) (drive end.new loaded.now) }
 {
     if end.idle() {
-        match next_chain(script.runs.as_slice(), at) {
-            Some(chain) if !turn && end.room(chain) => end.begin_offer(chain),
-            _ => end.begin_collect(),
+        match loaded.stage {
+            GuestStage::Arming => end.begin_arm(),
+            GuestStage::Hearing => end.begin_hear(),
+            GuestStage::Collecting => end.begin_collect(),
+            _ => match next_chain(loaded.script.runs.as_slice(), loaded.at) {
+                Some(chain) if end.room(chain) => end.begin_offer(chain),
+                _ => end.begin_collect(),
+            },
         }
     }
 }
@@ -45,76 +114,48 @@ pub(crate) fn begin_drive<L: Layout>(end: &mut L::Driver, script: &Script, at: C
 /// Makes one access. With `turns` an offer is followed by a turn to collect, until nothing is shown.
 pub(crate) fn drive<L: Layout, P: Port>(
     end: &mut L::Driver,
-    script: &Script,
-    at: &mut Cursor,
-    offered: &mut u32,
-    returned: &mut Vec<Return>,
-    done: &mut bool,
-    turn: &mut bool,
+    loaded: &mut Loaded,
     turns: bool,
-    total: u32,
     port: &mut P,
 ) -> Turn
-    requires total { total ≡ length (chains script.now) }
-    requires own { (v : DriverView) × DriveOpens L.Driver.driver script.now (drive end.old at.old offered.old returned.old.items (vec_capacity returned.old) done.old turn.old) v × IsOwn P.port L.Driver.driver.side port.old v }
-    ensures { (v : DriverView) → DriveOpens L.Driver.driver script.now (drive end.old at.old offered.old returned.old.items (vec_capacity returned.old) done.old turn.old) v → IsOwn P.port L.Driver.driver.side port.old v → IsDriveTurn P.port L.Driver.driver script.now port.old port.new v (drive end.old at.old offered.old returned.old.items (vec_capacity returned.old) done.old turn.old) (drive end.new at.new offered.new returned.new.items (vec_capacity returned.new) done.new turn.new) result }
+    requires plan { IsPlan loaded.old }
+    requires own { (v : DriverView) × DriveOpens L.Driver.driver (drive end.old loaded.old) v × IsOwn P.port L.Driver.driver.side port.old v }
+    ensures kept { IsKept loaded.old loaded.new }
+    ensures turn { (v : DriverView) → DriveOpens L.Driver.driver (drive end.old loaded.old) v → IsOwn P.port L.Driver.driver.side port.old v → IsDriveTurn P.port L.Driver.driver port.old port.new v (drive end.old loaded.old) (drive end.new loaded.new) result }
 {
-    begin_drive::<L>(end, script, *at, *turn);
+    begin_drive::<L>(end, loaded);
     match end.step(port) {
         DriverAct::Offered(_) => {
-            *offered += 1;
+            loaded.offered += 1;
             let next = Cursor {
-                run: at.run,
-                used: at.used + 1,
+                run: loaded.at.run,
+                used: loaded.at.used + 1,
             };
-            *at = settle(script.runs.as_slice(), next);
-            *turn = turns;
+            loaded.at = settle(loaded.script.runs.as_slice(), next);
+            loaded.stage = after_offer(turns);
         }
         DriverAct::Collected { number, len, .. } => {
             keep(
-                returned,
+                &mut loaded.returned,
                 Return {
                     number,
                     len,
                     ack: 0,
                 },
             );
-            *done = returned.len() == total as usize;
-        }
-        DriverAct::Nothing => {
-            if !*turn {
-                return Turn::Waits;
+            if loaded.returned.len() == loaded.total as usize {
+                loaded.stage = GuestStage::Done;
             }
-            *turn = false;
         }
-        _ => {}
+        DriverAct::Nothing => loaded.stage = after_nothing(loaded.stage),
+        DriverAct::Armed => loaded.stage = GuestStage::Hearing,
+        DriverAct::Awake => {
+            let turn = waking(loaded.stage);
+            loaded.stage = after_waking(end.armed());
+            return turn;
+        }
+        DriverAct::Asleep => return Turn::Slept,
+        DriverAct::Moved => {}
     }
     Turn::Worked
-}
-
-/// Makes accesses over plain words until the guest is done, or can neither offer nor collect.
-pub(crate) fn drive_all<L: Layout, P: Port>(
-    end: &mut L::Driver,
-    script: &Script,
-    at: &mut Cursor,
-    offered: &mut u32,
-    returned: &mut Vec<Return>,
-    done: &mut bool,
-    turn: &mut bool,
-    turns: bool,
-    total: u32,
-    port: &mut P,
-)
-    requires total { total ≡ length (chains script.now) }
-    requires own { (ws : List ℕ) × (v : DriverView) × (w : DeviceView) × P.port.plain port.old ws × L.layout.ring ws v w × DriveOpens L.Driver.driver script.now (drive end.old at.old offered.old returned.old.items (vec_capacity returned.old) done.old turn.old) v }
-    ensures { (ws : List ℕ) (v : DriverView) (w : DeviceView) → P.port.plain port.old ws → L.layout.ring ws v w → DriveOpens L.Driver.driver script.now (drive end.old at.old offered.old returned.old.items (vec_capacity returned.old) done.old turn.old) v
-        → IsDrivenAll P.port L.Driver.driver L.layout script.now port.old port.new v w (drive end.new at.new offered.new returned.new.items (vec_capacity returned.new) done.new turn.new) }
-{
-    while !*done {
-        if let Turn::Waits = drive::<L, P>(
-            end, script, at, offered, returned, done, turn, turns, total, port,
-        ) {
-            return;
-        }
-    }
 }

@@ -1,13 +1,13 @@
 //! A device that refuses one of its attaches.
-ghost use Rattle.std.specs.Prelude.{◌≡◌, ◌≤◌, ◌<◌, ◌+◌, ◌-◌, ◌^◌, ◌↔◌, None, [], true, length, IsErr, MatchResult};
+ghost use Rattle.std.specs.Prelude.{◌≡◌, ◌≤◌, ◌<◌, ◌+◌, ◌-◌, ◌^◌, ◌↔◌, None, true, length, IsErr, MatchResult};
 ghost use Rattle.std.specs.Option.{option_copied};
 ghost use Rattle.vd_layout.specs.Device.{IsStill};
 ghost use Rattle.vd_bus.specs.Orders.{IsData};
 ghost use Rattle.vd_bus.specs.Device.{IsAttach, IsRefused};
-ghost use Rattle.vd_control.specs.Settings.{default};
-ghost use Rattle.vd_models.specs.Serving.{Holds, journal_room, is_done};
-ghost use Rattle.vd_models.specs.Laws.{held_law, serves_law, done_law};
-ghost use Rattle.vd_models.specs.Faulty.{asked, refused, was_refused};
+ghost use Rattle.vd_models.specs.Holding.{journal_room};
+ghost use Rattle.vd_models.specs.Serving.{Holds, attached_of, is_done_of};
+ghost use Rattle.vd_models.specs.Laws.{held_law, serves_law, done_law, armed_law, pace_law};
+ghost use Rattle.vd_models.specs.Faulty.{asked, was_refused, IsAround, RefusesNext, refusals};
 
 use crate::device::ModelDevice;
 use crate::refusal::{Refusal, was_refused};
@@ -31,13 +31,9 @@ pub struct FaultyDevice<L: Layout> {
 impl<L: Layout> FaultyDevice<L> {
     /// The device that refuses attach number `fails`.
     pub fn new(inner: ModelDevice<L>, fails: u32) -> FaultyDevice<L>
-        ensures attached { ⟦<FaultyDevice<L> as Device<L>>⟧.party.attached result ≡ ⟦<ModelDevice<L> as Device<L>>⟧.party.attached inner }
-        ensures events { ⟦<FaultyDevice<L> as Device<L>>⟧.party.events result ≡ ⟦<ModelDevice<L> as Device<L>>⟧.party.events inner }
-        ensures begun { ⟦<FaultyDevice<L> as Device<L>>⟧.party.begun result ≡ ⟦<ModelDevice<L> as Device<L>>⟧.party.begun inner }
-        ensures settings { ⟦<FaultyDevice<L> as Device<L>>⟧.party.settings result ≡ ⟦<ModelDevice<L> as Device<L>>⟧.party.settings inner }
+        ensures around { IsAround ⟦<FaultyDevice<L> as Device<L>>⟧.party ⟦<ModelDevice<L> as Device<L>>⟧.party result inner }
         ensures faults { ⟦<FaultyDevice<L> as Device<L>>⟧.party.faults result ≡ 0 }
         ensures number { (⟦<FaultyDevice<L> as Device<L>>⟧.party.carried result).number ≡ fails }
-        ensures after { (⟦<FaultyDevice<L> as Device<L>>⟧.party.carried result).after ≡ length (⟦<ModelDevice<L> as Device<L>>⟧.party.events inner) }
     {
         let after = inner.journal().events.len() as u32;
         FaultyDevice {
@@ -62,16 +58,22 @@ impl<L: Layout> Device<L> for FaultyDevice<L> {
       chain_room = λ m. m.inner.journal.begun.room;
       settings = λ m. m.inner.settings;
       faults = λ m. was_refused m.refusal.number m.left;
+      window = λ m. m.inner.window;
       carried = λ m. m.refusal;
-      attached = λ m. m.inner.by;
-      holds = λ m w. Holds L.Device.device m.inner.end m.inner.by m.inner.held m.inner.stage m.inner.journal w;
-      is_done = λ m. is_done m.inner.stage ≡ true;
+      attached = λ m. attached_of m.inner.session;
+      holds = λ m w. Holds L.Device.device m.inner.session m.inner.held m.inner.journal m.inner.counts w;
+      is_done = λ m. is_done_of m.inner.session ≡ true;
+      accesses = λ m. m.inner.counts.accesses;
+      heard = λ m. m.inner.counts.heard;
     } };
 
     ghost lawful = { record {
-      held = λ x w h. held_law L.Device.device x.inner.end x.inner.by x.inner.held x.inner.stage x.inner.journal w h;
-      serves = λ x w a h is d. serves_law L.Device.device x.inner.end x.inner.by x.inner.held x.inner.stage x.inner.journal w a h is;
-      done = λ x w a h is d. done_law L.Device.device x.inner.end x.inner.by x.inner.held x.inner.stage x.inner.journal w a h is d;
+      held = λ x w h. held_law L.Device.device x.inner.session x.inner.held x.inner.journal x.inner.counts w h;
+      serves = λ x w a h is d. serves_law L.Device.device x.inner.session x.inner.held x.inner.journal x.inner.counts w a h is;
+      done = λ x w a h is d. done_law L.Device.device L.Device.device_lawful x.inner.session x.inner.held x.inner.journal x.inner.counts w a h is d;
+      armed = λ x w a h is. armed_law L.Device.device x.inner.session x.inner.held x.inner.journal x.inner.counts w a h is;
+      pace = λ x w a h is. pace_law L.Device.device x.inner.session x.inner.held x.inner.journal x.inner.counts w a h is;
+      pace_free = λ x is. x.inner.paced is;
     } };
 
     fn reserve(
@@ -91,14 +93,17 @@ impl<L: Layout> Device<L> for FaultyDevice<L> {
         control: Option<&Self>,
     ) -> Result<(), Refused<L>>
         requires free { ⟦<FaultyDevice<L> as Device<L>>⟧.party.attached self.old ≡ None }
-        requires data { IsData order.now }
+        requires data { IsData order.now.queue }
         requires events { 2 ≤ ⟦<FaultyDevice<L> as Device<L>>⟧.party.event_room self.old }
         requires chains { order.now.count ≤ ⟦<FaultyDevice<L> as Device<L>>⟧.party.chain_room self.old }
         requires few { length (⟦<FaultyDevice<L> as Device<L>>⟧.party.begun self.old) + order.now.count < 2 ^ 32 }
         requires still { IsStill L.Device.device end }
         requires base { L.Device.device.base end ≡ order.now.base.0 }
-        ensures does { MatchResult result (λ _. IsAttach L.Device.device ⟦<FaultyDevice<L> as Device<L>>⟧.party order.now (option_copied control.entry) end self.old self.new) (λ r. (r.end ≡ end) × IsRefused ⟦<FaultyDevice<L> as Device<L>>⟧.party self.old self.new) }
-        ensures refused { IsErr result ↔ (asked (⟦<FaultyDevice<L> as Device<L>>⟧.party.carried self.old) (⟦<FaultyDevice<L> as Device<L>>⟧.party.events self.old) (⟦<FaultyDevice<L> as Device<L>>⟧.party.faults self.old) + 1 ≡ (⟦<FaultyDevice<L> as Device<L>>⟧.party.carried self.old).number) }
+        ensures does { MatchResult
+            result
+            (λ _. IsAttach L.Device.device ⟦<FaultyDevice<L> as Device<L>>⟧.party order.now (option_copied control.entry) end self.old self.new)
+            (λ r. (r.end ≡ end) × IsRefused ⟦<FaultyDevice<L> as Device<L>>⟧.party self.old self.new) }
+        ensures refused { IsErr result ↔ RefusesNext ⟦<FaultyDevice<L> as Device<L>>⟧.party self.old }
     {
         if self.left == 1 {
             self.left = 0;
@@ -114,10 +119,6 @@ impl<L: Layout> Device<L> for FaultyDevice<L> {
 
     fn step<P: Port>(&mut self, port: &mut P) -> Move {
         self.inner.step(port)
-    }
-
-    fn phase<P: Port>(&mut self, port: &mut P) {
-        self.inner.phase(port);
     }
 
     fn done(&self) -> bool {
@@ -142,8 +143,16 @@ impl<L: Layout> Device<L> for FaultyDevice<L> {
 
     fn faults(&self) -> u64
         ensures value { result ≡ ⟦<FaultyDevice<L> as Device<L>>⟧.party.faults self.now }
-        ensures refused { result ≡ refused (⟦<FaultyDevice<L> as Device<L>>⟧.party.carried self.now).number (asked (⟦<FaultyDevice<L> as Device<L>>⟧.party.carried self.now) (⟦<FaultyDevice<L> as Device<L>>⟧.party.events self.now) result) }
+        ensures refused { result ≡ refusals ⟦<FaultyDevice<L> as Device<L>>⟧.party self.now result }
     {
         was_refused(self.refusal.number, self.left)
+    }
+
+    fn accesses(&self) -> u64 {
+        self.inner.accesses()
+    }
+
+    fn heard(&self) -> u64 {
+        self.inner.heard()
     }
 }

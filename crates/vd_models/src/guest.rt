@@ -1,11 +1,13 @@
-//! A guest that offers its script while there is room, and else collects.
-ghost use Rattle.std.specs.Prelude.{◌≡◌, None, [], true, false, vec_capacity};
-ghost use Rattle.vd_models.specs.Driving.{GuestHolds, IsLoaded, script_of, offered_of, returned_of, is_done_of};
-ghost use Rattle.vd_models.specs.GuestLaws.{unloaded_law, held_law, offered_law, offers_law, returned_law, done_law};
+//! A guest that offers its script while there is room, and else collects; where it can do neither it sleeps.
+ghost use Rattle.std.specs.Prelude.{◌≡◌, Option, None, true, false};
+ghost use Rattle.vd_models.specs.Unused.{IsUnloaded};
+ghost use Rattle.vd_models.specs.GuestStages.{first_stage};
+ghost use Rattle.vd_models.specs.Driving.{GuestHolds, IsLoaded, IsFresh, Paces, script_of, offered_of, returned_of, is_done_of};
+ghost use Rattle.vd_models.specs.GuestLaws.{unloaded_law, held_law, offered_law, offers_law, returned_law, done_law, finishes_law, armed_law, pace_law};
 
+use crate::counts::{Counts, move_of};
 use crate::cursor::{Cursor, count, settle};
-use crate::device::move_of;
-use crate::driving::{drive, drive_all};
+use crate::driving::{GuestStage, Loaded, drive};
 use crate::script::copy_script;
 use std::alloc::{AllocError, Global};
 use vd_bus::Guest;
@@ -13,47 +15,59 @@ use vd_layout::{Layout, Move};
 use vd_model::{Return, Script};
 use vd_words::Port;
 
-/// A script that is loaded, and how far it is.
-#[derive(Drop)]
-pub(crate) struct Loaded {
-    pub(crate) script: Script,
-    // how many chains the script has
-    pub(crate) total: u32,
-    pub(crate) at: Cursor,
-    pub(crate) offered: u32,
-    pub(crate) returned: Vec<Return>,
-    pub(crate) done: bool,
-    // whether it collects until nothing is shown, before it offers again
-    pub(crate) turn: bool,
-}
-
-/// A guest that offers the next chain of its script where there is room, and else collects.
+/// A guest that offers the next chain of its script where there is room, and else collects. Where it can't offer and no entry
+/// is there it arms its end, and hears its bell until it wakes.
 #[derive(Drop)]
 pub struct ModelGuest<L: Layout> {
     end: Option<L::Driver>,
     loaded: Option<Loaded>,
     // whether an offer is followed by a turn to collect
     turns: bool,
+    counts: Counts,
+    ghost fresh: { IsFresh loaded counts },
+    ghost paced: { Paces loaded counts },
 }
 
 impl<L: Layout> ModelGuest<L> {
     /// An unloaded guest. It takes no memory.
     pub fn new(alloc: Global) -> ModelGuest<L>
-        ensures { ⟦<ModelGuest<L> as Guest<L>>⟧.party.script result ≡ None }
+        ensures unloaded { IsUnloaded ⟦<ModelGuest<L> as Guest<L>>⟧.party result }
+        ensures turns { result.turns ≡ false }
     {
         let _ = alloc;
         ModelGuest::with_turns(false)
     }
 
-    /// The same, which offers and collects in turns where that is asked.
-    pub(crate) fn with_turns(turns: bool) -> ModelGuest<L>
-        ensures { ⟦<ModelGuest<L> as Guest<L>>⟧.party.script result ≡ None }
+    /// The same, which takes turns: after each offer it collects until nothing is shown, before it offers again.
+    pub fn in_turns(alloc: Global) -> ModelGuest<L>
+        ensures unloaded { IsUnloaded ⟦<ModelGuest<L> as Guest<L>>⟧.party result }
+        ensures turns { result.turns ≡ true }
+    {
+        let _ = alloc;
+        ModelGuest::with_turns(true)
+    }
+
+    fn with_turns(turns: bool) -> ModelGuest<L>
+        ensures unloaded { IsUnloaded ⟦<ModelGuest<L> as Guest<L>>⟧.party result }
+        ensures turns { result.turns ≡ turns }
     {
         ModelGuest {
             end: None,
             loaded: None,
             turns,
+            counts: Counts::new(),
         }
+    }
+}
+
+/// Whether all came back before the first access.
+fn first_stage(total: u32) -> GuestStage
+    ensures { result ≡ first_stage total }
+{
+    if total == 0 {
+        GuestStage::Done
+    } else {
+        GuestStage::Offering
     }
 }
 
@@ -63,17 +77,22 @@ impl<L: Layout> Guest<L> for ModelGuest<L> {
       is_loaded = λ m. IsLoaded m.loaded;
       offered = λ m. offered_of m.loaded;
       returned = λ m. returned_of m.loaded;
-      holds = λ m v. GuestHolds L.Driver.driver m.end m.loaded v;
+      holds = λ m v. GuestHolds L.Driver.driver m.end m.loaded m.counts v;
       is_done = λ m. is_done_of m.loaded ≡ true;
+      accesses = λ m. m.counts.accesses;
+      heard = λ m. m.counts.heard;
     } };
 
     ghost lawful = { record {
       unloaded = λ x h. unloaded_law x.loaded h;
-      held = λ x v h. held_law L.Driver.driver x.end x.loaded v h;
-      offered = λ x v h. offered_law L.Driver.driver x.end x.loaded v h;
-      offers = λ x v s h is d. offers_law L.Driver.driver x.end x.loaded v s h is;
-      returned = λ x v s h is d. returned_law L.Driver.driver x.end x.loaded v h;
-      done = λ x v s h is d e. done_law L.Driver.driver x.end x.loaded v s h is e;
+      held = λ x v h. held_law L.Driver.driver x.end x.loaded x.counts v h;
+      offered = λ x v h. offered_law L.Driver.driver x.end x.loaded x.counts v h;
+      offers = λ x v s h is d. offers_law L.Driver.driver x.end x.loaded x.counts v s h is;
+      returned = λ x v s h is d. returned_law L.Driver.driver x.end x.loaded x.counts v h;
+      done = λ x v s h is d e. done_law L.Driver.driver L.Driver.driver_lawful x.end x.loaded x.counts v s h is e;
+      finishes = λ x v s h is d e. finishes_law L.Driver.driver x.end x.loaded x.counts v s h is e;
+      armed = λ x v s t h is d a. armed_law L.Driver.driver x.end x.loaded x.counts v s t h is a;
+      pace = λ x. pace_law x.loaded x.counts x.paced;
     } };
 
     fn load(&mut self, alloc: Global, script: &Script) -> Result<(), AllocError> {
@@ -88,8 +107,8 @@ impl<L: Layout> Guest<L> for ModelGuest<L> {
             at,
             offered: 0,
             returned,
-            done: total == 0,
-            turn: false,
+            stage: first_stage(total),
+            booted: false,
         });
         Ok(())
     }
@@ -99,62 +118,32 @@ impl<L: Layout> Guest<L> for ModelGuest<L> {
             unreachable!()
         };
         let at = settle(loaded.script.runs.as_slice(), Cursor { run: 0, used: 0 });
-        let done = loaded.total == 0;
-        self.loaded = Some(Loaded { at, done, ..loaded });
+        let stage = first_stage(loaded.total);
+        self.loaded = Some(Loaded {
+            at,
+            stage,
+            booted: true,
+            ..loaded
+        });
         self.end = Some(end);
     }
 
     fn step<P: Port>(&mut self, port: &mut P) -> Move {
-        let Some(mut end) = self.end.take() else {
+        let Some(end) = &mut self.end else {
             unreachable!()
         };
-        let Some(mut loaded) = self.loaded.take() else {
+        let Some(loaded) = &mut self.loaded else {
             unreachable!()
         };
-        drive::<L, P>(
-            &mut end,
-            &loaded.script,
-            &mut loaded.at,
-            &mut loaded.offered,
-            &mut loaded.returned,
-            &mut loaded.done,
-            &mut loaded.turn,
-            self.turns,
-            loaded.total,
-            port,
-        );
-        let done = loaded.done;
-        self.end = Some(end);
-        self.loaded = Some(loaded);
-        move_of(done)
-    }
-
-    fn phase<P: Port>(&mut self, port: &mut P) {
-        let Some(mut end) = self.end.take() else {
-            unreachable!()
-        };
-        let Some(mut loaded) = self.loaded.take() else {
-            unreachable!()
-        };
-        drive_all::<L, P>(
-            &mut end,
-            &loaded.script,
-            &mut loaded.at,
-            &mut loaded.offered,
-            &mut loaded.returned,
-            &mut loaded.done,
-            &mut loaded.turn,
-            self.turns,
-            loaded.total,
-            port,
-        );
-        self.end = Some(end);
-        self.loaded = Some(loaded);
+        let turn = drive::<L, P>(end, loaded, self.turns, port);
+        let done = loaded.stage.is_done();
+        self.counts.note(turn);
+        move_of(turn, done)
     }
 
     fn done(&self) -> bool {
         match &self.loaded {
-            Some(loaded) => loaded.done,
+            Some(loaded) => loaded.stage.is_done(),
             None => false,
         }
     }
@@ -171,6 +160,14 @@ impl<L: Layout> Guest<L> for ModelGuest<L> {
             Some(loaded) => loaded.offered,
             None => 0,
         }
+    }
+
+    fn accesses(&self) -> u64 {
+        self.counts.accesses
+    }
+
+    fn heard(&self) -> u64 {
+        self.counts.heard
     }
 
     fn returned(&self) -> &[Return] {

@@ -1,6 +1,7 @@
 //! Model parties: a guest that offers a script, a device that takes and gives, and a device that refuses an attach.
 #![tactic(auto)]
 
+mod counts;
 mod cursor;
 mod device;
 mod driving;
@@ -9,16 +10,14 @@ mod guest;
 mod refusal;
 mod script;
 mod serving;
-mod single;
-mod turn_guest;
+mod window;
 
+pub use counts::{Counts, Turn};
+pub use cursor::Cursor;
 pub use device::ModelDevice;
+pub use driving::{GuestStage, Loaded};
 pub use faulty::FaultyDevice;
 pub use guest::ModelGuest;
 pub use refusal::Refusal;
-pub use serving::{Held, Stage, Turn};
-pub use single::SingleDevice;
-pub use turn_guest::TurnGuest;
-
-#[cfg(test)]
-mod tests;
+pub use serving::{Session, Stage};
+pub use window::Held;

@@ -1,5 +1,6 @@
-//! The parties over a split ring: guests and devices play chains by phases and by single steps.
+//! The parties over rings of plain words, by single steps.
 mod pair;
 mod rows;
 mod scripts;
+mod sleeping;
 mod steps;

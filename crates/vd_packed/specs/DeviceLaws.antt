@@ -30,6 +30,7 @@ use Rattle.vd_packed.specs.declared.device.DeviceStep.{DeviceStep}
 use Rattle.vd_packed.specs.declared.device.DeviceStep.TheVariants as step
 use Rattle.vd_packed.specs.declared.spot.Spot.{Spot}
 use Rattle.vd_packed.specs.DeviceEnd.{HoldsRunning, number_at, IsNext, IsTaking, IsTabling, DeviceStands, DeviceStepStands, DeviceStepArmed, device_owes, not_armed, is_armed, device_begun, device_left, is_resting, is_idle, packed_device}
+use Rattle.vd_packed_ring.proofs.DeviceStaying.{device_stays}
 use Rattle.vd_packed.specs.Places.{base_at_spot}
 use Rattle.vd_packed.specs.Spots.{base_word}
 
@@ -350,6 +351,7 @@ device_laws = record {
   framed = λ v o a r. device_frame v o a r;
   stays_unarmed = device_unarmed;
   looks = device_looks;
+  stays = device_stays;
   armed = λ e v st on. (tpos v.frame v.done, is_armed e v st on);
   not_armed = λ e v st off. not_armed e v st off;
   unarmed_still = still_unarmed;

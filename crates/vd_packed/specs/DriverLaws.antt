@@ -30,6 +30,7 @@ use Rattle.vd_packed.specs.declared.driver.DriverStep.{DriverStep}
 use Rattle.vd_packed.specs.declared.driver.DriverStep.TheVariants as step
 use Rattle.vd_packed.specs.declared.spot.Spot.{Spot}
 use Rattle.vd_packed.specs.DriverEnd.{DriverStands, DriverStepStands, DriverStepArmed, driver_owes, driver_begun, driver_left, not_armed, is_armed, packed_driver, packed_words}
+use Rattle.vd_packed_ring.proofs.DriverStaying.{driver_stays}
 use Rattle.vd_packed.specs.DriverSteps.{needed_is}
 use Rattle.vd_packed.specs.Places.{same_at, forward_at}
 use Rattle.vd_packed.specs.Spots.{IsAt, forward}
@@ -226,6 +227,7 @@ driver_laws = record {
   framed = λ v o a r. driver_frame v o a r;
   stays_unarmed = driver_unarmed;
   looks = driver_looks;
+  stays = driver_stays;
   places = λ e v st. st.holds.held;
   controls = driver_controls;
 }

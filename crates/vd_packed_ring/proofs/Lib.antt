@@ -40,3 +40,5 @@ pub mod DriverLooking
 pub mod DeviceLooking
 mod Examples
 pub mod ControlFacts
+pub mod DriverStaying
+pub mod DeviceStaying

@@ -24,6 +24,7 @@ use Rattle.vd_split_ring.proofs.DeviceViews.{device_frame}
 use Rattle.vd_layout.proofs.InTable.{runs_in_table}
 use Rattle.vd_split_ring.proofs.Signalling.{device_unarmed}
 use Rattle.vd_split_ring.proofs.DeviceLooking.{device_looks}
+use Rattle.vd_split_ring.proofs.DeviceStaying.{device_stays}
 use Rattle.vd_layout.specs.Begun.{DeviceOp}
 use Rattle.vd_layout.specs.Device.{IsStill, IsLawfulDevice}
 use Rattle.vd_split.specs.declared.device.SplitDevice.{SplitDevice}
@@ -388,6 +389,7 @@ device_laws = record {
   framed = λ v o a r. device_frame v o a r;
   stays_unarmed = λ v o a r other none. device_unarmed v o a r other none;
   looks = device_looks;
+  stays = device_stays;
   armed = λ e v st on. (length (takes v.done), is_armed e v st on);
   not_armed = λ e v st off. not_armed e v st off;
   unarmed_still = still_unarmed;

@@ -26,6 +26,7 @@ use Rattle.vd_split_ring.proofs.ControlFacts.{driver_controls}
 use Rattle.vd_split_ring.proofs.DriverViews.{driver_frame}
 use Rattle.vd_split_ring.proofs.Signalling.{driver_unarmed}
 use Rattle.vd_split_ring.proofs.DriverLooking.{driver_looks}
+use Rattle.vd_split_ring.proofs.DriverStaying.{driver_stays}
 use Rattle.vd_split_ring.proofs.Direct.{lent_needs}
 use Rattle.vd_layout.specs.Begun.{DriverOp}
 use Rattle.vd_layout.specs.Driver.{HasRoom, MayOffer, IsLawfulDriver}
@@ -251,6 +252,7 @@ driver_laws = record {
   framed = λ v o a r. driver_frame v o a r;
   stays_unarmed = λ v o a r other none. driver_unarmed v o a r other none;
   looks = driver_looks;
+  stays = driver_stays;
   armed = λ e v st on. (length (collects v.done), is_armed e v st on);
   unarmed = λ e v st off. not_armed e v st off;
   places = λ e v st. st.holds.held;

@@ -34,3 +34,5 @@ pub mod DeviceLooking
 pub mod TableReads
 mod Examples
 pub mod ControlFacts
+pub mod DriverStaying
+pub mod DeviceStaying

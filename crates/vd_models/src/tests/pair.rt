@@ -79,14 +79,6 @@ impl<L: Layout, G: Guest<L>, V: Device<L>> Pair<L, G, V> {
         Some(step_guest::<L, G, _>(&mut self.guest, &mut self.words.port()))
     }
 
-    pub fn guest_phase(&mut self) -> bool {
-        if self.guest.done() {
-            return false;
-        }
-        self.guest.phase(&mut self.words.port());
-        true
-    }
-
     pub fn device_step(&mut self) -> Option<Move> {
         if self.end.is_some() {
             return None;
@@ -95,17 +87,6 @@ impl<L: Layout, G: Guest<L>, V: Device<L>> Pair<L, G, V> {
             return None;
         }
         Some(step_device::<L, V, _>(&mut self.device, &mut self.words.port()))
-    }
-
-    pub fn device_phase(&mut self) -> bool {
-        if self.end.is_some() {
-            return false;
-        }
-        if self.device.done() {
-            return false;
-        }
-        self.device.phase(&mut self.words.port());
-        true
     }
 
     /// Attaches the device by an order of so many chains, and tells whether it was attached.
@@ -178,5 +159,15 @@ impl<L: Layout, G: Guest<L>, V: Device<L>> Pair<L, G, V> {
 
     pub fn returned(&self) -> &[Return] {
         self.guest.returned()
+    }
+
+    /// How many accesses the guest and the device made, and how many bells each heard.
+    pub fn counts(&self) -> [u64; 4] {
+        [
+            self.guest.accesses(),
+            self.device.accesses(),
+            self.guest.heard(),
+            self.device.heard(),
+        ]
     }
 }

@@ -1,6 +1,6 @@
 //! Six chains on a ring of 8 places, and fewer.
 use super::pair::Pair;
-use crate::{FaultyDevice, ModelDevice, ModelGuest, SingleDevice, TurnGuest};
+use crate::{FaultyDevice, ModelDevice, ModelGuest};
 use std::test::*;
 use vd_bus::{Device, Event, Guest, Journal};
 use vd_layout::Move;
@@ -19,7 +19,7 @@ const IN_ORDER: Features = Features {
     in_order: true,
 };
 
-fn chain_of(read: u32, write: u32) -> Chain {
+pub fn chain_of(read: u32, write: u32) -> Chain {
     let mut chain = Chain::new(Piece {
         addr: 4096,
         len: read,
@@ -33,13 +33,12 @@ fn chain_of(read: u32, write: u32) -> Chain {
     chain
 }
 
-/// Phases of the guest and the device in turn, six of each.
+/// Steps of the guest and the device in turn.
 fn play<G: Guest<Split>, V: Device<Split>>(pair: &mut Pair<Split, G, V>) {
-    for _ in 0..6 {
-        pair.guest_phase();
-        pair.device_phase();
+    for _ in 0..600 {
+        let _ = pair.guest_step();
+        let _ = pair.device_step();
     }
-    pair.guest_phase();
 }
 
 fn came_back(returned: &[Return], numbers: &[u32], len: u32) -> bool {
@@ -115,7 +114,7 @@ fn a_window_of_one_and_a_single_device_give_each_at_once(rt: HostRuntime) -> Res
     play(&mut pair);
     assert!(rt; came_back(pair.returned(), &[0, 1, 2, 3, 4, 5], 10));
     let guest = ModelGuest::<Split>::new(rt.alloc());
-    let device = SingleDevice::<Split>::new(rt.alloc());
+    let device = ModelDevice::<Split>::single(rt.alloc(), 4);
     let mut pair = Pair::new(rt.alloc(), 8, PLAIN, 4, &chain_of(10, 64), 6, guest, device)?;
     assert!(rt; pair.attach(0, 6) == Some(true));
     play(&mut pair);
@@ -131,7 +130,7 @@ fn no_chain_at_all(rt: HostRuntime) -> Result<(), Fail> {
     let mut pair = Pair::new(rt.alloc(), 2, PLAIN, 4, &chain_of(10, 64), 0, guest, device)?;
     assert!(rt; pair.guest_done());
     assert!(rt; pair.attach(0, 0) == Some(true));
-    assert!(rt; pair.device_phase());
+    play(&mut pair);
     assert!(rt; pair.device_done());
     assert!(rt; pair.suspend() == Some(Base(0)));
     assert!(rt; pair.returned().is_empty());
@@ -141,8 +140,8 @@ fn no_chain_at_all(rt: HostRuntime) -> Result<(), Fail> {
 /// The device answers each offer at once, so no second chain is open where the guest collects before it offers again.
 #[test]
 fn a_guest_that_takes_turns_collects_between_its_offers(rt: HostRuntime) -> Result<(), Fail> {
-    let guest = TurnGuest::<Split>::new(rt.alloc());
-    let device = SingleDevice::<Split>::new(rt.alloc());
+    let guest = ModelGuest::<Split>::in_turns(rt.alloc());
+    let device = ModelDevice::<Split>::single(rt.alloc(), 4);
     let mut pair = Pair::new(rt.alloc(), 8, PLAIN, 4, &chain_of(10, 64), 3, guest, device)?;
     assert!(rt; pair.attach(0, 3) == Some(true));
     let mut most = 0;

@@ -1,74 +1,155 @@
-use Rattle.std.proofs.Common.{arith, rules, true, false, sym, subst, ◌≡◌, ◌+◌, ◌==◌, List, vec_capacity, length}
-use Rattle.vd_models.specs.declared.serving.Turn.TheVariants.{Worked, Waits}
+use Rattle.std.proofs.Common.{◌≡◌, ◌+◌, ◌==◌, true, false, refl, sym, ap, ◌∙◌, length, subst, List, arith}
+use Rattle.std.proofs.lemmas.Bool.{eq-eqb, ne_eqb}
 use Rattle.vd_model.specs.declared.record.Run.{Run}
+use Rattle.vd_bus.specs.Scripts.{chains}
 use Rattle.vd_models.specs.Cursors.{left_at, IsSettled}
-use Rattle.vd_models.specs.Driving.{DriveOpens, IsDriveTurn, drive}
-use Rattle.vd_models.proofs.Drives.{offered_at, collected_at, waited_at, turned_at, other, used_fits, test_is}
+use Rattle.vd_models.proofs.Drives.{went_on, found_none, armed_at, slept_at, woken_at, offered_at, collected_at, can_keep, used_fits, from_begun}
+use Rattle.vd_models.proofs.GuestParties.{total_is}
 use Rattle.vd_models.proofs.driving.drive.Goals as goal
 
-pub step-requires-clause-own : goal.step-requires-clause-own
-step-requires-clause-own g c =
-    let v = c.requires.own.0 in
-    let opens = c.requires.own.1 in
+pub returns-in-Moved-clause-turn : goal.returns-in-Moved-clause-turn
+returns-in-Moved-clause-turn g c = λ v opens own.
     let d = g.L.Driver.DriverEnd.driver in
+    let law = g.met.L.Layout.lawful.driver_end in
+    let port = g.P.Port.port in
     let a = c.args in
-    let opens' = subst (λ z. DriveOpens d a.script.now (drive a.end.now a.at.now a.offered.now a.returned.now.items (vec_capacity a.returned.now) z a.turn.now) v) opens.live opens in
-    let go = c.begin_drive.ensures.drives a.offered.now a.returned.now.items (vec_capacity a.returned.now) v opens' in
-    (v, go.drives.stands, c.requires.own.2)
+    let l = a.loaded.now in
+    let b = c.begin_drive.new.end in
+    let p = a.port.now in
+    let q = c.step.new.port in
+    let go = c.begin_drive.ensures.next v opens in
+    let h = c.in-Moved.ensures v go.opens.drives.stands own in
+    from_begun port d p q v a.end.now b l.script l.at l.offered l.returned.items l.stage _ _ go.owes (went_on port d law p q l.script v b c.step.new.self l.at l.offered l.returned.items l.stage go.opens h)
 
-pub returns-then-not-turn : goal.returns-then-not-turn
-returns-then-not-turn g c = λ v opens own.
+pub returns-in-Armed-clause-turn : goal.returns-in-Armed-clause-turn
+returns-in-Armed-clause-turn g c = λ v opens own.
     let d = g.L.Driver.DriverEnd.driver in
+    let law = g.met.L.Layout.lawful.driver_end in
+    let port = g.P.Port.port in
     let a = c.args in
-    let opens' = subst (λ z. DriveOpens d a.script.now (drive a.end.now a.at.now a.offered.now a.returned.now.items (vec_capacity a.returned.now) z a.turn.now) v) opens.live opens in
-    let go = c.begin_drive.ensures.drives a.offered.now a.returned.now.items (vec_capacity a.returned.now) v opens' in
-    let out : a.turn.now ≡ false = search rules in
-    subst (λ z. IsDriveTurn g.P.Port.port d a.script.now a.port.now c.step.new.port v (drive a.end.now a.at.now a.offered.now a.returned.now.items (vec_capacity a.returned.now) z a.turn.now) (drive c.step.new.self a.at.now a.offered.now a.returned.now.items (vec_capacity a.returned.now) z a.turn.now) Waits) (sym opens.live) (waited_at g.P.Port.port d g.met.L.Layout.lawful.driver_end a.port.now c.step.new.port a.script.now v a.end.now c.begin_drive.new.end c.step.new.self a.at.now a.offered.now a.returned.now.items (vec_capacity a.returned.now) a.turn.now out go (c.in-Nothing.ensures v go.drives.stands own))
+    let l = a.loaded.now in
+    let b = c.begin_drive.new.end in
+    let p = a.port.now in
+    let q = c.step.new.port in
+    let go = c.begin_drive.ensures.next v opens in
+    let h = c.in-Armed.ensures v go.opens.drives.stands own in
+    from_begun port d p q v a.end.now b l.script l.at l.offered l.returned.items l.stage _ _ go.owes (armed_at port d law p q l.script v b c.step.new.self l.at l.offered l.returned.items l.stage go.opens h)
 
-pub returns-else-not-turn : goal.returns-else-not-turn
-returns-else-not-turn g c = λ v opens own.
+pub returns-in-Asleep-clause-turn : goal.returns-in-Asleep-clause-turn
+returns-in-Asleep-clause-turn g c = λ v opens own.
     let d = g.L.Driver.DriverEnd.driver in
+    let law = g.met.L.Layout.lawful.driver_end in
+    let port = g.P.Port.port in
     let a = c.args in
-    let opens' = subst (λ z. DriveOpens d a.script.now (drive a.end.now a.at.now a.offered.now a.returned.now.items (vec_capacity a.returned.now) z a.turn.now) v) opens.live opens in
-    let go = c.begin_drive.ensures.drives a.offered.now a.returned.now.items (vec_capacity a.returned.now) v opens' in
-    let turn : a.turn.now ≡ true = search rules in
-    subst (λ z. IsDriveTurn g.P.Port.port d a.script.now a.port.now c.step.new.port v (drive a.end.now a.at.now a.offered.now a.returned.now.items (vec_capacity a.returned.now) z a.turn.now) (drive c.step.new.self a.at.now a.offered.now a.returned.now.items (vec_capacity a.returned.now) z false) Worked) (sym opens.live) (turned_at g.P.Port.port d g.met.L.Layout.lawful.driver_end a.port.now c.step.new.port a.script.now v a.end.now c.begin_drive.new.end c.step.new.self a.at.now a.offered.now a.returned.now.items (vec_capacity a.returned.now) a.turn.now turn go (c.in-Nothing.ensures v go.drives.stands own))
+    let l = a.loaded.now in
+    let b = c.begin_drive.new.end in
+    let p = a.port.now in
+    let q = c.step.new.port in
+    let go = c.begin_drive.ensures.next v opens in
+    let h = c.in-Asleep.ensures v go.opens.drives.stands own in
+    from_begun port d p q v a.end.now b l.script l.at l.offered l.returned.items l.stage _ _ go.owes (slept_at port d law p q l.script v b c.step.new.self l.at l.offered l.returned.items l.stage go.opens h)
 
-pub returns-in-Offered : goal.returns-in-Offered
-returns-in-Offered g c = λ v opens own.
+pub returns-in-Nothing-clause-turn : goal.returns-in-Nothing-clause-turn
+returns-in-Nothing-clause-turn g c = λ v opens own.
     let d = g.L.Driver.DriverEnd.driver in
+    let law = g.met.L.Layout.lawful.driver_end in
+    let port = g.P.Port.port in
     let a = c.args in
-    let opens' = subst (λ z. DriveOpens d a.script.now (drive a.end.now a.at.now a.offered.now a.returned.now.items (vec_capacity a.returned.now) z a.turn.now) v) opens.live opens in
-    let go = c.begin_drive.ensures.drives a.offered.now a.returned.now.items (vec_capacity a.returned.now) v opens' in
-    subst (λ z. IsDriveTurn g.P.Port.port d a.script.now a.port.now c.step.new.port v (drive a.end.now a.at.now a.offered.now a.returned.now.items (vec_capacity a.returned.now) z a.turn.now) (drive c.step.new.self c.settle.result (a.offered.now + 1) a.returned.now.items (vec_capacity a.returned.now) z a.turns) Worked) (sym opens.live)
-    (offered_at g.P.Port.port d g.met.L.Layout.lawful.driver_end a.port.now c.step.new.port a.script.now v a.end.now c.begin_drive.new.end c.step.new.self a.at.now a.offered.now a.returned.now.items (vec_capacity a.returned.now) a.turn.now c.settle.result c.in-Offered.field-0 a.turns go c.begin_drive.ensures.nearer (c.in-Offered.ensures v go.drives.stands own)
-    (subst (λ (rs : List Run). left_at rs c.settle.result ≡ left_at rs (record { run = a.at.now.run; used = a.at.now.used + 1 })) c.as_slice.ensures c.settle.ensures.left) (subst (λ (rs : List Run). IsSettled rs c.settle.result) c.as_slice.ensures c.settle.ensures.settled))
+    let l = a.loaded.now in
+    let b = c.begin_drive.new.end in
+    let p = a.port.now in
+    let q = c.step.new.port in
+    let go = c.begin_drive.ensures.next v opens in
+    let h = c.in-Nothing.ensures v go.opens.drives.stands own in
+    from_begun port d p q v a.end.now b l.script l.at l.offered l.returned.items l.stage _ _ go.owes (rw c.after_nothing-loaded.ensures (found_none port d law p q l.script v b c.step.new.self l.at l.offered l.returned.items l.stage go.opens own h))
 
-pub returns-in-Collected : goal.returns-in-Collected
-returns-in-Collected g c = λ v opens own.
+pub returns-in-Awake-clause-turn : goal.returns-in-Awake-clause-turn
+returns-in-Awake-clause-turn g c = λ v opens own.
     let d = g.L.Driver.DriverEnd.driver in
+    let law = g.met.L.Layout.lawful.driver_end in
+    let port = g.P.Port.port in
     let a = c.args in
-    let opens' = subst (λ z. DriveOpens d a.script.now (drive a.end.now a.at.now a.offered.now a.returned.now.items (vec_capacity a.returned.now) z a.turn.now) v) opens.live opens in
-    let go = c.begin_drive.ensures.drives a.offered.now a.returned.now.items (vec_capacity a.returned.now) v opens' in
+    let l = a.loaded.now in
+    let b = c.begin_drive.new.end in
+    let p = a.port.now in
+    let q = c.step.new.port in
+    let go = c.begin_drive.ensures.next v opens in
+    let h = c.in-Awake.ensures v go.opens.drives.stands own in
+    from_begun port d p q v a.end.now b l.script l.at l.offered l.returned.items l.stage _ _ go.owes (rw c.after_waking-loaded.ensures (rw c.waking-turn.ensures (woken_at port d law p q l.script v b c.step.new.self l.at l.offered l.returned.items l.stage c.armed.result go.opens h (sym c.armed.ensures))))
+
+pub returns-in-Offered-clause-turn : goal.returns-in-Offered-clause-turn
+returns-in-Offered-clause-turn g c = λ v opens own.
+    let d = g.L.Driver.DriverEnd.driver in
+    let law = g.met.L.Layout.lawful.driver_end in
+    let port = g.P.Port.port in
+    let a = c.args in
+    let l = a.loaded.now in
+    let b = c.begin_drive.new.end in
+    let p = a.port.now in
+    let q = c.step.new.port in
+    let go = c.begin_drive.ensures.next v opens in
+    let h = c.in-Offered.ensures v go.opens.drives.stands own in
+    from_begun port d p q v a.end.now b l.script l.at l.offered l.returned.items l.stage _ _ go.owes (rw c.after_offer-loaded.ensures (offered_at port d law p q l.script v b c.step.new.self l.at l.offered l.returned.items l.stage c.settle-loaded.result c.in-Offered.field-0 a.turns go.opens h
+        (subst (λ (rs : List Run). left_at rs c.settle-loaded.result ≡ left_at rs (record { run = l.at.run; used = l.at.used + 1 })) c.as_slice.ensures c.settle-loaded.ensures.left) (subst (λ (rs : List Run). IsSettled rs c.settle-loaded.result) c.as_slice.ensures c.settle-loaded.ensures.settled)))
+
+pub returns-then-len-loaded-clause-turn : goal.returns-then-len-loaded-clause-turn
+returns-then-len-loaded-clause-turn g c = λ v opens own.
+    let d = g.L.Driver.DriverEnd.driver in
+    let law = g.met.L.Layout.lawful.driver_end in
+    let port = g.P.Port.port in
+    let a = c.args in
+    let l = a.loaded.now in
+    let b = c.begin_drive.new.end in
+    let p = a.port.now in
+    let q = c.step.new.port in
+    let go = c.begin_drive.ensures.next v opens in
+    let h = c.in-Collected.ensures v go.opens.drives.stands own in
     let len : c.len.result ≡ length c.keep.new.list.items = omega (arith, c.len.ensures, c.keep.new.list.ok) in
-    subst (λ z. IsDriveTurn g.P.Port.port d a.script.now a.port.now c.step.new.port v (drive a.end.now a.at.now a.offered.now a.returned.now.items (vec_capacity a.returned.now) z a.turn.now) (drive c.step.new.self a.at.now a.offered.now c.keep.new.list.items (vec_capacity c.keep.new.list) (c.len.result == a.total) a.turn.now) Worked) (sym opens.live)
-    (collected_at g.P.Port.port d g.met.L.Layout.lawful.driver_end a.port.now c.step.new.port a.script.now v a.end.now c.begin_drive.new.end c.step.new.self a.at.now a.offered.now a.returned.now.items (vec_capacity a.returned.now) a.turn.now c.keep.new.list.items (vec_capacity c.keep.new.list) c.in-Collected.number c.in-Collected.len c.in-Collected.head (c.len.result == a.total) go c.begin_drive.ensures.nearer (c.in-Collected.ensures v go.drives.stands own) c.keep.ensures.items c.keep.ensures.room (test_is c.len.result a.total _ _ len c.requires.total))
+    let total = total_is l c.requires.plan in
+    from_begun port d p q v a.end.now b l.script l.at l.offered l.returned.items l.stage _ _ go.owes (collected_at port d law p q l.script v b c.step.new.self l.at l.offered l.returned.items l.stage c.keep.new.list.items c.in-Collected.number c.in-Collected.len c.in-Collected.head true go.opens h c.keep.ensures.items (sym (eq-eqb (length c.keep.new.list.items) (length (chains l.script)) (omega (arith, len, total, c.if-len-loaded.true)))))
 
-pub returns-in_default : goal.returns-in_default
-returns-in_default g c = λ v opens own.
+pub returns-else-len-loaded-clause-turn : goal.returns-else-len-loaded-clause-turn
+returns-else-len-loaded-clause-turn g c = λ v opens own.
     let d = g.L.Driver.DriverEnd.driver in
+    let law = g.met.L.Layout.lawful.driver_end in
+    let port = g.P.Port.port in
     let a = c.args in
-    let opens' = subst (λ z. DriveOpens d a.script.now (drive a.end.now a.at.now a.offered.now a.returned.now.items (vec_capacity a.returned.now) z a.turn.now) v) opens.live opens in
-    let go = c.begin_drive.ensures.drives a.offered.now a.returned.now.items (vec_capacity a.returned.now) v opens' in
-    subst (λ z. IsDriveTurn g.P.Port.port d a.script.now a.port.now c.step.new.port v (drive a.end.now a.at.now a.offered.now a.returned.now.items (vec_capacity a.returned.now) z a.turn.now) (drive c.step.new.self a.at.now a.offered.now a.returned.now.items (vec_capacity a.returned.now) z a.turn.now) Worked) (sym opens.live) (other g.P.Port.port d g.met.L.Layout.lawful.driver_end a.port.now c.step.new.port a.script.now v a.end.now c.begin_drive.new.end c.step.new.self a.at.now a.offered.now a.returned.now.items (vec_capacity a.returned.now) a.turn.now c.step.result go c.begin_drive.ensures.nearer c.begin_drive.ensures.busy c.in_default.not-Offered c.in_default.not-Collected c.in_default.not-Nothing (c.step.ensures v go.drives.stands own))
+    let l = a.loaded.now in
+    let b = c.begin_drive.new.end in
+    let p = a.port.now in
+    let q = c.step.new.port in
+    let go = c.begin_drive.ensures.next v opens in
+    let h = c.in-Collected.ensures v go.opens.drives.stands own in
+    let len : c.len.result ≡ length c.keep.new.list.items = omega (arith, c.len.ensures, c.keep.new.list.ok) in
+    let total = total_is l c.requires.plan in
+    from_begun port d p q v a.end.now b l.script l.at l.offered l.returned.items l.stage _ _ go.owes (collected_at port d law p q l.script v b c.step.new.self l.at l.offered l.returned.items l.stage c.keep.new.list.items c.in-Collected.number c.in-Collected.len c.in-Collected.head false go.opens h c.keep.ensures.items (sym (ne_eqb (length c.keep.new.list.items) (length (chains l.script)) (λ z. c.if-len-loaded.false (omega (arith, len, total, z))))))
 
 pub overflow_add-next : goal.overflow_add-next
 overflow_add-next g c =
-    let v = c.requires.own.0 in
-    let opens = c.requires.own.1 in
     let d = g.L.Driver.DriverEnd.driver in
+    let law = g.met.L.Layout.lawful.driver_end in
+    let port = g.P.Port.port in
     let a = c.args in
-    let opens' = subst (λ z. DriveOpens d a.script.now (drive a.end.now a.at.now a.offered.now a.returned.now.items (vec_capacity a.returned.now) z a.turn.now) v) opens.live opens in
-    let go = c.begin_drive.ensures.drives a.offered.now a.returned.now.items (vec_capacity a.returned.now) v opens' in
-    let fits = used_fits g.P.Port.port d g.met.L.Layout.lawful.driver_end a.port.now c.step.new.port a.script.now v a.end.now c.begin_drive.new.end c.step.new.self a.at.now a.offered.now a.returned.now.items (vec_capacity a.returned.now) a.turn.now c.in-Offered.field-0 go (c.in-Offered.ensures v go.drives.stands c.requires.own.2) in
-    omega (arith, fits)
+    let l = a.loaded.now in
+    let b = c.begin_drive.new.end in
+    let p = a.port.now in
+    let q = c.step.new.port in
+    let v = c.requires.own.0 in
+    let go = c.begin_drive.ensures.next v c.requires.own.1 in
+    let f = used_fits port d law p q l.script v b c.step.new.self l.at l.offered l.returned.items l.stage c.in-Offered.field-0 go.opens (c.in-Offered.ensures v go.opens.drives.stands c.requires.own.2) in
+    omega (arith, f.0)
+
+pub keep-requires : goal.keep-requires
+keep-requires g c =
+    let d = g.L.Driver.DriverEnd.driver in
+    let law = g.met.L.Layout.lawful.driver_end in
+    let port = g.P.Port.port in
+    let a = c.args in
+    let l = a.loaded.now in
+    let b = c.begin_drive.new.end in
+    let p = a.port.now in
+    let q = c.step.new.port in
+    let v = c.requires.own.0 in
+    let go = c.begin_drive.ensures.next v c.requires.own.1 in
+    let k = can_keep port d law p q l.script v b c.step.new.self l.at l.offered l.returned.items l.stage c.in-Collected.number c.in-Collected.len c.in-Collected.head go.opens in
+    omega (arith, k, c.requires.plan.room, total_is l c.requires.plan, l.returned.ok)

@@ -1,50 +1,108 @@
-use Rattle.std.proofs.Common.{rules, ◌≡◌, length, ◌<◌, ◌+◌, ap}
-use Rattle.vd_layout.specs.Begun.{DeviceOp}
-use Rattle.vd_models.proofs.Turns.{taken_at, given_at, waited_at, turned_at, rested_at, other, more_is, full_is}
+use Rattle.std.proofs.Common.{rules, ◌≡◌, refl, sym, ap, ◌∙◌, length}
+use Rattle.vd_models.specs.Serving.{all_of}
+use Rattle.vd_models.proofs.Turns.{went_on, found_none, armed_at, slept_at, woken_at, took, gave, rested, from_begun, more_is, full_is, can_take}
 use Rattle.vd_models.proofs.serving.serve.Goals as goal
 
-pub returns-in-Taken : goal.returns-in-Taken
-returns-in-Taken g c = λ w opens own.
+pub returns-in-Moved-clause-turn : goal.returns-in-Moved-clause-turn
+returns-in-Moved-clause-turn g c = λ w opens own.
+    let e = g.L.Device.DeviceEnd.device in
     let law = g.met.L.Layout.lawful.device_end in
-    let go = c.begin_next.ensures.serves c.args.by.now c.args.begun.now w opens (more_is _ _ c.args.by.now c.args.begun.now.items c.len.ensures.value (ap (λ n. c.args.by.now.at + n) c.count.ensures)) in
-    let s = c.in-Taken.ensures w go.serves.stands own in
-    let full = full_is _ _ _ _ _ _ c.is_full.ensures c.len-in-Taken.ensures.value (ap (λ n. c.args.by.now.at + n) c.count.ensures) in
-    rw c.after_take.ensures (taken_at g.P.Port.port g.L.Device.DeviceEnd.device law c.args.port.now c.step.new.port c.args.by.now w c.args.end.now c.begin_next.new.end c.step.new.self c.args.stage.now c.args.held.now c.note.new.held c.args.begun.now c.note.new.begun c.in-Taken.number c.in-Taken.chain _ go c.begin_next.ensures.nearer s c.note.ensures.held c.note.ensures.begun c.note.ensures.room full)
+    let port = g.P.Port.port in
+    let a = c.args in
+    let b = c.begin_next.new.session in
+    let p = a.port.now in
+    let q = c.step.new.port in
+    let go = c.begin_next.ensures.next a.begun.now w opens (more_is _ _ a.session.now.by a.begun.now.items c.len.ensures.value refl) in
+    let s = c.in-Moved.ensures w go.opens.serves.stands own in
+    from_begun port e p q w a.session.now b a.held.now a.begun.now _ _ go.owes (went_on port e law p q b.by w b.end c.step.new.self b.stage a.held.now a.begun.now go.opens s)
 
-pub returns-in-Given : goal.returns-in-Given
-returns-in-Given g c = λ w opens own.
+pub returns-in-Armed-clause-turn : goal.returns-in-Armed-clause-turn
+returns-in-Armed-clause-turn g c = λ w opens own.
+    let e = g.L.Device.DeviceEnd.device in
     let law = g.met.L.Layout.lawful.device_end in
-    let go = c.begin_next.ensures.serves c.args.by.now c.args.begun.now w opens (more_is _ _ c.args.by.now c.args.begun.now.items c.len.ensures.value (ap (λ n. c.args.by.now.at + n) c.count.ensures)) in
-    let s = c.in-Given.ensures w go.serves.stands own in
-    let same = (law.sized c.args.end.now w opens.serves.stands).1 in
-    rw c.after_give.ensures (given_at g.P.Port.port g.L.Device.DeviceEnd.device law c.args.port.now c.step.new.port c.args.by.now w c.args.end.now c.begin_next.new.end c.step.new.self c.args.stage.now c.features-in_order.result.in_order c.args.held.now c.drop_next.new.held c.args.begun.now c.in-Given.field-0 _ same (ap (λ f. f.in_order) c.features-in_order.ensures) go c.begin_next.ensures.nearer s c.drop_next.ensures c.is_empty.ensures)
+    let port = g.P.Port.port in
+    let a = c.args in
+    let b = c.begin_next.new.session in
+    let p = a.port.now in
+    let q = c.step.new.port in
+    let go = c.begin_next.ensures.next a.begun.now w opens (more_is _ _ a.session.now.by a.begun.now.items c.len.ensures.value refl) in
+    let s = c.in-Armed.ensures w go.opens.serves.stands own in
+    from_begun port e p q w a.session.now b a.held.now a.begun.now _ _ go.owes (armed_at port e law p q b.by w b.end c.step.new.self b.stage a.held.now a.begun.now go.opens s)
 
-pub returns-then-is_empty : goal.returns-then-is_empty
-returns-then-is_empty g c = λ w opens own.
+pub returns-in-Asleep-clause-turn : goal.returns-in-Asleep-clause-turn
+returns-in-Asleep-clause-turn g c = λ w opens own.
+    let e = g.L.Device.DeviceEnd.device in
     let law = g.met.L.Layout.lawful.device_end in
-    let go = c.begin_next.ensures.serves c.args.by.now c.args.begun.now w opens (more_is _ _ c.args.by.now c.args.begun.now.items c.len.ensures.value (ap (λ n. c.args.by.now.at + n) c.count.ensures)) in
-    let s = c.in-Nothing.ensures w go.serves.stands own in
-    let none : length c.args.held.now.items ≡ 0 = search rules in
-    waited_at g.P.Port.port g.L.Device.DeviceEnd.device law c.args.port.now c.step.new.port c.args.by.now w c.args.end.now c.begin_next.new.end c.step.new.self c.args.stage.now c.args.held.now c.args.begun.now go s none
+    let port = g.P.Port.port in
+    let a = c.args in
+    let b = c.begin_next.new.session in
+    let p = a.port.now in
+    let q = c.step.new.port in
+    let go = c.begin_next.ensures.next a.begun.now w opens (more_is _ _ a.session.now.by a.begun.now.items c.len.ensures.value refl) in
+    let s = c.in-Asleep.ensures w go.opens.serves.stands own in
+    from_begun port e p q w a.session.now b a.held.now a.begun.now _ _ go.owes (slept_at port e law p q b.by w b.end c.step.new.self b.stage a.held.now a.begun.now go.opens s)
 
-pub returns-else-is_empty : goal.returns-else-is_empty
-returns-else-is_empty g c = λ w opens own.
+pub returns-in-Rested-clause-turn : goal.returns-in-Rested-clause-turn
+returns-in-Rested-clause-turn g c = λ w opens own.
+    let e = g.L.Device.DeviceEnd.device in
     let law = g.met.L.Layout.lawful.device_end in
-    let go = c.begin_next.ensures.serves c.args.by.now c.args.begun.now w opens (more_is _ _ c.args.by.now c.args.begun.now.items c.len.ensures.value (ap (λ n. c.args.by.now.at + n) c.count.ensures)) in
-    let s = c.in-Nothing.ensures w go.serves.stands own in
-    let some : 0 < length c.args.held.now.items = search rules in
-    turned_at g.P.Port.port g.L.Device.DeviceEnd.device law c.args.port.now c.step.new.port c.args.by.now w c.args.end.now c.begin_next.new.end c.step.new.self c.args.stage.now c.args.held.now c.args.begun.now go c.begin_next.ensures.nearer s some
+    let port = g.P.Port.port in
+    let a = c.args in
+    let b = c.begin_next.new.session in
+    let p = a.port.now in
+    let q = c.step.new.port in
+    let go = c.begin_next.ensures.next a.begun.now w opens (more_is _ _ a.session.now.by a.begun.now.items c.len.ensures.value refl) in
+    let s = c.in-Rested.ensures w go.opens.serves.stands own in
+    from_begun port e p q w a.session.now b a.held.now a.begun.now _ _ go.owes (rested port e law p q b.by w b.end c.step.new.self b.stage a.held.now a.begun.now go.opens s)
 
-pub returns-in-Rested : goal.returns-in-Rested
-returns-in-Rested g c = λ w opens own.
+pub returns-in-Nothing-clause-turn : goal.returns-in-Nothing-clause-turn
+returns-in-Nothing-clause-turn g c = λ w opens own.
+    let e = g.L.Device.DeviceEnd.device in
     let law = g.met.L.Layout.lawful.device_end in
-    let go = c.begin_next.ensures.serves c.args.by.now c.args.begun.now w opens (more_is _ _ c.args.by.now c.args.begun.now.items c.len.ensures.value (ap (λ n. c.args.by.now.at + n) c.count.ensures)) in
-    rested_at g.P.Port.port g.L.Device.DeviceEnd.device law c.args.port.now c.step.new.port c.args.by.now w c.args.end.now c.begin_next.new.end c.step.new.self c.args.stage.now c.args.held.now c.args.begun.now go (c.in-Rested.ensures w go.serves.stands own)
+    let port = g.P.Port.port in
+    let a = c.args in
+    let b = c.begin_next.new.session in
+    let p = a.port.now in
+    let q = c.step.new.port in
+    let go = c.begin_next.ensures.next a.begun.now w opens (more_is _ _ a.session.now.by a.begun.now.items c.len.ensures.value refl) in
+    let s = c.in-Nothing.ensures w go.opens.serves.stands own in
+    from_begun port e p q w a.session.now b a.held.now a.begun.now _ _ go.owes (rw c.after_nothing-session.ensures (found_none port e law p q b.by w b.end c.step.new.self b.stage a.held.now a.begun.now c.is_empty-in-Nothing.result go.opens own s c.is_empty-in-Nothing.ensures))
 
-pub returns-in_default : goal.returns-in_default
-returns-in_default g c = λ w opens own.
+pub returns-in-Awake-clause-turn : goal.returns-in-Awake-clause-turn
+returns-in-Awake-clause-turn g c = λ w opens own.
+    let e = g.L.Device.DeviceEnd.device in
     let law = g.met.L.Layout.lawful.device_end in
-    let go = c.begin_next.ensures.serves c.args.by.now c.args.begun.now w opens (more_is _ _ c.args.by.now c.args.begun.now.items c.len.ensures.value (ap (λ n. c.args.by.now.at + n) c.count.ensures)) in
-    let busy : g.L.Device.DeviceEnd.device.begun c.begin_next.new.end ≡ DeviceOp.idle → ⊥ = c.begin_next.ensures.busy in
-    other g.P.Port.port g.L.Device.DeviceEnd.device law c.args.port.now c.step.new.port c.args.by.now w c.args.end.now c.begin_next.new.end c.step.new.self c.step.result c.args.stage.now c.args.held.now c.args.begun.now go c.begin_next.ensures.nearer busy
-    c.in_default.not-Taken c.in_default.not-Given c.in_default.not-Nothing c.in_default.not-Rested (c.step.ensures w go.serves.stands own)
+    let port = g.P.Port.port in
+    let a = c.args in
+    let b = c.begin_next.new.session in
+    let p = a.port.now in
+    let q = c.step.new.port in
+    let go = c.begin_next.ensures.next a.begun.now w opens (more_is _ _ a.session.now.by a.begun.now.items c.len.ensures.value refl) in
+    let s = c.in-Awake.ensures w go.opens.serves.stands own in
+    from_begun port e p q w a.session.now b a.held.now a.begun.now _ _ go.owes (rw c.after_waking-session.ensures (rw c.waking-turn.ensures (woken_at port e law p q b.by w b.end c.step.new.self b.stage a.held.now a.begun.now c.armed.result go.opens s (sym c.armed.ensures))))
+
+pub returns-in-Taken-clause-turn : goal.returns-in-Taken-clause-turn
+returns-in-Taken-clause-turn g c = λ w opens own.
+    let e = g.L.Device.DeviceEnd.device in
+    let law = g.met.L.Layout.lawful.device_end in
+    let port = g.P.Port.port in
+    let a = c.args in
+    let b = c.begin_next.new.session in
+    let p = a.port.now in
+    let q = c.step.new.port in
+    let go = c.begin_next.ensures.next a.begun.now w opens (more_is _ _ a.session.now.by a.begun.now.items c.len.ensures.value refl) in
+    let s = c.in-Taken.ensures w go.opens.serves.stands own in
+    from_begun port e p q w a.session.now b a.held.now a.begun.now _ _ go.owes (rw c.after_take-session.ensures (took port e law p q b.by w b.end c.step.new.self b.stage a.held.now c.note.new.held a.begun.now c.note.new.begun c.in-Taken.number c.in-Taken.chain _ go.opens s c.note.ensures.held c.note.ensures.begun c.note.ensures.room (full_is _ _ _ _ _ _ c.is_full.ensures c.len-in-Taken.ensures.value (ap all_of (sym c.begin_next.ensures.by)))))
+
+pub returns-in-Given-clause-turn : goal.returns-in-Given-clause-turn
+returns-in-Given-clause-turn g c = λ w opens own.
+    let e = g.L.Device.DeviceEnd.device in
+    let law = g.met.L.Layout.lawful.device_end in
+    let port = g.P.Port.port in
+    let a = c.args in
+    let b = c.begin_next.new.session in
+    let p = a.port.now in
+    let q = c.step.new.port in
+    let go = c.begin_next.ensures.next a.begun.now w opens (more_is _ _ a.session.now.by a.begun.now.items c.len.ensures.value refl) in
+    let s = c.in-Given.ensures w go.opens.serves.stands own in
+    from_begun port e p q w a.session.now b a.held.now a.begun.now _ _ go.owes (rw c.after_give-session.ensures (gave port e law p q b.by w b.end c.step.new.self c.features-in_order.result.in_order b.stage a.held.now c.drop_next.new.held a.begun.now c.in-Given.field-0 _ (sym (ap (λ f. f.in_order) (c.features-in_order.ensures ∙ (law.sized a.session.now.end w opens.serves.stands).1))) go.opens s c.drop_next.ensures c.is_empty.ensures))

@@ -1,45 +1,48 @@
 use Rattle.std.proofs.Common.{arith, rules, ◌≡◌, ◌<◌, false, is_err, refl, sym, ap, ◌∙◌}
 use Rattle.circular_buffer.specs.Buffer.{Buffer}
-use Rattle.vd_bus.specs.Orders.{Terms}
-use Rattle.vd_models.specs.declared.serving.Held.{Held}
-use Rattle.vd_models.proofs.Parties.{starts, ok_of, room_most, room_some, room_all}
 use Rattle.std.specs.Option.{option_copied}
 use Rattle.vd_bus.specs.Device.{control_settings}
+use Rattle.vd_bus.specs.Pace.{attaches}
 use Rattle.vd_models.specs.declared.device.ModelDevice.{ModelDevice}
+use Rattle.vd_models.specs.declared.serving.Session.{Session}
+use Rattle.vd_models.specs.declared.serving.Stage.TheVariants as stage
+use Rattle.vd_models.specs.declared.window.Held.{Held}
+use Rattle.vd_models.proofs.Parties.{starts, begins_paid, attaches_more, ok_of, room_most, room_some, room_all}
 use Rattle.vd_models.proofs.device.ModelDeviceDevice.attach.Goals.{in-Some, in-None}
 use Rattle.vd_models.proofs.device.ModelDeviceDevice.attach.Goals as goal
 
 pub returns : goal.returns
 returns g c =
     let e = g.L.Device.DeviceEnd.device in
+    let law = g.met.L.Layout.lawful.device_end in
     let m = c.args.self.now in
     let ok : is_err c.resume.result ≡ false = search rules in
     let stands = ok_of c.resume.result _ ok c.resume.ensures.stands in
+    let idle = ok_of c.resume.result _ ok c.resume.ensures.begun in
     let events = c.requires.events in
     let full : 0 < c.in-Some-held.held.capacity = room_some m.held c.in-Some-held.held m.journal.events.room c.in-Some-held.is (omega arith) in
     let cleared : c.clear.new.self.capacity ≡ c.in-Some-held.held.capacity = ap (λ (z : Buffer Held). z.capacity) c.clear.ensures in
-    let count = ap (λ (z : Terms). z.count) c.copy-2.ensures in
+    let session : Session g.row.L-Device.Denot = record { end = c.resume.new.self; by = record { queue = c.queue.result; count = c.count.result; at = c.len-at.result; from = c.taken.result }; stage = stage.Taking } in
     let settings : c.match-control.settings ≡ control_settings (λ (z : ModelDevice g.row.L.Denot g.row.L-Driver.Denot g.row.L-Device.Denot g.L.Layout g.L.Driver.DriverEnd g.L.Device.DeviceEnd). z.settings) (option_copied c.args.control) = elim c.match-control.branch [
       | in-Some w ↦ w.settings-is ∙ sym (ap (λ o. control_settings {X = ModelDevice g.row.L.Denot g.row.L-Driver.Denot g.row.L-Device.Denot g.L.Layout g.L.Driver.DriverEnd g.L.Device.DeviceEnd} (λ z. z.settings) (option_copied o)) w.in-Some.is)
       | in-None w ↦ w.settings-is ∙ w.new-settings.ensures.value ∙ sym (ap (λ o. control_settings {X = ModelDevice g.row.L.Denot g.row.L-Driver.Denot g.row.L-Device.Denot g.L.Layout g.L.Driver.DriverEnd g.L.Device.DeviceEnd} (λ z. z.settings) (option_copied o)) w.in-None.is)
     ] in
+    let more = attaches_more m.journal.events.items c.push.new.self.items _ c.push.ensures.items in
     record {
       from = c.taken.result;
-      attached = cc (c.copy-2.ensures, c.len-at.ensures.value);
+      attached = cc (c.queue.ensures, c.count.ensures, c.len-at.ensures.value);
       taken = λ w st. c.taken.ensures w (stands w st);
       holds = λ w st fits. record {
-        is_end = c.resume.new.self;
-        is_by = record { order = c.copy-2.result; at = c.len-at.result; from = c.taken.result };
+        is_session = session;
         is_held = c.clear.new.self;
-        at_end = refl;
-        at_by = refl;
+        at_session = refl;
         at_held = refl;
-        serves = starts e g.met.L.Layout.lawful.device_end c.args.end c.resume.new.self (record { order = c.copy-2.result; at = c.len-at.result; from = c.taken.result }) c.clear.new.self m.journal.begun w st c.requires.still (stands w st)
-            (ok_of c.resume.result _ ok c.resume.ensures.begun) (ok_of c.resume.result _ ok c.resume.ensures.awake) c.len-at.ensures.value (c.taken.ensures w (stands w st)) (ap (λ (z : Buffer Held). z.items) c.clear.ensures) (omega arith)
-            (omega (arith, count, c.requires.chains)) (omega (arith, count, c.requires.few, c.len-at.ensures.value)) m.lens;
+        serves = starts e law c.args.end session c.clear.new.self m.journal.begun w refl st c.requires.still (stands w st) idle (ok_of c.resume.result _ ok c.resume.ensures.awake) c.len-at.ensures.value
+            (c.taken.ensures w (stands w st)) (ap (λ (z : Buffer Held). z.items) c.clear.ensures) (omega arith) (omega (arith, c.count.ensures, c.requires.chains)) (omega (arith, c.count.ensures, c.requires.few, c.len-at.ensures.value)) m.lens;
+        paid = begins_paid e law c.args.end session c.clear.new.self m.journal.begun w m.counts (attaches m.journal.events.items) (attaches c.push.new.self.items) st c.requires.still idle c.len-at.ensures.value (c.taken.ensures w (stands w st)) more (m.paced c.requires.free);
         event = omega (arith, events, room_most m.held m.journal.events.room, c.push.ensures.room);
       };
       live = λ d. cc;
-      noted = record { events = cc (c.push.ensures.items, c.len-at.ensures.value, c.ring.ensures, c.base-2.ensures, c.mode.ensures, settings, c.map.ensures, c.copy.ensures); begun = refl; faults = refl; carried = refl; room = (omega (arith, room_most m.held m.journal.events.room, c.push.ensures.room, room_all c.clear.new.self c.push.new.self.room (omega arith)), omega arith) };
+      noted = record { events = cc (c.push.ensures.items, c.len-at.ensures.value, c.ring.ensures, c.base-2.ensures, c.mode.ensures, settings, c.map.ensures, c.copy.ensures); begun = refl; faults = refl; window = refl; carried = refl; room = (omega (arith, room_most m.held m.journal.events.room, c.push.ensures.room, room_all c.clear.new.self c.push.new.self.room (omega arith)), omega arith); counts = (refl, refl) };
       settings = refl;
     }

@@ -1,24 +1,34 @@
-use Rattle.std.proofs.Common.{arith, refl}
-use Rattle.vd_models.proofs.Parties.{opened, not_done, finished_at, looked_at, room_most, room_all, window_some}
+use Rattle.std.proofs.Common.{arith, refl, sym, ap, ◌∙◌, Some, length}
+use Rattle.vd_bus.specs.Pace.{raised, attaches}
+use Rattle.vd_models.specs.Serving.{attached_of, state}
+use Rattle.vd_models.proofs.Parties.{opened, not_done, finished_at, looked_at, counted_at, pays, room_most, room_all}
+use Rattle.vd_models.proofs.Stages.{window_some}
 use Rattle.vd_models.proofs.device.ModelDeviceDevice.step.Goals as goal
 
 pub returns : goal.returns
 returns g c = λ w holds own.
+    let e = g.L.Device.DeviceEnd.device in
     let m = c.args.self.now in
-    let h = c.serve.new.held in
-    let v = opened g.L.Device.DeviceEnd.device m.end m.by m.held m.stage m.journal w c.in-Some.end c.in-Some-by.by c.in-Some-held.held holds c.in-Some.is c.in-Some-by.is c.in-Some-held.is in
-    let t = c.serve.ensures w (record { serves = v; live = not_done m.stage c.requires.live }) own in
-    let room = room_all h m.journal.events.room (window_some c.serve.new.stage _ h.capacity t.serves.window) in
+    let s = c.in-Some.session in
+    let h = c.serve-turn.new.held in
+    let o = opened e m.session m.held m.journal m.counts w s c.in-Some-held.held holds c.in-Some.is c.in-Some-held.is in
+    let t = c.serve-turn.ensures.turn w (record { serves = o.serves; live = not_done m.session s c.in-Some.is c.requires.live }) own in
+    let room = room_all h m.journal.events.room (window_some c.serve-turn.new.session.stage _ h.capacity t.serves.window) in
+    let same = ap Some c.serve-turn.ensures.by ∙ sym (ap attached_of c.in-Some.is) in
+    let paid = pays g.P.Port.port e c.args.port.now c.serve-turn.new.port w (state s c.in-Some-held.held m.journal.begun) (state c.serve-turn.new.session h c.serve-turn.new.begun) c.serve-turn.result s.by c.serve-turn.new.session.by (attaches m.journal.events.items) m.counts c.note.new.self c.serve-turn.ensures.by t c.note.ensures.accesses c.note.ensures.heard o.serves.serving.before t.serves.serving.before o.paid in
     record {
       op = t.op;
       access = t.access;
       got = t.got;
       was_next = t.was_next;
       moved = t.moved;
-      holds = record { is_end = c.serve.new.end; is_by = c.in-Some-by.by; is_held = h; at_end = refl; at_by = c.in-Some-by.is; at_held = refl; serves = t.serves; event = holds.event };
-      served = record { events = refl; grows = t.begun; settings = λ b i d. refl; faults = refl; carried = refl; attached = refl; room = (omega (arith, room, room_most m.held m.journal.events.room), t.room) };
+      holds = record { is_session = c.serve-turn.new.session; is_held = h; at_session = refl; at_held = refl; serves = t.serves; paid = paid; event = holds.event };
+      served = record { events = refl; grows = t.begun; settings = λ b i d. refl; faults = refl; window = refl; carried = refl; attached = same; room = (omega (arith, room, room_most m.held m.journal.events.room), t.room) };
       grows = t.grows;
-      finished = finished_at c.move_of.result _ _ c.move_of.ensures c.is_done.ensures;
-      looked = looked_at c.move_of.result _ _ c.move_of.ensures t.looked;
+      acts = t.acts;
+      finished = finished_at c.move_of.result c.serve-turn.result c.is_done-done.result _ c.move_of.ensures c.is_done-done.ensures t.slept;
+      looked = looked_at c.move_of.result c.serve-turn.result c.is_done-done.result _ c.move_of.ensures t.looked;
       rested = t.rested;
+      accesses = c.note.ensures.accesses ∙ ap (λ k. raised k m.counts.accesses) (counted_at c.move_of.result c.serve-turn.result c.is_done-done.result c.move_of.ensures);
+      heard = c.note.ensures.heard ∙ ap (λ k. raised k m.counts.heard) t.woken;
     }

@@ -1,5 +1,6 @@
 use Rattle.std.proofs.Common.{rules, arith, ap, ◌≢◌, drop}
-use Rattle.vd_models.specs.Faulty.{attaches, was_refused}
+use Rattle.vd_bus.specs.Pace.{attaches}
+use Rattle.vd_models.specs.Faulty.{was_refused}
 use Rattle.vd_models.proofs.Faults.{asked_push, after_push, one_more, accepted}
 use Rattle.vd_models.proofs.faulty.FaultyDeviceDevice.attach.Goals as goal
 

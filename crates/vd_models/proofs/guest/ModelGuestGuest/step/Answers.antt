@@ -1,22 +1,35 @@
-use Rattle.std.proofs.Common.{arith, refl, sym, ap, ◌∙◌}
-use Rattle.vd_models.specs.Driving.{script_of}
-use Rattle.vd_models.proofs.Parties.{finished_at, looked_at}
-use Rattle.vd_models.proofs.GuestParties.{opened, planned, total_is, not_done}
+use Rattle.std.proofs.Common.{◌≡◌, true, false, arith, refl, sym, ap, ◌∙◌, Some}
+use Rattle.vd_bus.specs.Pace.{raised}
+use Rattle.vd_models.specs.Driving.{drive, script_of, offered_of}
+use Rattle.vd_models.proofs.Parties.{finished_at, looked_at, counted_at}
+use Rattle.vd_models.proofs.GuestParties.{opened, not_done, pays, less_paid}
 use Rattle.vd_models.proofs.guest.ModelGuestGuest.step.Goals as goal
 
-pub drive-requires-clause-total : goal.drive-requires-clause-total
-drive-requires-clause-total g c = total_is c.in-Some-take.loaded (planned g.L.Driver.DriverEnd.driver c.args.self.now.end c.args.self.now.loaded c.requires.own.0 c.in-Some-take.loaded c.requires.own.1 (sym c.take-2.ensures.value ∙ c.in-Some-take.is))
+pub invariant_of-self : goal.invariant_of-self
+invariant_of-self g c =
+    let d = g.L.Driver.DriverEnd.driver in
+    let m = c.args.self.now in
+    let r = c.requires.own in
+    let o = opened d m.end m.loaded m.counts r.0 c.in-Some.end c.in-Some-loaded.loaded r.1 c.in-Some.is c.in-Some-loaded.is in
+    let t = c.drive-turn.ensures.turn r.0 (record { drives = o.drives; live = not_done m.loaded c.in-Some-loaded.loaded c.in-Some-loaded.is c.requires.live }) r.2 in
+    let n = c.drive-turn.new in
+    let kept = c.drive-turn.ensures.kept in
+    record {
+      fresh = λ e. absurd (cc (kept.booted, o.booted, e));
+      paced = less_paid c.note.new.self _ _ (pays g.P.Port.port d c.args.port.now n.port r.0 (drive c.in-Some.end c.in-Some-loaded.loaded) (drive n.end n.loaded) c.drive-turn.result m.counts c.note.new.self t c.note.ensures.accesses c.note.ensures.heard o.paid);
+    }
 
 pub returns : goal.returns
 returns g c = λ v holds own.
     let d = g.L.Driver.DriverEnd.driver in
     let m = c.args.self.now in
-    let y = c.in-Some-take.loaded in
-    let is_y = sym c.take-2.ensures.value ∙ c.in-Some-take.is in
-    let plan = planned d m.end m.loaded v y holds is_y in
-    let o = opened d m.end m.loaded v c.in-Some.end y holds (sym c.take.ensures.value ∙ c.in-Some.is) is_y in
-    let t = c.drive.ensures v (record { drives = o; live = not_done m.loaded y is_y c.requires.live }) own in
-    let n = c.drive.new in
+    let y = c.in-Some-loaded.loaded in
+    let o = opened d m.end m.loaded m.counts v c.in-Some.end y holds c.in-Some.is c.in-Some-loaded.is in
+    let t = c.drive-turn.ensures.turn v (record { drives = o.drives; live = not_done m.loaded y c.in-Some-loaded.is c.requires.live }) own in
+    let n = c.drive-turn.new in
+    let kept = c.drive-turn.ensures.kept in
+    let u = c.drive-turn.result in
+    let b = c.is_done-done.result in
     record {
       op = t.op;
       access = t.access;
@@ -25,14 +38,19 @@ returns g c = λ v holds own.
       moved = t.moved;
       holds = record {
         is_end = n.end;
-        is_loaded = record { script = y.script; total = y.total; at = n.at; offered = n.offered; returned = n.returned; done = n.done; turn = n.turn };
+        is_loaded = n.loaded;
         at_end = refl;
         at_loaded = refl;
-        plan = record { total = plan.total; few = plan.few; room = omega (arith, t.drives.room, total_is y plan) };
+        plan = kept.plan;
+        booted = kept.booted ∙ o.booted;
         drives = t.drives;
+        paid = pays g.P.Port.port d c.args.port.now n.port v (drive c.in-Some.end y) (drive n.end n.loaded) u m.counts c.note.new.self t c.note.ensures.accesses c.note.ensures.heard o.paid;
       };
-      script = sym (ap script_of is_y);
+      script = ap Some kept.script ∙ sym (ap script_of c.in-Some-loaded.is);
       grows = t.grows;
-      finished = finished_at c.move_of.result n.done n.done c.move_of.ensures refl;
-      looked = looked_at c.move_of.result n.done _ c.move_of.ensures t.looked;
+      acts = t.acts;
+      finished = finished_at c.move_of.result u b _ c.move_of.ensures c.is_done-done.ensures t.slept;
+      looked = looked_at c.move_of.result u b _ c.move_of.ensures t.looked;
+      accesses = c.note.ensures.accesses ∙ ap (λ k. raised k m.counts.accesses) (counted_at c.move_of.result u b c.move_of.ensures);
+      heard = c.note.ensures.heard ∙ ap (λ k. raised k m.counts.heard) t.woken;
     }

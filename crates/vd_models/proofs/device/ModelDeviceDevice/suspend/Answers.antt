@@ -1,0 +1,25 @@
+use Rattle.std.proofs.Common.{◌≡◌, ◌+◌, arith, ap, sym, ◌∙◌, Some, length}
+use Rattle.vd_bus.specs.Device.{gave}
+use Rattle.vd_models.specs.Serving.{attached_of}
+use Rattle.vd_models.specs.Laws.{serves_law, done_law, pace_law}
+use Rattle.vd_models.proofs.Parties.{attaches_more}
+use Rattle.vd_models.proofs.device.ModelDeviceDevice.suspend.Goals as goal
+
+pub invariant_of-self : goal.invariant_of-self
+invariant_of-self g c =
+    let m = c.args.self.now in
+    let e = g.L.Device.DeviceEnd.device in
+    let law = g.met.L.Layout.lawful.device_end in
+    let w = c.requires.held.0 in
+    let holds = c.requires.held.1 in
+    let by = c.in-Some.session.by in
+    let is = ap attached_of (sym c.take.ensures.value ∙ c.in-Some.is) in
+    let served = serves_law e m.session m.held m.journal m.counts w by holds is in
+    let done = done_law e law m.session m.held m.journal m.counts w by holds is c.requires.done in
+    let all : gave by w ≡ length m.journal.begun.items = omega (arith, served.as_many, served.before, done.as_many) in
+    record {
+      some = m.some;
+      sized = m.sized;
+      lens = m.lens;
+      paced = λ n few fewer. omega (arith, pace_law e m.session m.held m.journal m.counts w by holds is few fewer, all, attaches_more m.journal.events.items c.push.new.self.items _ c.push.ensures.items);
+    }
