@@ -42,16 +42,17 @@ times_of name ds = count_by (is_named name) ds
 
 -- the name of a feature
 abbrev pub is_feature : Data → Bool
-is_feature d = is_named (codes "event_idx") d || is_named (codes "in_order") d
+is_feature d = (is_named (codes "indirect") d || is_named (codes "event_idx") d) || is_named (codes "in_order") d
 
 -- each is a feature's name, and none stands twice
 abbrev pub are_features : List Data → Bool
-are_features ds = (list_all is_feature ds && nat_le (times_of (codes "event_idx") ds) 1) && nat_le (times_of (codes "in_order") ds) 1
+are_features ds =
+    ((list_all is_feature ds && nat_le (times_of (codes "indirect") ds) 1) && nat_le (times_of (codes "event_idx") ds) 1) && nat_le (times_of (codes "in_order") ds) 1
 
 -- the features that the list names (VIRTIO 1.2, 6)
 abbrev pub features_in : List Data → Features
 features_in ds = record {
-  indirect = false;
+  indirect = nat_le 1 (times_of (codes "indirect") ds);
   event_idx = nat_le 1 (times_of (codes "event_idx") ds);
   in_order = nat_le 1 (times_of (codes "in_order") ds);
 }

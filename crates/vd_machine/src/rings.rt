@@ -71,7 +71,7 @@ fn is_named(name: &str, value: &Value) -> bool
 fn is_feature(value: &Value) -> bool
     ensures { result ≡ is_feature (view value.now) }
 {
-    is_named("event_idx", value) || is_named("in_order", value)
+    is_named("indirect", value) || is_named("event_idx", value) || is_named("in_order", value)
 }
 
 fn all_features(values: &[Value]) -> bool
@@ -102,6 +102,7 @@ fn are_features(values: &[Value]) -> bool
     ensures { result ≡ are_features (map view values.now) }
 {
     each_is_feature(values)
+        && times_of("indirect", values) <= 1
         && times_of("event_idx", values) <= 1
         && times_of("in_order", values) <= 1
 }
@@ -110,7 +111,7 @@ fn features_in(values: &[Value]) -> Features
     ensures { result ≡ features_in (map view values.now) }
 {
     Features {
-        indirect: false,
+        indirect: 1 <= times_of("indirect", values),
         event_idx: 1 <= times_of("event_idx", values),
         in_order: 1 <= times_of("in_order", values),
     }
@@ -120,7 +121,6 @@ fn features_in(values: &[Value]) -> Features
 #[tactic(auto, unfolding(crate::specs::Rings::features_of))]
 pub fn features_of(file: &Table) -> Option<Features>
     ensures value { result ≡ features_of (table_view file.now) }
-    ensures direct { IfSome result (λ f. f.indirect ≡ false) }
 {
     let values = items_at(file, "features");
     if are_features(values) {
