@@ -35,6 +35,12 @@ expect 'no chains' 0 '' 'queue 0 chains 0 bytes 0
 epoch 0 0 pass 0 0
 drained 0
 ' play
+cp examples/tables.toml "$work/in"
+expect 'sixteen pieces in a ring of two' 0 '' 'queue 0 chains 1 bytes 15
+chain 0 0 15
+epoch 0 0 pass 0 1
+drained 1
+' play
 cp examples/size-of-three.toml "$work/in"
 expect 'a size of three' 2 'vdpa: machine file breaks rule M6' '' play
 
