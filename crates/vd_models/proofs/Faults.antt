@@ -15,8 +15,13 @@ attaches_push (Suspend at base ∷ es) e = attaches_push es e
 attaches_push (Reset at ∷ es) e = attaches_push es e
 
 -- an event more
-pub asked_push : (r : Refusal) (es es' : List Event) (e : Event) (n : ℕ) → r.after ≤ length es → es' ≡ es ++ e ∷ [] → asked r es' n ≡ asked r es n + attaches (e ∷ [])
-asked_push r es es' e n low is = omega (arith, ap (λ zs. attaches (drop r.after zs)) is ∙ ap attaches (drop-append-le r.after es (e ∷ []) low) ∙ attaches_push (drop r.after es) e)
+pub asked_push : (r : Refusal) (es es' : List Event) (e : Event) (n : ℕ) → r.after ≤ length es → es' ≡ es ++ e ∷ []
+    → asked r es' n ≡ asked r es n + attaches (e ∷ [])
+asked_push r es es' e n low is = omega (
+  arith,
+  ap (λ zs. attaches (drop r.after zs)) is ∙ ap attaches
+      (drop-append-le r.after es (e ∷ []) low) ∙ attaches_push (drop r.after es) e,
+)
 
 pub after_push : (r : Refusal) (es es' : List Event) (e : Event) → r.after ≤ length es → es' ≡ es ++ e ∷ [] → r.after ≤ length es'
 after_push r es es' e low is = omega (arith, ap length is, length_push es e)
@@ -38,7 +43,8 @@ pub count : (number left : ℕ) → Count number left
 count number left = record {
   none = λ e. ap {B = ℕ} (λ b. if b then (if nat_lt 0 left then 0 else 1) else 0) (not_below 0 number (omega arith));
   before = λ h. at (nat_lt 0 number) (nat_lt 0 left) (lt-ltb 0 left h);
-  after = λ h e. ap {B = ℕ} (λ b. if b then (if nat_lt 0 left then 0 else 1) else 0) (lt-ltb 0 number h) ∙ ap {B = ℕ} (λ b. if b then 0 else 1) (not_below 0 left (omega arith));
+  after = λ h e. ap {B = ℕ} (λ b. if b then (if nat_lt 0 left then 0 else 1) else 0) (lt-ltb 0 number h) ∙ ap {B = ℕ}
+      (λ b. if b then 0 else 1) (not_below 0 left (omega arith));
 }
   where
     at : (a b : Bool) → b ≡ true → ◌≡◌ {A = ℕ} (if a then (if b then 0 else 1) else 0) 0
@@ -49,14 +55,20 @@ count number left = record {
 pub refused_at : (number asked left : ℕ) → left ≡ number - asked → was_refused number left ≡ refused number asked
 refused_at number asked left is = elim (cases_lt 0 number) [
   | inl some ↦ elim (cases_lt asked number) [
-    | inl low ↦ (count number left).before (omega arith) ∙ sym (ap {B = ℕ} (λ b. if b then (if nat_lt asked number then 0 else 1) else 0) (lt-ltb 0 number some) ∙ ap {B = ℕ} (λ b. if b then 0 else 1) (lt-ltb asked number low))
-    | inr high ↦ (count number left).after some (omega arith) ∙ sym (ap {B = ℕ} (λ b. if b then (if nat_lt asked number then 0 else 1) else 0) (lt-ltb 0 number some) ∙ ap {B = ℕ} (λ b. if b then 0 else 1) (not_below asked number high))
+    | inl low ↦ (count number left).before (omega arith) ∙ sym
+        (ap {B = ℕ} (λ b. if b then (if nat_lt asked number then 0 else 1) else 0) (lt-ltb 0 number some) ∙ ap {B = ℕ}
+        (λ b. if b then 0 else 1) (lt-ltb asked number low))
+    | inr high ↦ (count number left).after some (omega arith) ∙ sym
+        (ap {B = ℕ} (λ b. if b then (if nat_lt asked number then 0 else 1) else 0) (lt-ltb 0 number some) ∙ ap {B = ℕ}
+        (λ b. if b then 0 else 1) (not_below asked number high))
   ]
-  | inr zero ↦ (count number left).none (omega arith) ∙ sym (ap {B = ℕ} (λ b. if b then (if nat_lt asked number then 0 else 1) else 0) (not_below 0 number zero))
+  | inr zero ↦ (count number left).none (omega arith) ∙ sym
+      (ap {B = ℕ} (λ b. if b then (if nat_lt asked number then 0 else 1) else 0) (not_below 0 number zero))
 ]
 
 -- an attach more, where the next one isn't the one of the number
-pub one_more : (number left a : ℕ) → left ≢ 1 → left ≡ number - (a + was_refused number left) → left - 1 ≡ number - (a + 1 + was_refused number (left - 1))
+pub one_more : (number left a : ℕ) → left ≢ 1 → left ≡ number - (a + was_refused number left)
+    → left - 1 ≡ number - (a + 1 + was_refused number (left - 1))
 one_more number left a next is = elim (cases_eq left 0) [
   | inl none ↦ (let e : left - 1 ≡ left = omega arith in omega (arith, ap (was_refused number) e))
   | inr some ↦ omega (arith, (count number left).before (omega arith), (count number (left - 1)).before (omega arith))

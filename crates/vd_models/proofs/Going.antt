@@ -44,24 +44,28 @@ signalling stage.Hearing io hs n all h = absurd h
 signalling stage.Done io hs n all h = λ z. cc z
 
 module _ (st : Stage) (io : Bool) (hs : List Held) (n all : ℕ) (o : Op) (v w : DeviceView) (left left' : ℕ) where
-  taking : StageIs st DeviceOp.take io hs n all → o ≡ op.Take → ArmedIs st DeviceOp.take v.doing v.armed → OpIs DeviceOp.take v.doing v.shown left → left' < left → Goes o v w
+  taking : StageIs st DeviceOp.take io hs n all → o ≡ op.Take → ArmedIs st DeviceOp.take v.doing v.armed
+      → OpIs DeviceOp.take v.doing v.shown left → left' < left → Goes o v w
       → Went st DeviceOp.take w left' (take_owes v.shown left)
   taking h of a i less g =
       let u = unarming st DeviceOp.take v.doing io hs n all o v.armed (λ z. cc z) (λ z. cc z) h of a in
       let sees : w.shown ≡ true = g.shown (elim i.0 [ inl idle ↦ inr (inl (of, idle)) | inr shown ↦ inl shown ]) in
       record {
-        armed = armed_none st DeviceOp.take w.doing w.armed (λ z. cc ((at_take io hs n all st h).0, z)) (λ z. cc z) (g.unarmed u.other u.none);
+        armed = armed_none st DeviceOp.take w.doing w.armed (λ z. cc ((at_take io hs n all st h).0, z)) (λ z. cc z)
+            (g.unarmed u.other u.none);
         op = (inr sees, omega (arith, i.1));
         paid = omega (arith, take_small v.shown left i.1, ap (λ s. take_owes s left') sees);
       }
 
-  plain : (b : DeviceOp) → StageIs st b io hs n all → IsDeviceOp b o → b ≢ DeviceOp.arm → b ≢ DeviceOp.hear → st ≢ stage.Hearing → ArmedIs st b v.doing v.armed → Goes o v w
+  plain : (b : DeviceOp) → StageIs st b io hs n all → IsDeviceOp b o → b ≢ DeviceOp.arm → b ≢ DeviceOp.hear → st ≢ stage.Hearing
+      → ArmedIs st b v.doing v.armed → Goes o v w
       → ArmedIs st b w.doing w.armed
   plain b h of x y z a g =
       let u = unarming st b v.doing io hs n all o v.armed x y h of a in
       armed_none st b w.doing w.armed z x (g.unarmed u.other u.none)
 
-  arming : StageIs st DeviceOp.arm io hs n all → o ≡ op.Arm → ArmedIs st DeviceOp.arm v.doing v.armed → left' < left → Goes o v w → Went st DeviceOp.arm w left' (left + 36)
+  arming : StageIs st DeviceOp.arm io hs n all → o ≡ op.Arm → ArmedIs st DeviceOp.arm v.doing v.armed → left' < left → Goes o v w
+      → Went st DeviceOp.arm w left' (left + 36)
   arming h of a less g =
       let is = (at_arm io hs n all st h).0 in
       let b : ArmedIs stage.Arming DeviceOp.arm v.doing v.armed = subst (λ (s : Stage). ArmedIs s DeviceOp.arm v.doing v.armed) is a in
@@ -75,7 +79,8 @@ module _ (st : Stage) (io : Bool) (hs : List Held) (n all : ℕ) (o : Op) (v w :
         paid = omega arith;
       }
 
-  hearing : StageIs st DeviceOp.hear io hs n all → o ≡ op.Hear → ArmedIs st DeviceOp.hear v.doing v.armed → Goes o v w → Went st DeviceOp.hear w left' (hear_owes v.doing)
+  hearing : StageIs st DeviceOp.hear io hs n all → o ≡ op.Hear → ArmedIs st DeviceOp.hear v.doing v.armed → Goes o v w
+      → Went st DeviceOp.hear w left' (hear_owes v.doing)
   hearing h of a g =
       let is = (at_hear io hs n all st h).0 in
       let b : ArmedIs stage.Hearing DeviceOp.hear v.doing v.armed = subst (λ (s : Stage). ArmedIs s DeviceOp.hear v.doing v.armed) is a in
@@ -91,7 +96,8 @@ module _ (st : Stage) (io : Bool) (hs : List Held) (n all : ℕ) (o : Op) (v w :
         | inr d ↦ absurd (g.busy (d ∙ ap now.Disarming (sym of)))
       ]
 
-  pub went : (b b' : DeviceOp) → StageIs st b io hs n all → IsDeviceOp b o → ArmedIs st b v.doing v.armed → OpIs b v.doing v.shown left → DeviceGoesOn b b' → left' < left → Goes o v w
+  pub went : (b b' : DeviceOp) → StageIs st b io hs n all → IsDeviceOp b o → ArmedIs st b v.doing v.armed → OpIs b v.doing v.shown left
+      → DeviceGoesOn b b' → left' < left → Goes o v w
       → Went st b' w left' (owes st b v.doing v.shown left)
   went DeviceOp.take b' h of a i goes less g = same_op st DeviceOp.take b' w left' (take_owes v.shown left) goes (taking h of a i less g)
   went DeviceOp.arm b' h of a i goes less g = same_op st DeviceOp.arm b' w left' (left + 36) goes (arming h of a less g)

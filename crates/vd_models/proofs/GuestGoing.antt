@@ -24,7 +24,8 @@ module _ (next : Option (List Piece)) (f : Frame) (o : List DriverDone) where
   at_offer c stage.Hearing h = absurd h
   at_offer c stage.Done h = absurd h
 
-  pub at_collect : (st : GuestStage) → BegunIs st DriverOp.collect next f o → ((st ≡ stage.Offering) × IsStuck next f o) ⊎ (st ≡ stage.Collecting)
+  pub at_collect : (st : GuestStage) → BegunIs st DriverOp.collect next f o
+      → ((st ≡ stage.Offering) × IsStuck next f o) ⊎ (st ≡ stage.Collecting)
   at_collect stage.Offering h = inl (refl, h)
   at_collect stage.Collecting h = inr refl
   at_collect stage.Arming h = absurd h
@@ -88,7 +89,8 @@ pub record IsUnarming (st : GuestStage) (o : Op) (armed : Option ℕ) : Type 0 w
   pub awake : st ≢ stage.Hearing
   pub none : armed ≡ None
 
-pub unarming : (st : GuestStage) (b : DriverOp) (d : DriverNow) (next : Option (List Piece)) (f : Frame) (os : List DriverDone) (o : Op) (armed : Option ℕ) → b ≢ DriverOp.arm
+pub unarming : (st : GuestStage) (b : DriverOp) (d : DriverNow) (next : Option (List Piece)) (f : Frame) (os : List DriverDone) (o : Op)
+    (armed : Option ℕ) → b ≢ DriverOp.arm
     → b ≢ DriverOp.hear → BegunIs st b next f os → IsDriverOp b o → ArmedIs st b d armed → IsUnarming st o armed
 unarming stage.Offering b d next f os o armed x y h of a = record { other = other b x of; awake = λ z. cc z; none = a }
   where
@@ -132,7 +134,8 @@ unarming stage.Done DriverOp.hear d next f os o armed x y h of a = absurd h
 unarming stage.Done DriverOp.disarm d next f os o armed x y h of a = absurd h
 unarming stage.Done DriverOp.signal d next f os o armed x y h of a = absurd h
 
-pub armed_none : (st : GuestStage) (b : DriverOp) (d : DriverNow) (armed : Option ℕ) → st ≢ stage.Hearing → b ≢ DriverOp.arm → armed ≡ None → ArmedIs st b d armed
+pub armed_none : (st : GuestStage) (b : DriverOp) (d : DriverNow) (armed : Option ℕ) → st ≢ stage.Hearing → b ≢ DriverOp.arm
+    → armed ≡ None → ArmedIs st b d armed
 armed_none stage.Offering b d armed x y none = none
 armed_none stage.Collecting b d armed x y none = none
 armed_none stage.Done b d armed x y none = none
@@ -167,7 +170,8 @@ collect_small stage.Arming false n few = omega arith
 collect_small stage.Hearing false n few = omega arith
 collect_small stage.Done false n few = omega arith
 
-pub published_owes : (st : GuestStage) (b : DriverOp) (d : DriverNow) (shown : Bool) (n : ℕ) → DriverPublished b → owes st b d shown n ≤ n + 43
+pub published_owes : (st : GuestStage) (b : DriverOp) (d : DriverNow) (shown : Bool) (n : ℕ) → DriverPublished b
+    → owes st b d shown n ≤ n + 43
 published_owes st b d shown n (inl e) = subst (λ o. owes st o d shown n ≤ n + 43) (sym e) (omega (arith, idle_small st shown))
 published_owes st b d shown n (inr e) = subst (λ o. owes st o d shown n ≤ n + 43) (sym e) (omega arith)
 
@@ -200,8 +204,10 @@ pub record Goes (o : Op) (v w : DriverView) : Type 0 where
 same_op : (st : GuestStage) (b b' : DriverOp) (w : DriverView) (left owed : ℕ) → b' ≡ b → Went st b w left owed → Went st b' w left owed
 same_op st b b' w left owed e h = subst (λ z. Went st z w left owed) (sym e) h
 
-module _ (st : GuestStage) (next : Option (List Piece)) (f : Frame) (os : List DriverDone) (o : Op) (v w : DriverView) (left left' : ℕ) where
-  collecting : BegunIs st DriverOp.collect next f os → o ≡ op.Collect → ArmedIs st DriverOp.collect v.doing v.armed → OpIs DriverOp.collect v.doing v.shown left → left' < left → Goes o v w
+module _ (st : GuestStage) (next : Option (List Piece)) (f : Frame) (os : List DriverDone) (o : Op) (v w : DriverView)
+    (left left' : ℕ) where
+  collecting : BegunIs st DriverOp.collect next f os → o ≡ op.Collect → ArmedIs st DriverOp.collect v.doing v.armed
+      → OpIs DriverOp.collect v.doing v.shown left → left' < left → Goes o v w
       → Went st DriverOp.collect w left' (collect_owes st v.shown left)
   collecting h of a i less g =
       let u = unarming st DriverOp.collect v.doing next f os o v.armed (λ z. cc z) (λ z. cc z) h of a in
@@ -212,7 +218,8 @@ module _ (st : GuestStage) (next : Option (List Piece)) (f : Frame) (os : List D
         paid = omega (arith, collect_small st v.shown left i.1, ap (λ s. collect_owes st s left') sees);
       }
 
-  arming : BegunIs st DriverOp.arm next f os → o ≡ op.Arm → ArmedIs st DriverOp.arm v.doing v.armed → left' < left → Goes o v w → Went st DriverOp.arm w left' (left + 38)
+  arming : BegunIs st DriverOp.arm next f os → o ≡ op.Arm → ArmedIs st DriverOp.arm v.doing v.armed → left' < left → Goes o v w
+      → Went st DriverOp.arm w left' (left + 38)
   arming h of a less g =
       let is = (at_arm next f os st h).0 in
       let b : ArmedIs stage.Arming DriverOp.arm v.doing v.armed = subst (λ (s : GuestStage). ArmedIs s DriverOp.arm v.doing v.armed) is a in
@@ -226,10 +233,12 @@ module _ (st : GuestStage) (next : Option (List Piece)) (f : Frame) (os : List D
         paid = omega arith;
       }
 
-  hearing : BegunIs st DriverOp.hear next f os → o ≡ op.Hear → ArmedIs st DriverOp.hear v.doing v.armed → Goes o v w → Went st DriverOp.hear w left' (hear_owes v.doing)
+  hearing : BegunIs st DriverOp.hear next f os → o ≡ op.Hear → ArmedIs st DriverOp.hear v.doing v.armed → Goes o v w
+      → Went st DriverOp.hear w left' (hear_owes v.doing)
   hearing h of a g =
       let is = (at_hear next f os st h).0 in
-      let b : ArmedIs stage.Hearing DriverOp.hear v.doing v.armed = subst (λ (s : GuestStage). ArmedIs s DriverOp.hear v.doing v.armed) is a in
+      let b : ArmedIs stage.Hearing DriverOp.hear v.doing v.armed = subst (λ
+      (s : GuestStage). ArmedIs s DriverOp.hear v.doing v.armed) is a in
       elim b [
         | inl x ↦ (
             let d : w.doing ≡ now.Disarming op.Hear = g.heard of x.0 in
@@ -242,9 +251,11 @@ module _ (st : GuestStage) (next : Option (List Piece)) (f : Frame) (os : List D
         | inr d ↦ absurd (g.busy (d ∙ ap now.Disarming (sym of)))
       ]
 
-  pub went : (b b' : DriverOp) → BegunIs st b next f os → IsDriverOp b o → ArmedIs st b v.doing v.armed → OpIs b v.doing v.shown left → DriverGoesOn b b' → left' < left → Goes o v w
+  pub went : (b b' : DriverOp) → BegunIs st b next f os → IsDriverOp b o → ArmedIs st b v.doing v.armed → OpIs b v.doing v.shown left
+      → DriverGoesOn b b' → left' < left → Goes o v w
       → Went st b' w left' (owes st b v.doing v.shown left)
-  went DriverOp.collect b' h of a i goes less g = same_op st DriverOp.collect b' w left' (collect_owes st v.shown left) goes (collecting h of a i less g)
+  went DriverOp.collect b' h of a i goes less g = same_op st DriverOp.collect b' w left' (collect_owes st v.shown left) goes
+      (collecting h of a i less g)
   went DriverOp.arm b' h of a i goes less g = same_op st DriverOp.arm b' w left' (left + 38) goes (arming h of a less g)
   went DriverOp.hear b' h of a i goes less g = same_op st DriverOp.hear b' w left' (hear_owes v.doing) goes (hearing h of a g)
   went (DriverOp.offer c) b' h of a i goes less g =

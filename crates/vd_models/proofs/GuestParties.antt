@@ -41,10 +41,12 @@ pub record Opened {D : Type 0} (d : DriverModel D) (e : D) (x : Loaded) (c : Cou
   pub drives : Drives d (drive e x) v
   pub paid : IsPaid c (owes_at d (drive e x) v) (x.offered + length x.returned.items)
 
-pub opened : {D : Type 0} (d : DriverModel D) (end : Option D) (x : Option Loaded) (c : Counts) (v : DriverView) (z : D) (y : Loaded) → GuestHolds d end x c v → end ≡ Some z → x ≡ Some y → Opened d z y c v
+pub opened : {D : Type 0} (d : DriverModel D) (end : Option D) (x : Option Loaded) (c : Counts) (v : DriverView) (z : D) (y : Loaded)
+    → GuestHolds d end x c v → end ≡ Some z → x ≡ Some y → Opened d z y c v
 opened d end x c v z y h is_end is_y =
     subst (λ e. Opened d e y c v) (some_same h.is_end z end h.at_end is_end)
-    (subst (λ (l : Loaded). Opened d h.is_end l c v) (some_same h.is_loaded y x h.at_loaded is_y) (record { plan = h.plan; booted = h.booted; drives = h.drives; paid = h.paid }))
+    (subst (λ (l : Loaded). Opened d h.is_end l c v) (some_same h.is_loaded y x h.at_loaded is_y)
+    (record { plan = h.plan; booted = h.booted; drives = h.drives; paid = h.paid }))
 
 pub loaded_is : (x : Option Loaded) (y : Loaded) → x ≡ Some y → IsLoaded x → IsPlan y × (y.booted ≡ false)
 loaded_is x y is h = subst (λ (o : Option Loaded). IsLoaded o) is h
@@ -64,9 +66,11 @@ not_done x y is n = at y.stage (λ e. n (ap is_done_of is ∙ e))
 
 -- ---- the pace
 
-pub pays : {P D : Type 0} (port : PortModel P) (d : DriverModel D) (p q : P) (v : DriverView) (x y : Driven D) (t : Turn) (c c' : Counts) → (h : IsDriveTurn port d p q v x y t)
+pub pays : {P D : Type 0} (port : PortModel P) (d : DriverModel D) (p q : P) (v : DriverView) (x y : Driven D) (t : Turn) (c c' : Counts)
+    → (h : IsDriveTurn port d p q v x y t)
     → c'.accesses ≡ raised (counted t) c.accesses → c'.heard ≡ raised (woke t) c.heard
-    → IsPaid c (owes_at d x v) (x.offered + length x.returned) → IsPaid c' (owes_at d y (d.side.after v h.op h.access h.got)) (y.offered + length y.returned)
+    → IsPaid c (owes_at d x v) (x.offered + length x.returned) → IsPaid c' (owes_at d y (d.side.after v h.op h.access h.got))
+    (y.offered + length y.returned)
 pays port d p q v x y t c c' h more heard paid few fewer =
     let a : c'.accesses ≡ c.accesses + counted t = more ∙ raised_small (counted t) c.accesses (omega (arith, more)) in
     let b : c'.heard ≡ c.heard + woke t = heard ∙ raised_small (woke t) c.heard (omega (arith, heard)) in
@@ -79,8 +83,10 @@ less_paid c owed did h few fewer = omega (arith, h few fewer)
 
 record FirstIs (n : ℕ) (st : GuestStage) : Type 0 where
   done : DoneIs st 0 n
-  begun : (next : Option (List Rattle.vd_model.specs.declared.chain.Piece.Piece)) (f : Rattle.vd_ring.specs.declared.frame.Frame.Frame) (o : List DriverDone) → BegunIs st DriverOp.idle next f o
-  armed : (t : Rattle.vd_ring.specs.declared.driver.DriverNow.DriverNow) (a : Option ℕ) → a ≡ Rattle.std.proofs.Common.None → ArmedIs st DriverOp.idle t a
+  begun : (next : Option (List Rattle.vd_model.specs.declared.chain.Piece.Piece)) (f : Rattle.vd_ring.specs.declared.frame.Frame.Frame)
+      (o : List DriverDone) → BegunIs st DriverOp.idle next f o
+  armed : (t : Rattle.vd_ring.specs.declared.driver.DriverNow.DriverNow) (a : Option ℕ) → a ≡ Rattle.std.proofs.Common.None
+      → ArmedIs st DriverOp.idle t a
 
 first_is : (n : ℕ) → FirstIs n (first_stage n)
 first_is n = at (n == 0) refl
@@ -95,12 +101,15 @@ first_is n = at (n == 0) refl
         some : false ≡ (n == 0) → 0 < n
         some e = elim (cases_eq n 0) [ inl z ↦ absurd (let f : (n == 0) ≡ true = eq-eqb n 0 z in cc) | inr ne ↦ omega arith ]
 
-pub booted : {D : Type 0} (d : DriverModel D) (end : D) (y : Loaded) (at : Cursor) (st : GuestStage) (v : DriverView) → d.begun end ≡ DriverOp.idle → IsPlan y → y.offered ≡ 0 → y.returned.items ≡ []
-    → left_at y.script.runs at ≡ left_at y.script.runs (record { run = 0; used = 0 }) → IsSettled y.script.runs at → st ≡ first_stage y.total → d.stands end v → CanBoot y.script v
+pub booted : {D : Type 0} (d : DriverModel D) (end : D) (y : Loaded) (at : Cursor) (st : GuestStage) (v : DriverView)
+    → d.begun end ≡ DriverOp.idle → IsPlan y → y.offered ≡ 0 → y.returned.items ≡ []
+    → left_at y.script.runs at ≡ left_at y.script.runs (record { run = 0; used = 0 }) → IsSettled y.script.runs at
+    → st ≡ first_stage y.total → d.stands end v → CanBoot y.script v
     → Drives d (record { end = end; script = y.script; at = at; offered = y.offered; returned = y.returned.items; stage = st }) v
 booted d end y at st v idle plan none empty left settled is stands can =
     let total = total_is y plan in
-    let f : FirstIs (length (chains y.script)) st = subst (λ (z : GuestStage). FirstIs (length (chains y.script)) z) (sym (is ∙ ap first_stage total)) (first_is (length (chains y.script))) in
+    let f : FirstIs (length (chains y.script)) st = subst (λ (z : GuestStage). FirstIs (length (chains y.script)) z) (sym (is
+    ∙ ap first_stage total)) (first_is (length (chains y.script))) in
     record {
       stands = stands;
       settled = settled;
@@ -108,8 +117,15 @@ booted d end y at st v idle plan none empty left settled is stands can =
       offers = ap offers can.fresh ∙ ap (λ n. take n (chains y.script)) (sym none);
       some = omega arith;
       returned = empty ∙ ap (map as_return) (sym (ap collects can.fresh));
-      count = omega (arith, ap (λ (o : List DriverDone). length (offers o)) can.fresh, ap (λ (o : List DriverDone). length (collects o)) can.fresh, ap (λ (o : List DriverDone). length (open_at o)) can.fresh);
-      begun = subst (λ z. BegunIs st z (next_at y.script.runs at) v.frame v.done) (sym idle) (f.begun (next_at y.script.runs at) v.frame v.done);
+      count = omega (
+        arith,
+        ap (λ (o : List DriverDone). length (offers o)) can.fresh,
+        ap
+            (λ (o : List DriverDone). length (collects o)) can.fresh,
+        ap (λ (o : List DriverDone). length (open_at o)) can.fresh,
+      );
+      begun = subst (λ z. BegunIs st z (next_at y.script.runs at) v.frame v.done) (sym idle) (f.begun
+          (next_at y.script.runs at) v.frame v.done);
       done = subst (λ (n : ℕ). DoneIs st n (length (chains y.script))) (sym (ap length empty)) f.done;
       armed = subst (λ z. ArmedIs st z v.doing v.armed) (sym idle) (f.armed v.doing v.armed can.unarmed);
       op = subst (λ z. OpIs z v.doing v.shown (d.left end)) (sym idle) tt;
@@ -119,5 +135,12 @@ booted d end y at st v idle plan none empty left settled is stands can =
     }
 
 -- before its first access it owes little
-pub first_paid : {D : Type 0} (d : DriverModel D) (x : Driven D) (v : DriverView) (c : Counts) (n : ℕ) → d.begun x.end ≡ DriverOp.idle → c.accesses ≡ 0 → IsPaid c (owes_at d x v) n
-first_paid d x v c n idle none few fewer = omega (arith, none, ap (λ z. owes x.stage z v.doing v.shown (d.left x.end)) idle, idle_small x.stage v.shown)
+pub first_paid : {D : Type 0} (d : DriverModel D) (x : Driven D) (v : DriverView) (c : Counts) (n : ℕ) → d.begun x.end ≡ DriverOp.idle
+    → c.accesses ≡ 0 → IsPaid c (owes_at d x v) n
+first_paid d x v c n idle none few fewer = omega (
+  arith,
+  none,
+  ap
+      (λ z. owes x.stage z v.doing v.shown (d.left x.end)) idle,
+  idle_small x.stage v.shown,
+)

@@ -38,20 +38,35 @@ lens_more bs b = map_push (λ (z : Begun). z.len) bs b
 -- a chain more has its length
 pub lens_begun : (bs bs' : List Begun) (c : List Piece) → bs' ≡ bs ++ begun_of c ∷ [] → HaveLens bs → HaveLens bs'
 lens_begun bs bs' c is h =
-    ap lens_of is ∙ lens_more bs (begun_of c) ∙ ap (λ zs. zs ++ given_len c ∷ []) h ∙ sym (ap (map given_len) (ap chains_of is ∙ map_push (λ (z : Begun). z.chain) bs (begun_of c)) ∙ map_push given_len (chains_of bs) c)
+    ap lens_of is ∙ lens_more bs (begun_of c) ∙ ap (λ zs. zs ++ given_len c ∷ []) h ∙ sym
+    (ap (map given_len) (ap chains_of is ∙ map_push (λ (z : Begun). z.chain) bs (begun_of c)) ∙ map_push given_len (chains_of bs) c)
 
-still_journalled : (bs : List Begun) (b : Begun) (at from : ℕ) (u : Used) → IsJournalled bs at from u → IsJournalled (bs ++ b ∷ []) at from u
-still_journalled bs b at from u h = record { since = h.since; len = ap (λ zs. slice_get zs (u.number - from + at)) (lens_more bs b) ∙ get_more (lens_of bs) (b.len ∷ []) (u.number - from + at) u.len h.len }
+still_journalled : (bs : List Begun) (b : Begun) (at from : ℕ) (u : Used) → IsJournalled bs at from u
+    → IsJournalled (bs ++ b ∷ []) at from u
+still_journalled bs b at from u h = record {
+  since = h.since;
+  len = ap (λ zs. slice_get zs (u.number - from + at)) (lens_more bs b)
+      ∙ get_more (lens_of bs) (b.len ∷ []) (u.number - from + at) u.len h.len;
+}
 
-now_journalled : (bs : List Begun) (b : Begun) (by : Attached) (s : List DeviceDone) → IsServing bs by s → IsJournalled (bs ++ b ∷ []) by.at by.from (entry (length (takes s)) b.len)
+now_journalled : (bs : List Begun) (b : Begun) (by : Attached) (s : List DeviceDone) → IsServing bs by s
+    → IsJournalled (bs ++ b ∷ []) by.at by.from (entry (length (takes s)) b.len)
 now_journalled bs b by s v =
-    let e : length (takes s) - by.from + by.at ≡ length (lens_of bs) = omega (arith, v.as_many, v.after, length-map bs (λ (z : Begun). z.len)) in
+    let e : length (takes s) - by.from + by.at ≡ length (lens_of bs) = omega (
+      arith,
+      v.as_many,
+      v.after,
+      length-map bs
+          (λ (z : Begun). z.len),
+    ) in
     record {
       since = omega (arith, v.as_many, v.after);
-      len = ap (λ zs. slice_get zs (length (takes s) - by.from + by.at)) (lens_more bs b) ∙ ap (λ j. slice_get (lens_of bs ++ b.len ∷ []) j) e ∙ get_last (lens_of bs) b.len;
+      len = ap (λ zs. slice_get zs (length (takes s) - by.from + by.at)) (lens_more bs b) ∙ ap
+          (λ j. slice_get (lens_of bs ++ b.len ∷ []) j) e ∙ get_last (lens_of bs) b.len;
     }
 
-pub serving_taken : (bs : List Begun) (by : Attached) (s : List DeviceDone) (c : List Piece) (h : ℕ) → length bs < by.at + by.count → IsServing bs by s → IsServing (bs ++ begun_of c ∷ []) by (Take c h ∷ s)
+pub serving_taken : (bs : List Begun) (by : Attached) (s : List DeviceDone) (c : List Piece) (h : ℕ) → length bs < by.at + by.count
+    → IsServing bs by s → IsServing (bs ++ begun_of c ∷ []) by (Take c h ∷ s)
 serving_taken bs by s c h more v =
     let b : Begun = begun_of c in
     let low : by.from ≤ length (takes s) = omega (arith, v.as_many, v.after) in
@@ -60,12 +75,16 @@ serving_taken bs by s c h more v =
       after = omega (arith, v.after, length_push bs b);
       before = v.before;
       few = omega (arith, length_push bs b);
-      chains = ap chains_of (drop-append-le by.at bs (b ∷ []) v.after) ∙ map_push (λ (z : Begun). z.chain) (drop by.at bs) b ∙ ap (λ zs. zs ++ c ∷ []) v.chains ∙ sym (drop-append-le by.from (takes s) (c ∷ []) low);
-      each = subst (λ (zs : List Begun). All IsBegun zs) (sym (drop-append-le by.at bs (b ∷ []) v.after)) (All-push IsBegun (drop by.at bs) b v.each record { fits = omega arith; plain = refl });
-      given = All-weaker (IsJournalled bs by.at by.from) (IsJournalled (bs ++ b ∷ []) by.at by.from) (still_journalled bs b by.at by.from) (drop by.from (gives s)) v.given;
+      chains = ap chains_of (drop-append-le by.at bs (b ∷ []) v.after) ∙ map_push (λ (z : Begun). z.chain) (drop by.at bs) b ∙ ap
+          (λ zs. zs ++ c ∷ []) v.chains ∙ sym (drop-append-le by.from (takes s) (c ∷ []) low);
+      each = subst (λ (zs : List Begun). All IsBegun zs) (sym (drop-append-le by.at bs (b ∷ []) v.after)) (All-push IsBegun
+          (drop by.at bs) b v.each record { fits = omega arith; plain = refl });
+      given = All-weaker (IsJournalled bs by.at by.from) (IsJournalled (bs ++ b ∷ []) by.at by.from)
+          (still_journalled bs b by.at by.from) (drop by.from (gives s)) v.given;
     }
 
-pub serving_given : (bs : List Begun) (by : Attached) (s : List DeviceDone) (k n : ℕ) → IsJournalled bs by.at by.from (entry k n) → IsServing bs by s → IsServing bs by (Give (entry k n ∷ []) ∷ s)
+pub serving_given : (bs : List Begun) (by : Attached) (s : List DeviceDone) (k n : ℕ) → IsJournalled bs by.at by.from (entry k n)
+    → IsServing bs by s → IsServing bs by (Give (entry k n ∷ []) ∷ s)
 serving_given bs by s k n j v = record {
   as_many = v.as_many;
   after = v.after;
@@ -73,14 +92,17 @@ serving_given bs by s k n j v = record {
   few = v.few;
   chains = v.chains;
   each = v.each;
-  given = subst (λ (us : List Used). All (IsJournalled bs by.at by.from) us) (sym (drop-append-le by.from (gives s) (entry k n ∷ []) v.before)) (All-push (IsJournalled bs by.at by.from) (drop by.from (gives s)) (entry k n) v.given j);
+  given = subst (λ (us : List Used). All (IsJournalled bs by.at by.from) us) (sym
+      (drop-append-le by.from (gives s) (entry k n ∷ []) v.before)) (All-push (IsJournalled bs by.at by.from) (drop by.from (gives s))
+      (entry k n) v.given j);
 }
 
 -- a rest of a device that has given all
 pub takes_rested : (s : List DeviceDone) → length (takes s) ≡ length (gives s) → takes (Rest ∷ s) ≡ takes s
 takes_rested s e = take_all (length (gives s)) (takes s) (omega arith)
 
-pub serving_rested : (bs : List Begun) (by : Attached) (s : List DeviceDone) → length (takes s) ≡ length (gives s) → IsServing bs by s → IsServing bs by (Rest ∷ s)
+pub serving_rested : (bs : List Begun) (by : Attached) (s : List DeviceDone) → length (takes s) ≡ length (gives s) → IsServing bs by s
+    → IsServing bs by (Rest ∷ s)
 serving_rested bs by s e v = record {
   as_many = omega (arith, v.as_many, ap length (takes_rested s e));
   after = v.after;
@@ -93,16 +115,26 @@ serving_rested bs by s e v = record {
 
 -- ---- what is held
 
-pub held_taken : (bs : List Begun) (by : Attached) (hs : List Held) (f : Frame) (s : List DeviceDone) (c : List Piece) (h : ℕ) → IsServing bs by s → IsHeld bs by hs f s → IsHeld (bs ++ begun_of c ∷ []) by (hs ++ held_of (length (takes s)) c ∷ []) f (Take c h ∷ s)
+pub held_taken : (bs : List Begun) (by : Attached) (hs : List Held) (f : Frame) (s : List DeviceDone) (c : List Piece) (h : ℕ)
+    → IsServing bs by s → IsHeld bs by hs f s → IsHeld (bs ++ begun_of c ∷ []) by (hs ++ held_of (length (takes s)) c ∷ []) f (Take c h ∷ s)
 held_taken bs by hs f s c h v i =
     let t : ℕ = length (takes s) in
     let x : Held = held_of t c in
     record {
-      spread = λ k. omega (arith, i.spread k, occurs_push k (running s) t, one_more k t, ap (λ n. one (nat_lt k n)) (length_push (takes s) c));
+      spread = λ k. omega (
+        arith,
+        i.spread k,
+        occurs_push k (running s) t,
+        one_more k t,
+        ap (λ n. one (nat_lt k n))
+            (length_push (takes s) c),
+      );
       hand = map_push (λ (y : Held). y.number) hs x ∙ ap (λ zs. zs ++ t ∷ []) i.hand;
       as_many = omega (arith, i.as_many, length_push (takes s) c, length_push hs x);
       noted = All-push (λ (y : Held). IsJournalled (bs ++ begun_of c ∷ []) by.at by.from (entry y.number y.len)) hs x
-          (All-weaker (λ (y : Held). IsJournalled bs by.at by.from (entry y.number y.len)) (λ (y : Held). IsJournalled (bs ++ begun_of c ∷ []) by.at by.from (entry y.number y.len)) (λ y. still_journalled bs (begun_of c) by.at by.from (entry y.number y.len)) hs i.noted)
+          (All-weaker (λ (y : Held). IsJournalled bs by.at by.from (entry y.number y.len)) (λ (y : Held). IsJournalled
+          (bs ++ begun_of c ∷ []) by.at by.from (entry y.number y.len)) (λ y. still_journalled bs (begun_of c) by.at by.from
+          (entry y.number y.len)) hs i.noted)
           (now_journalled bs (begun_of c) by s v);
       order = λ io j d below. elim (cases_lt j (length hs)) [
         | inl a ↦ ap (λ (y : Held). y.number) (get_or_append_left hs (x ∷ []) d j a) ∙ i.order io j d a
@@ -116,10 +148,13 @@ held_taken bs by hs f s c h v i =
 one_small : (k n : ℕ) → one (nat_lt k n) ≤ 1
 one_small k n = elim (cases_lt k n) [ inl a ↦ omega (arith, one_below k n a) | inr a ↦ omega (arith, one_above k n a) ]
 
-pub held_once : (bs : List Begun) (by : Attached) (hs : List Held) (f : Frame) (s : List DeviceDone) (k : ℕ) → IsHeld bs by hs f s → occurs k (held_numbers hs) ≤ 1
+pub held_once : (bs : List Begun) (by : Attached) (hs : List Held) (f : Frame) (s : List DeviceDone) (k : ℕ) → IsHeld bs by hs f s
+    → occurs k (held_numbers hs) ≤ 1
 held_once bs by hs f s k i = omega (arith, i.spread k, one_small k (length (takes s)), ap (occurs k) i.hand)
 
-pub held_given : (io : Bool) (bs : List Begun) (by : Attached) (hs : List Held) (f : Frame) (s : List DeviceDone) (k n : ℕ) → f.features.in_order ≡ io → next_held io hs ≡ Some (record { number = k; len = n }) → IsHeld bs by hs f s → IsHeld bs by (rest_held io hs) f (Give (entry k n ∷ []) ∷ s)
+pub held_given : (io : Bool) (bs : List Begun) (by : Attached) (hs : List Held) (f : Frame) (s : List DeviceDone) (k n : ℕ)
+    → f.features.in_order ≡ io → next_held io hs ≡ Some (record { number = k; len = n }) → IsHeld bs by hs f s → IsHeld bs by
+    (rest_held io hs) f (Give (entry k n ∷ []) ∷ s)
 held_given io bs by hs f s k n is next i =
     let x : Held = record { number = k; len = n } in
     let r = next_is io hs x next in
@@ -132,9 +167,11 @@ held_given io bs by hs f s k n is next i =
       order = λ o j d below. first_order io (sym is ∙ o) o j d below;
     }
   where
-    first_order : (b : Bool) → b ≡ true → f.features.in_order ≡ true → (j : ℕ) (d : Held) → j < length (rest_held b hs) → (slice_index_or (rest_held b hs) j d).number ≡ length (gives s ++ entry k n ∷ []) + j
+    first_order : (b : Bool) → b ≡ true → f.features.in_order ≡ true → (j : ℕ) (d : Held) → j < length (rest_held b hs)
+        → (slice_index_or (rest_held b hs) j d).number ≡ length (gives s ++ entry k n ∷ []) + j
     first_order true e o j d below =
-        ap (λ (y : Held). y.number) (get_or-drop 1 hs j d) ∙ i.order o (1 + j) d (omega (arith, Rattle.std.proofs.lemmas.List.length-drop 1 hs)) ∙ omega (arith, length_push (gives s) (entry k n))
+        ap (λ (y : Held). y.number) (get_or-drop 1 hs j d) ∙ i.order o (1 + j) d
+        (omega (arith, Rattle.std.proofs.lemmas.List.length-drop 1 hs)) ∙ omega (arith, length_push (gives s) (entry k n))
     first_order false e o j d below = absurd (cc)
 
 pub held_rested : (bs : List Begun) (by : Attached) (f : Frame) (s : List DeviceDone) → IsHeld bs by [] f s → IsHeld bs by [] f (Rest ∷ s)
@@ -150,7 +187,8 @@ held_rested bs by f s i =
 
 -- ---- what may be given
 
-pub may_give : (bs : List Begun) (by : Attached) (hs : List Held) (f : Frame) (s : List DeviceDone) (io : Bool) (x : Held) → f.features.in_order ≡ io → IsHeld bs by hs f s → next_held io hs ≡ Some x → MayGive f s x.number
+pub may_give : (bs : List Begun) (by : Attached) (hs : List Held) (f : Frame) (s : List DeviceDone) (io : Bool) (x : Held)
+    → f.features.in_order ≡ io → IsHeld bs by hs f s → next_held io hs ≡ Some x → MayGive f s x.number
 may_give bs by hs f s io x is i next =
     let r = next_is io hs x next in
     record {
@@ -159,5 +197,6 @@ may_give bs by hs f s io x is i next =
     }
   where
     first : (b : Bool) → b ≡ true → f.features.in_order ≡ true → next_held b hs ≡ Some x → x.number ≡ length (gives s)
-    first true e o at = sym (ap (λ (y : Held). y.number) (get_or_from_slice_get hs 0 x x at)) ∙ i.order o 0 x (slice_get_within hs 0 x at) ∙ omega arith
+    first true e o at = sym (ap (λ (y : Held). y.number) (get_or_from_slice_get hs 0 x x at)) ∙ i.order o 0 x
+        (slice_get_within hs 0 x at) ∙ omega arith
     first false e o at = absurd (cc)

@@ -29,7 +29,14 @@ prefix_through xs ys zs p q = (p.0 ++ q.0, sym (append_assoc xs p.0 q.0) ∙ ap 
 
 pub readable_within : (c : List Piece) → readable c ≤ total c
 readable_within [] = omega arith
-readable_within (p ∷ ps) = omega (arith, sum_by-cons readable_len p ps, sum_by-cons (λ (q : Piece). q.len) p ps, readable_within ps, at p.write)
+readable_within (p ∷ ps) = omega (
+  arith,
+  sum_by-cons readable_len p ps,
+  sum_by-cons
+      (λ (q : Piece). q.len) p ps,
+  readable_within ps,
+  at p.write,
+)
   where
     at : (b : Bool) → (if b then 0 else p.len) ≤ p.len
     at true = omega arith
@@ -47,7 +54,8 @@ without_last k (j ∷ ks) none = elim (cases_eq j k) [
 last_split : (hs : List Held) (h : Held) → slice_get hs (length hs - 1) ≡ Some h → hs ≡ take (length hs - 1) hs ++ h ∷ []
 last_split hs h is =
     let within : length hs - 1 < length hs = slice_get_within hs (length hs - 1) h is in
-    sym (take_all (length hs - 1 + 1) hs (omega arith)) ∙ take_more hs (length hs - 1) h within ∙ ap (λ g. take (length hs - 1) hs ++ g ∷ []) (get_or_from_slice_get hs (length hs - 1) h h is)
+    sym (take_all (length hs - 1 + 1) hs (omega arith)) ∙ take_more hs (length hs - 1) h within ∙ ap
+    (λ g. take (length hs - 1) hs ++ g ∷ []) (get_or_from_slice_get hs (length hs - 1) h h is)
 
 pub record NextIs (io : Bool) (hs : List Held) (h : Held) : Type 0 where
   pub shorter : length (rest_held io hs) + 1 ≡ length hs
@@ -69,7 +77,9 @@ last_is hs h is =
     let ts : List Held = take (length hs - 1) hs in
     let split : hs ≡ ts ++ h ∷ [] = last_split hs h is in
     let numbers : held_numbers hs ≡ held_numbers ts ++ h.number ∷ [] = ap held_numbers split ∙ map_push (λ (x : Held). x.number) ts h in
-    let counts : occurs h.number (held_numbers hs) ≡ occurs h.number (held_numbers ts) + 1 = ap (occurs h.number) numbers ∙ occurs_push h.number (held_numbers ts) h.number ∙ ap (λ n. occurs h.number (held_numbers ts) + n) (one_same h.number h.number refl) in
+    let counts : occurs h.number (held_numbers hs) ≡ occurs h.number (held_numbers ts) + 1 = ap (occurs h.number) numbers
+    ∙ occurs_push h.number (held_numbers ts) h.number ∙ ap (λ n. occurs h.number (held_numbers ts) + n)
+    (one_same h.number h.number refl) in
     record {
       shorter = sym (ap length split ∙ length_push ts h);
       among = omega (arith, counts);
@@ -86,4 +96,5 @@ All-rest_held P false hs a = All-take P (length hs - 1) hs a
 
 pub All-next : (P : Held → Type 0) (io : Bool) (hs : List Held) (h : Held) → next_held io hs ≡ Some h → All P hs → P h
 All-next P true hs h is a = subst P (get_or_from_slice_get hs 0 h h is) (a 0 h (slice_get_within hs 0 h is))
-All-next P false hs h is a = subst P (get_or_from_slice_get hs (length hs - 1) h h is) (a (length hs - 1) h (slice_get_within hs (length hs - 1) h is))
+All-next P false hs h is a = subst P (get_or_from_slice_get hs (length hs - 1) h h is) (a (length hs - 1) h
+    (slice_get_within hs (length hs - 1) h is))

@@ -40,15 +40,18 @@ some_same : {A : Type 0} (x y : A) (o : Option A) → o ≡ Some x → o ≡ Som
 some_same x y o p q = cc
 
 -- what it holds, by the names that the code has for it
-pub record Opened {E : Type 0} (e : DeviceModel E) (s : Session E) (h : Buffer Held) (j : Journal) (c : Counts) (w : DeviceView) : Type 0 where
+pub record Opened {E : Type 0} (e : DeviceModel E) (s : Session E) (h : Buffer Held) (j : Journal) (c : Counts)
+    (w : DeviceView) : Type 0 where
   pub serves : Serves e (state s h j.begun) w
   pub paid : IsPaid c (owes_at e (state s h j.begun) w) (length j.begun.items + gave s.by w + attaches j.events.items)
 
-pub opened : {E : Type 0} (e : DeviceModel E) (o : Option (Session E)) (held : Option (Buffer Held)) (j : Journal) (c : Counts) (w : DeviceView) (s : Session E) (h : Buffer Held)
+pub opened : {E : Type 0} (e : DeviceModel E) (o : Option (Session E)) (held : Option (Buffer Held)) (j : Journal) (c : Counts)
+    (w : DeviceView) (s : Session E) (h : Buffer Held)
     → Holds e o held j c w → o ≡ Some s → held ≡ Some h → Opened e s h j c w
 opened {E = E} e o held j c w s h x is_session is_held =
     subst (λ (z : Session E). Opened e z h j c w) (some_same x.is_session s o x.at_session is_session)
-    (subst (λ (z : Buffer Held). Opened e x.is_session z j c w) (some_same x.is_held h held x.at_held is_held) (record { serves = x.serves; paid = x.paid }))
+    (subst (λ (z : Buffer Held). Opened e x.is_session z j c w) (some_same x.is_held h held x.at_held is_held)
+    (record { serves = x.serves; paid = x.paid }))
 
 pub not_done : {E : Type 0} (o : Option (Session E)) (s : Session E) → o ≡ Some s → (is_done_of o ≡ true → ⊥) → is_done s.stage ≡ false
 not_done o s is n = at s.stage (λ d. n (ap is_done_of is ∙ d))
@@ -94,17 +97,32 @@ counted_at r Woke false is = sym (ap worked is)
 pub raised_small : (k n : ℕ) → raised k n < last_count → raised k n ≡ n + k
 raised_small k n h = omega arith
 
-pub pays : {P E : Type 0} (port : PortModel P) (e : DeviceModel E) (p q : P) (w : DeviceView) (x y : State E) (t : Turn) (by by' : Attached) (n : ℕ) (c d : Counts) → by' ≡ by → (h : IsTurn port e p q w x y t)
-    → d.accesses ≡ raised (counted t) c.accesses → d.heard ≡ raised (woke t) c.heard → by.from ≤ length (gives w.done) → by'.from ≤ length (gives (e.side.after w h.op h.access h.got).done)
-    → IsPaid c (owes_at e x w) (length x.begun.items + gave by w + n) → IsPaid d (owes_at e y (e.side.after w h.op h.access h.got)) (length y.begun.items + gave by' (e.side.after w h.op h.access h.got) + n)
+pub pays : {P E : Type 0} (port : PortModel P) (e : DeviceModel E) (p q : P) (w : DeviceView) (x y : State E) (t : Turn)
+    (by by' : Attached) (n : ℕ) (c d : Counts) → by' ≡ by → (h : IsTurn port e p q w x y t)
+    → d.accesses ≡ raised (counted t) c.accesses → d.heard ≡ raised (woke t) c.heard → by.from ≤ length (gives w.done)
+    → by'.from ≤ length (gives (e.side.after w h.op h.access h.got).done)
+    → IsPaid c (owes_at e x w) (length x.begun.items + gave by w + n) → IsPaid d (owes_at e y (e.side.after w h.op h.access h.got))
+    (length y.begun.items + gave by' (e.side.after w h.op h.access h.got) + n)
 pays port e p q w x y t by by' n c d same h more heard low low' paid few fewer =
     let a : d.accesses ≡ c.accesses + counted t = more ∙ raised_small (counted t) c.accesses (omega (arith, more)) in
     let b : d.heard ≡ c.heard + woke t = heard ∙ raised_small (woke t) c.heard (omega (arith, heard)) in
-    omega (arith, a, b, low, low', ap (λ (z : Attached). z.at) same, ap (λ (z : Attached). z.from) same, h.paid, paid (omega (arith, a)) (omega (arith, b)))
+    omega (
+      arith,
+      a,
+      b,
+      low,
+      low',
+      ap (λ (z : Attached). z.at) same,
+      ap (λ (z : Attached). z.from) same,
+      h.paid,
+      paid (omega (arith, a))
+          (omega (arith, b)),
+    )
 
 -- ---- an attach
 
-whole_spread : (s : List DeviceDone) → running s ≡ [] → length (takes s) ≡ length (gives s) → IsWhole s → (k : ℕ) → occurs k (running s) + occurs k (numbers (gives s)) ≡ (if nat_lt k (length (takes s)) then 1 else 0)
+whole_spread : (s : List DeviceDone) → running s ≡ [] → length (takes s) ≡ length (gives s) → IsWhole s → (k : ℕ)
+    → occurs k (running s) + occurs k (numbers (gives s)) ≡ (if nat_lt k (length (takes s)) then 1 else 0)
 whole_spread s none even whole k = elim (cases_lt k (length (gives s))) [
   | inl a ↦ omega (arith, ap (occurs k) none, whole k a, one_below k (length (takes s)) (omega arith))
   | inr a ↦ (
@@ -114,8 +132,10 @@ whole_spread s none even whole k = elim (cases_lt k (length (gives s))) [
 ]
 
 -- an end that was resumed, with an empty window
-pub starts : {E : Type 0} (e : DeviceModel E) (law : IsLawfulDevice e) (end : E) (s : Session E) (held : Buffer Held) (begun : Reserved Begun) (w : DeviceView)
-    → s.stage ≡ stage.Taking → e.stands end w → IsStill e end → e.stands s.end w → e.begun s.end ≡ DeviceOp.idle → e.resting s.end ≡ false → s.by.at ≡ length begun.items → s.by.from ≡ length (takes w.done) → held.items ≡ [] → 0 < held.capacity
+pub starts : {E : Type 0} (e : DeviceModel E) (law : IsLawfulDevice e) (end : E) (s : Session E) (held : Buffer Held)
+    (begun : Reserved Begun) (w : DeviceView)
+    → s.stage ≡ stage.Taking → e.stands end w → IsStill e end → e.stands s.end w → e.begun s.end ≡ DeviceOp.idle
+    → e.resting s.end ≡ false → s.by.at ≡ length begun.items → s.by.from ≡ length (takes w.done) → held.items ≡ [] → 0 < held.capacity
     → s.by.count ≤ begun.room → all_of s.by < 4294967296 → HaveLens begun.items → Serves e (state s held begun) w
 starts e law end s held begun w taking stands still stands' idle awake is_at is_from none some room small lens =
     let h = law.whole end w stands still in
@@ -130,7 +150,8 @@ starts e law end s held begun w taking stands still stands' idle awake is_at is_
         few = omega arith;
         chains = ap chains_of (drop_all by.at begun.items (omega arith)) ∙ sym (drop_all by.from (takes w.done) (omega arith));
         each = subst (λ (zs : List Begun). All IsBegun zs) (sym (drop_all by.at begun.items (omega arith))) (All-nil IsBegun);
-        given = subst (λ (zs : List Used). All (IsJournalled begun.items by.at by.from) zs) (sym (drop_all by.from (gives w.done) (omega (arith, h.1)))) (All-nil (IsJournalled begun.items by.at by.from));
+        given = subst (λ (zs : List Used). All (IsJournalled begun.items by.at by.from) zs) (sym
+            (drop_all by.from (gives w.done) (omega (arith, h.1)))) (All-nil (IsJournalled begun.items by.at by.from));
       };
       held = subst (λ (hs : List Held). IsHeld begun.items by hs w.frame w.done) (sym none) record {
         spread = whole_spread w.done h.0 h.1 h.2;
@@ -139,7 +160,8 @@ starts e law end s held begun w taking stands still stands' idle awake is_at is_
         noted = All-nil (λ (y : Held). IsJournalled begun.items by.at by.from (entry y.number y.len));
         order = λ o j d below. absurd (omega arith);
       };
-      stage = subst (λ o. Rattle.vd_models.specs.Stages.StageIs stage.Taking o in_order held.items (length begun.items) (all_of by)) (sym idle) (inl none);
+      stage = subst (λ o. Rattle.vd_models.specs.Stages.StageIs stage.Taking o in_order held.items (length begun.items) (all_of by))
+          (sym idle) (inl none);
       armed = law.unarmed end w stands still;
       op = subst (λ o. Rattle.vd_models.specs.Stages.OpIs o w.doing w.shown (e.left s.end)) (sym idle) tt;
       rests = awake;
@@ -161,9 +183,12 @@ pub attaches_more : (es es' : List Event) (x : Event) → es' ≡ es ++ x ∷ []
 attaches_more es es' x is = ap attaches is ∙ attaches_push es x
 
 -- it owes little when it is attached
-pub begins_paid : {E : Type 0} (e : DeviceModel E) (law : IsLawfulDevice e) (end : E) (s : Session E) (held : Buffer Held) (begun : Reserved Begun) (w : DeviceView) (c : Counts) (n n' : ℕ)
-    → e.stands end w → IsStill e end → e.begun s.end ≡ DeviceOp.idle → s.by.at ≡ length begun.items → s.by.from ≡ length (takes w.done) → n' ≡ n + 1
-    → KeepsPace c.accesses c.heard (length begun.items + length begun.items + c.heard + n) → IsPaid c (owes_at e (state s held begun) w) (length begun.items + gave s.by w + n')
+pub begins_paid : {E : Type 0} (e : DeviceModel E) (law : IsLawfulDevice e) (end : E) (s : Session E) (held : Buffer Held)
+    (begun : Reserved Begun) (w : DeviceView) (c : Counts) (n n' : ℕ)
+    → e.stands end w → IsStill e end → e.begun s.end ≡ DeviceOp.idle → s.by.at ≡ length begun.items → s.by.from ≡ length (takes w.done)
+    → n' ≡ n + 1
+    → KeepsPace c.accesses c.heard (length begun.items + length begun.items + c.heard + n) → IsPaid c (owes_at e (state s held begun) w)
+    (length begun.items + gave s.by w + n')
 begins_paid e law end s held begun w c n n' stands still idle is_at is_from one paced few fewer =
     let h = law.whole end w stands still in
     omega (arith, paced few fewer, h.1, ap (λ o. owes s.stage o w.doing w.shown (e.left s.end)) idle, idle_small s.stage w.shown)
@@ -183,7 +208,8 @@ room_all b r some = ap {B = ℕ} (λ (t : Bool). if t then 0 else r) (ne_eqb b.c
 
 pub room_some : (o : Option (Buffer Held)) (b : Buffer Held) (r : ℕ) → o ≡ Some b → 0 < journal_room o r → 0 < b.capacity
 room_some o b r is some = elim (cases_eq b.capacity 0) [
-  | inl z ↦ absurd (let none : journal_room o r ≡ 0 = ap (λ q. journal_room q r) is ∙ ap {B = ℕ} (λ (t : Bool). if t then 0 else r) (eq-eqb b.capacity 0 z) in omega arith)
+  | inl z ↦ absurd (let none : journal_room o r ≡ 0 = ap (λ q. journal_room q r) is ∙ ap {B = ℕ} (λ (t : Bool). if t then 0 else r)
+      (eq-eqb b.capacity 0 z) in omega arith)
   | inr ne ↦ omega arith
 ]
 
@@ -192,8 +218,11 @@ ok_of (Ok x) P ok h = h
 ok_of (Err x) P ok h = absurd (cc)
 
 -- no more chains run than it has room for
-pub running_within : {E : Type 0} (e : DeviceModel E) (o : Option (Session E)) (held : Option (Buffer Held)) (j : Journal) (c : Counts) (w : DeviceView) → Holds e o held j c w → length (running w.done) ≤ capacity_of held
+pub running_within : {E : Type 0} (e : DeviceModel E) (o : Option (Session E)) (held : Option (Buffer Held)) (j : Journal) (c : Counts)
+    (w : DeviceView) → Holds e o held j c w → length (running w.done) ≤ capacity_of held
 running_within e o held j c w h =
-    let most : length h.is_held.items ≤ h.is_held.capacity = window_most h.is_session.stage (length h.is_held.items) h.is_held.capacity h.serves.window in
-    let many : length h.is_held.items ≡ length (running w.done) = sym (length-map h.is_held.items (λ (x : Held). x.number)) ∙ ap length h.serves.held.hand in
+    let most : length h.is_held.items ≤ h.is_held.capacity = window_most h.is_session.stage
+    (length h.is_held.items) h.is_held.capacity h.serves.window in
+    let many : length h.is_held.items ≡ length (running w.done) = sym (length-map h.is_held.items (λ (x : Held). x.number))
+    ∙ ap length h.serves.held.hand in
     omega (arith, most, many, ap capacity_of h.at_held)

@@ -22,7 +22,8 @@ module _ (io : Bool) (hs : List Held) (n all : ℕ) where
   at_take stage.Hearing h = absurd h
   at_take stage.Done h = absurd h
 
-  pub at_give : (k len : ℕ) (st : Stage) → StageIs st (DeviceOp.give k len) io hs n all → (st ≡ stage.Giving) × (next_held io hs ≡ Some (record { number = k; len = len }))
+  pub at_give : (k len : ℕ) (st : Stage) → StageIs st (DeviceOp.give k len) io hs n all
+      → (st ≡ stage.Giving) × (next_held io hs ≡ Some (record { number = k; len = len }))
   at_give k len stage.Giving h = (refl, h)
   at_give k len stage.Taking h = absurd h
   at_give k len stage.Arming h = absurd h
@@ -95,11 +96,24 @@ pub record IsUnarming (o : Op) (armed : Option ℕ) : Type 0 where
   pub other : o ≢ op.Arm
   pub none : armed ≡ None
 
-pub unarming : (st : Stage) (b : DeviceOp) (d : DeviceNow) (io : Bool) (hs : List Held) (n all : ℕ) (o : Op) (armed : Option ℕ) → b ≢ DeviceOp.arm
+pub unarming : (st : Stage) (b : DeviceOp) (d : DeviceNow) (io : Bool) (hs : List Held) (n all : ℕ) (o : Op) (armed : Option ℕ)
+    → b ≢ DeviceOp.arm
     → b ≢ DeviceOp.hear → StageIs st b io hs n all → IsDeviceOp b o → ArmedIs st b d armed → IsUnarming o armed
-unarming st DeviceOp.take d io hs n all o armed x y h of a = record { other = λ z. cc (of, z); none = subst (λ (s : Stage). ArmedIs s DeviceOp.take d armed) (at_take io hs n all st h).0 a }
-unarming st DeviceOp.rest d io hs n all o armed x y h of a = record { other = λ z. cc (of, z); none = subst (λ (s : Stage). ArmedIs s DeviceOp.rest d armed) (at_rest io hs n all st h).0 a }
-unarming st (DeviceOp.give k l) d io hs n all o armed x y h of a = record { other = λ z. cc (of, z); none = subst (λ (s : Stage). ArmedIs s (DeviceOp.give k l) d armed) (at_give io hs n all k l st h).0 a }
+unarming st DeviceOp.take d io hs n all o armed x y h of a = record {
+  other = λ z. cc (of, z);
+  none = subst (λ
+      (s : Stage). ArmedIs s DeviceOp.take d armed) (at_take io hs n all st h).0 a;
+}
+unarming st DeviceOp.rest d io hs n all o armed x y h of a = record {
+  other = λ z. cc (of, z);
+  none = subst (λ
+      (s : Stage). ArmedIs s DeviceOp.rest d armed) (at_rest io hs n all st h).0 a;
+}
+unarming st (DeviceOp.give k l) d io hs n all o armed x y h of a = record {
+  other = λ z. cc (of, z);
+  none = subst
+      (λ (s : Stage). ArmedIs s (DeviceOp.give k l) d armed) (at_give io hs n all k l st h).0 a;
+}
 unarming st DeviceOp.signal d io hs n all o armed x y h of a = record { other = λ z. cc (of, z); none = at st h a }
   where
     at : (s : Stage) → StageIs s DeviceOp.signal io hs n all → ArmedIs s DeviceOp.signal d armed → armed ≡ None
@@ -114,7 +128,8 @@ unarming st DeviceOp.hear d io hs n all o armed x y h of a = absurd (y refl)
 unarming st DeviceOp.idle d io hs n all o armed x y h of a = absurd of
 
 -- an end that isn't armed, at a stage that takes, gives or has ended
-pub armed_none : (st : Stage) (b : DeviceOp) (d : DeviceNow) (armed : Option ℕ) → st ≢ stage.Hearing → b ≢ DeviceOp.arm → armed ≡ None → ArmedIs st b d armed
+pub armed_none : (st : Stage) (b : DeviceOp) (d : DeviceNow) (armed : Option ℕ) → st ≢ stage.Hearing → b ≢ DeviceOp.arm → armed ≡ None
+    → ArmedIs st b d armed
 armed_none stage.Taking b d armed x y none = none
 armed_none stage.Giving b d armed x y none = none
 armed_none stage.Done b d armed x y none = none

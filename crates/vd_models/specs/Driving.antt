@@ -6,6 +6,7 @@ use Rattle.vd_model.specs.declared.record.Script.{Script}
 use Rattle.vd_words.specs.declared.access.Access.{Access}
 use Rattle.vd_words.specs.declared.access.Op.{Op}
 use Rattle.vd_words.specs.Model.{PortModel}
+use Rattle.vd_words.specs.Own.{IsOwn}
 use Rattle.vd_ring.specs.declared.act.DriverAct.TheVariants as act
 use Rattle.vd_ring.specs.declared.driver.DriverView.{DriverView}
 use Rattle.vd_ring.specs.Frames.{Fits}
@@ -96,6 +97,17 @@ pub record IsDriveTurn {P D : Type 0} (port : PortModel P) (d : DriverModel D) (
   pub woken : woke answer ≡ driver_woken op (d.act v op access got)
   pub paid : owes_at d y (d.side.after v op access got) + counted answer + 64 * (x.offered + length x.returned)
       ≤ owes_at d x v + 64 * (y.offered + length y.returned + woke answer)
+
+-- a guest that may make an access of the port, and one access, for each view
+abbrev pub CanDrive : {P D : Type 0} → PortModel P → DriverModel D → P → Driven D → Type 0
+CanDrive port d p x = (v : DriverView) × DriveOpens d x v × IsOwn port d.side p v
+
+abbrev pub MakesDriveTurn : {P D : Type 0} → PortModel P → DriverModel D → P → P → Driven D → Driven D → Turn → Type 0
+MakesDriveTurn port d p q x y t = (v : DriverView) → DriveOpens d x v → IsOwn port d.side p v → IsDriveTurn port d p q v x y t
+
+-- what the begin of its next operation leaves, for each view
+abbrev pub Begins : {D : Type 0} → DriverModel D → Driven D → Driven D → Type 0
+Begins d x y = (v : DriverView) → DriveOpens d x v → BeginsDrive d v x y
 
 -- ---- the guest
 

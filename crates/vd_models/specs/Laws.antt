@@ -44,11 +44,21 @@ whole : (begun : List Begun) (by : Attached) (hs : List Held) (f : Frame) (s : L
     → (running s ≡ []) × (length (takes s) ≡ length (gives s)) × IsWhole s
 whole begun by hs f s empty h =
     let none : running s ≡ [] = sym h.hand ∙ ap (λ (zs : List Held). Rattle.vd_models.specs.Holding.held_numbers zs) empty in
-    let even : length (takes s) ≡ length (gives s) = omega (arith, h.as_many, ap length empty) in
-    (none, even, λ k below. omega (arith, h.spread k, ap (occurs k) none, ap {B = ℕ} (λ (b : Bool). if b then 1 else 0) (lt-ltb k (length (takes s)) (omega arith))))
+    let even : length (takes s) ≡ length (gives s) = omega (arith, h.as_many, ap length empty) in (
+      none,
+      even,
+      λ k below. omega (
+        arith,
+        h.spread k,
+        ap (occurs k) none,
+        ap {B = ℕ} (λ (b : Bool). if b then 1 else 0)
+            (lt-ltb k (length (takes s)) (omega arith)),
+      ),
+    )
 
 -- where an end is armed its device arms or hears
-arms : (st : Stage) (op : DeviceOp) (d : DeviceNow) (io : Bool) (hs : List Held) (n all t : ℕ) (o : Option ℕ) → o ≡ Some t → ArmedIs st op d o
+arms : (st : Stage) (op : DeviceOp) (d : DeviceNow) (io : Bool) (hs : List Held) (n all t : ℕ) (o : Option ℕ) → o ≡ Some t
+    → ArmedIs st op d o
     → StageIs st op io hs n all → (hs ≡ []) × (n < all)
 arms stage.Hearing DeviceOp.idle d io hs n all t o is a h = h
 arms stage.Hearing DeviceOp.hear d io hs n all t o is a h = h
@@ -109,7 +119,8 @@ module _ {E : Type 0} (e : DeviceModel E) where
   armed_law o held j c w a h is t some =
       let v = h.serves in
       let s : Session E = h.is_session in
-      let f = arms s.stage (e.begun s.end) w.doing w.frame.features.in_order h.is_held.items (length j.begun.items) (all_of s.by) t w.armed some v.armed v.stage in
+      let f = arms s.stage (e.begun s.end) w.doing w.frame.features.in_order h.is_held.items (length j.begun.items)
+      (all_of s.by) t w.armed some v.armed v.stage in
       let g = whole j.begun.items s.by h.is_held.items w.frame w.done f.0 v.held in
       (g.0, subst (λ (b : Attached). length j.begun.items < all_of b) (same_by o s a h.at_session is) f.1)
 

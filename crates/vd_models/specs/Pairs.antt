@@ -32,7 +32,8 @@ IsAt e m x (Some y) w = IsBeside e m x y w
 
 -- the guest holds the driver's end; the words meet the ring invariant; the device has room for so many events, and for so many
 -- chains since it was made
-pub record IsPair {D E G V C : Type 0} (d : DriverModel D) (e : DeviceModel E) (l : LayoutModel) (g : GuestParty G) (m : DeviceParty V C) (guest : G) (x : V) (end : Option E) (ws : List ℕ) (n k : ℕ) : Type 0 where
+pub record IsPair {D E G V C : Type 0} (d : DriverModel D) (e : DeviceModel E) (l : LayoutModel) (g : GuestParty G) (m : DeviceParty V C)
+    (guest : G) (x : V) (end : Option E) (ws : List ℕ) (n k : ℕ) : Type 0 where
   pub view : DriverView
   pub device_view : DeviceView
   pub ring : l.ring ws view device_view
@@ -43,7 +44,8 @@ pub record IsPair {D E G V C : Type 0} (d : DriverModel D) (e : DeviceModel E) (
   pub chains : k ≤ m.chain_room x + length (m.begun x)
 
 -- a step of the guest over plain words, with the same view of the device
-pub record HasStepped {P X V : Type 0} (port : PortModel P) (at : X → V → Type 0) (meets : List ℕ → V → Type 0) (p q : P) (y : X) : Type 0 where
+pub record HasStepped {P X V : Type 0} (port : PortModel P) (at : X → V → Type 0) (meets : List ℕ → V
+    → Type 0) (p q : P) (y : X) : Type 0 where
   pub words : List ℕ
   pub view : V
   pub same : port.same p q
@@ -59,18 +61,36 @@ piece_total false n t r w is = omega arith
 
 split_total : (c : List Piece) → total c ≡ readable c + writable c
 split_total [] = refl
-split_total (p ∷ c) = omega (arith, sum_by-cons (λ (q : Piece). q.len) p c, sum_by-cons readable_len p c, sum_by-cons writable_len p c, piece_total p.write p.len (total c) (readable c) (writable c) (split_total c))
+split_total (p ∷ c) = omega (
+  arith,
+  sum_by-cons
+      (λ (q : Piece). q.len) p c,
+  sum_by-cons readable_len p c,
+  sum_by-cons writable_len p c,
+  piece_total p.write p.len (total c)
+      (readable c) (writable c) (split_total c),
+)
 
--- a chain of few bytes may stand on a ring without tables and bounds
-pub may_stand : (f : Frame) (c : List Piece) → IsChain c → length c ≤ f.size → readable c ≤ 1000000 → writable c ≤ 1000000 → f.features.indirect ≡ false → f.bounds ≡ None → Fits f c
-may_stand f c is short r w direct free = record {
+some_piece : (c : List Piece) → IsChain c → 1 ≤ length c
+some_piece c is = is.0
+
+-- a chain of few bytes may stand on a ring without bounds
+pub may_stand : (f : Frame) (c : List Piece) → IsChain c → length c ≤ f.size → readable c ≤ 1000000 → writable c ≤ 1000000
+    → f.bounds ≡ None → Fits f c
+may_stand f c is short r w free = record {
   chain = is;
-  size = subst (λ b. (if b then 1 else length c) ≤ f.size) (sym direct) short;
+  size = at f.features.indirect;
   length = omega (arith, split_total c);
   bounds = subst (λ b. AreInBounds b c) (sym free) tt;
 }
+  where
+    at : (b : Bool) → (if b then 1 else length c) ≤ f.size
+    at true = omega (arith, some_piece c is, short)
+    at false = short
 
-pub can_boot : (f : Frame) (n : ℕ) (s : Script) (count : ℕ) (c : List Piece) → s ≡ record { runs = record { count = count; chain = c } ∷ []; commands = [] } → Fits f c → f.control ≡ false → CanBoot s (fresh_driver f n)
+pub can_boot : (f : Frame) (n : ℕ) (s : Script) (count : ℕ) (c : List Piece)
+    → s ≡ record { runs = record { count = count; chain = c } ∷ []; commands = [] } → Fits f c → f.control ≡ false → CanBoot s
+    (fresh_driver f n)
 can_boot f n s count c is fits plain = subst (λ (z : Script). CanBoot z (fresh_driver f n)) (sym is) record {
   fresh = refl;
   unarmed = refl;
@@ -79,13 +99,18 @@ can_boot f n s count c is fits plain = subst (λ (z : Script). CanBoot z (fresh_
   control = λ some. absurd (some refl);
 }
 
-module _ {D E G V C : Type 0} (d : DriverModel D) (e : DeviceModel E) (l : LayoutModel) (law : IsLawfulLayout d e l) (g : GuestParty G) (m : DeviceParty V C) where
-  pub same_words : (guest : G) (x : V) (end : Option E) (ws us : List ℕ) (events chains : ℕ) → us ≡ ws → IsPair d e l g m guest x end ws events chains → IsPair d e l g m guest x end us events chains
+module _ {D E G V C : Type 0} (d : DriverModel D) (e : DeviceModel E) (l : LayoutModel) (law : IsLawfulLayout d e l) (g : GuestParty G)
+    (m : DeviceParty V C) where
+  pub same_words : (guest : G) (x : V) (end : Option E) (ws us : List ℕ) (events chains : ℕ) → us ≡ ws
+      → IsPair d e l g m guest x end ws events chains → IsPair d e l g m guest x end us events chains
   same_words guest x end ws us events chains is h = subst (λ (zs : List ℕ). IsPair d e l g m guest x end zs events chains) (sym is) h
 
-  pub guest_moved : (guest guest' : G) (x : V) (end : Option E) (ws us words : List ℕ) (events chains : ℕ) (view : DriverView) → (h : IsPair d e l g m guest x end ws events chains) → l.ring words view h.device_view → us ≡ words → g.holds guest' view → IsPair d e l g m guest' x end us events chains
+  pub guest_moved : (guest guest' : G) (x : V) (end : Option E) (ws us words : List ℕ) (events chains : ℕ) (view : DriverView)
+      → (h : IsPair d e l g m guest x end ws events chains) → l.ring words view h.device_view → us ≡ words → g.holds guest' view
+      → IsPair d e l g m guest' x end us events chains
   guest_moved guest guest' x end ws us words events chains view h ring is holds =
-      let framed : view.frame ≡ h.view.frame = sym (law.wide words view h.device_view ring).1 ∙ (law.wide ws h.view h.device_view h.ring).1 in
+      let framed : view.frame ≡ h.view.frame = sym (law.wide words view h.device_view ring).1 ∙
+      (law.wide ws h.view h.device_view h.ring).1 in
       same_words guest' x end words us events chains is record {
         view = view;
         device_view = h.device_view;
@@ -103,13 +128,17 @@ module _ {D E G V C : Type 0} (d : DriverModel D) (e : DeviceModel E) (l : Layou
   at_held : (x : V) (end : Option E) (w : DeviceView) → end ≡ None → m.holds x w → IsAt e m x end w
   at_held x end w is h = subst (λ (o : Option E). IsAt e m x o w) (sym is) h
 
-  pub holds : (guest : G) (x : V) (end : Option E) (ws : List ℕ) (events chains : ℕ) → (h : IsPair d e l g m guest x end ws events chains) → end ≡ None → m.holds x h.device_view
+  pub holds : (guest : G) (x : V) (end : Option E) (ws : List ℕ) (events chains : ℕ)
+      → (h : IsPair d e l g m guest x end ws events chains) → end ≡ None → m.holds x h.device_view
   holds guest x end ws events chains h is = held_at x end h.device_view is h.at
 
-  pub beside : (guest : G) (x : V) (end : Option E) (y : E) (ws : List ℕ) (events chains : ℕ) → (h : IsPair d e l g m guest x end ws events chains) → end ≡ Some y → IsBeside e m x y h.device_view
+  pub beside : (guest : G) (x : V) (end : Option E) (y : E) (ws : List ℕ) (events chains : ℕ)
+      → (h : IsPair d e l g m guest x end ws events chains) → end ≡ Some y → IsBeside e m x y h.device_view
   beside guest x end y ws events chains h is = subst (λ (o : Option E). IsAt e m x o h.device_view) is h.at
 
-  pub device_moved : (guest : G) (x x' : V) (end : Option E) (ws us words : List ℕ) (events chains : ℕ) (view : DeviceView) → end ≡ None → (h : IsPair d e l g m guest x end ws events chains) → l.ring words h.view view → us ≡ words → IsServed m x x' → m.holds x' view → IsPair d e l g m guest x' end us events chains
+  pub device_moved : (guest : G) (x x' : V) (end : Option E) (ws us words : List ℕ) (events chains : ℕ) (view : DeviceView) → end ≡ None
+      → (h : IsPair d e l g m guest x end ws events chains) → l.ring words h.view view → us ≡ words → IsServed m x x' → m.holds x' view
+      → IsPair d e l g m guest x' end us events chains
   device_moved guest x x' end ws us words events chains view none h ring is served holds =
       same_words guest x' end words us events chains is record {
         view = h.view;
@@ -123,7 +152,9 @@ module _ {D E G V C : Type 0} (d : DriverModel D) (e : DeviceModel E) (l : Layou
       }
 
   -- another device or end beside the same views
-  pub changed : (guest : G) (x x' : V) (end end' : Option E) (ws : List ℕ) (events chains events' : ℕ) → (h : IsPair d e l g m guest x end ws events chains) → IsAt e m x' end' h.device_view → events' ≤ m.event_room x' → m.chain_room x ≤ m.chain_room x' → m.begun x' ≡ m.begun x → IsPair d e l g m guest x' end' ws events' chains
+  pub changed : (guest : G) (x x' : V) (end end' : Option E) (ws : List ℕ) (events chains events' : ℕ)
+      → (h : IsPair d e l g m guest x end ws events chains) → IsAt e m x' end' h.device_view → events' ≤ m.event_room x'
+      → m.chain_room x ≤ m.chain_room x' → m.begun x' ≡ m.begun x → IsPair d e l g m guest x' end' ws events' chains
   changed guest x x' end end' ws events chains events' h at room more same = record {
     view = h.view;
     device_view = h.device_view;

@@ -5,6 +5,7 @@ use Rattle.vd_model.specs.declared.record.Begun.{Begun}
 use Rattle.vd_words.specs.declared.access.Access.{Access}
 use Rattle.vd_words.specs.declared.access.Op.{Op}
 use Rattle.vd_words.specs.Model.{PortModel}
+use Rattle.vd_words.specs.Own.{IsOwn}
 use Rattle.vd_ring.specs.declared.act.DeviceAct.TheVariants as act
 use Rattle.vd_ring.specs.declared.device.DeviceDone.{DeviceDone}
 use Rattle.vd_ring.specs.declared.device.DeviceDone.TheVariants.{Rest}
@@ -97,6 +98,21 @@ pub record IsTurn {P E : Type 0} (port : PortModel P) (e : DeviceModel E) (p q :
   pub rested : e.act w op access got ≡ act.Rested → is_done y.stage ≡ true
   pub paid : owes_at e y (e.side.after w op access got) + counted answer + 64 * (length x.begun.items + length (gives w.done))
       ≤ owes_at e x w + 64 * (length y.begun.items + length (gives (e.side.after w op access got).done) + woke answer)
+
+-- a device that may make an access of the port, and one access, for each view
+abbrev pub CanServe : {P E : Type 0} → PortModel P → DeviceModel E → P → State E → Type 0
+CanServe port e p x = (w : DeviceView) × Opens e x w × IsOwn port e.side p w
+
+abbrev pub MakesTurn : {P E : Type 0} → PortModel P → DeviceModel E → P → P → State E → State E → Turn → Type 0
+MakesTurn port e p q x y t = (w : DeviceView) → Opens e x w → IsOwn port e.side p w → IsTurn port e p q w x y t
+
+-- a device that may begin its next operation, and what that leaves, for each journal and view
+abbrev pub CanBegin : {E : Type 0} → DeviceModel E → Session E → Buffer Held → Bool → Type 0
+CanBegin e s h more = (begun : Reserved Begun) × (w : DeviceView) × Opens e (state s h begun) w × HasMore more s.by begun.items
+
+abbrev pub Begins : {E : Type 0} → DeviceModel E → Session E → Session E → Buffer Held → Bool → Type 0
+Begins e s s' h more = (begun : Reserved Begun) (w : DeviceView) → Opens e (state s h begun) w → HasMore more s.by begun.items
+    → BeginsNext e w (state s h begun) (state s' h begun)
 
 -- ---- the device
 

@@ -1,9 +1,6 @@
 //! A device that takes chains up to its window, and then gives all of them back; where none is there it sleeps.
 ghost use Rattle.std.specs.Prelude.{◌≡◌, ◌≤◌, true, false, None, [], length, min, OnOk, OnErr};
-ghost use Rattle.vd_ring.specs.declared.device.DeviceView.{DeviceView};
-ghost use Rattle.vd_ring.specs.History.{running};
-ghost use Rattle.vd_control.specs.Settings.{default};
-ghost use Rattle.vd_models.specs.Unused.{IsUnused, IsWindow};
+ghost use Rattle.vd_models.specs.Unused.{IsUnused, IsWindow, HoldsAtMost};
 ghost use Rattle.vd_models.specs.Holding.{HaveLens, capacity_of, journal_room};
 ghost use Rattle.vd_models.specs.Serving.{Holds, PacesFree, attached_of, is_done_of};
 ghost use Rattle.vd_models.specs.Laws.{held_law, serves_law, done_law, armed_law, pace_law};
@@ -81,7 +78,8 @@ impl<L: Layout> ModelDevice<L> {
     /// the smaller of the readable and the writable bytes as its length, and no attach of it is refused.
     pub fn window(&self) -> u32
         ensures window { result ≡ ⟦<ModelDevice<L> as Device<L>>⟧.party.window self.now }
-        ensures holds { (w : DeviceView) → ⟦<ModelDevice<L> as Device<L>>⟧.party.holds self.now w → length (running w.done) ≤ min result (⟦<ModelDevice<L> as Device<L>>⟧.party.carried self.now) }
+        ensures holds { HoldsAtMost ⟦<ModelDevice<L> as Device<L>>⟧.party self.now (min result
+            (⟦<ModelDevice<L> as Device<L>>⟧.party.carried self.now)) }
         ensures lens { HaveLens (⟦<ModelDevice<L> as Device<L>>⟧.party.begun self.now) }
         ensures faultless { ⟦<ModelDevice<L> as Device<L>>⟧.party.faults self.now ≡ 0 }
     {

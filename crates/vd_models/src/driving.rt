@@ -1,11 +1,10 @@
 //! What a model guest does with the end that it holds.
 ghost use Rattle.std.specs.Prelude.{◌≡◌, ◌<◌, ◌≤◌, ◌++◌, ◌∷◌, [], vec_len, vec_capacity};
 ghost use Rattle.vd_model.specs.declared.record.Return.{Return};
-ghost use Rattle.vd_words.specs.Own.{IsOwn};
 ghost use Rattle.vd_ring.specs.declared.driver.DriverView.{DriverView};
 ghost use Rattle.vd_layout.specs.Begun.{DriverOp};
 ghost use Rattle.vd_models.specs.GuestStages.{is_done, offered_stage, woken_stage, none_stage, waking_turn};
-ghost use Rattle.vd_models.specs.Driving.{DriveOpens, BeginsDrive, IsDriveTurn, IsKept, IsPlan, drive};
+ghost use Rattle.vd_models.specs.Driving.{DriveOpens, Begins, CanDrive, MakesDriveTurn, IsKept, IsPlan, drive};
 
 use crate::counts::Turn;
 use crate::cursor::{Cursor, next_chain, settle};
@@ -62,7 +61,11 @@ fn keep(list: &mut Vec<Return>, item: Return)
 fn after_offer(turns: bool) -> GuestStage
     ensures { result ≡ offered_stage turns }
 {
-    if turns { GuestStage::Collecting } else { GuestStage::Offering }
+    if turns {
+        GuestStage::Collecting
+    } else {
+        GuestStage::Offering
+    }
 }
 
 /// What comes after a look that showed no entry: after its turn to collect a guest offers again, else it sleeps.
@@ -79,7 +82,11 @@ fn after_nothing(stage: GuestStage) -> GuestStage
 fn after_waking(armed: bool) -> GuestStage
     ensures { result ≡ woken_stage armed }
 {
-    if armed { GuestStage::Hearing } else { GuestStage::Offering }
+    if armed {
+        GuestStage::Hearing
+    } else {
+        GuestStage::Offering
+    }
 }
 
 /// What Awake ended: a hearing, or an arming.
@@ -96,7 +103,7 @@ fn waking(stage: GuestStage) -> Turn
 fn begin_drive<L: Layout>(end: &mut L::Driver, loaded: &Loaded)
     requires { (v : DriverView) × DriveOpens L.Driver.driver (drive end.old loaded.now) v }
     ensures busy { ¬ (L.Driver.driver.begun end.new ≡ DriverOp.idle) }
-    ensures next { (v : DriverView) → DriveOpens L.Driver.driver (drive end.old loaded.now) v → BeginsDrive L.Driver.driver v (drive end.old loaded.now) (drive end.new loaded.now) }
+    ensures next { Begins L.Driver.driver (drive end.old loaded.now) (drive end.new loaded.now) }
 {
     if end.idle() {
         match loaded.stage {
@@ -119,9 +126,9 @@ pub(crate) fn drive<L: Layout, P: Port>(
     port: &mut P,
 ) -> Turn
     requires plan { IsPlan loaded.old }
-    requires own { (v : DriverView) × DriveOpens L.Driver.driver (drive end.old loaded.old) v × IsOwn P.port L.Driver.driver.side port.old v }
+    requires own { CanDrive P.port L.Driver.driver port.old (drive end.old loaded.old) }
     ensures kept { IsKept loaded.old loaded.new }
-    ensures turn { (v : DriverView) → DriveOpens L.Driver.driver (drive end.old loaded.old) v → IsOwn P.port L.Driver.driver.side port.old v → IsDriveTurn P.port L.Driver.driver port.old port.new v (drive end.old loaded.old) (drive end.new loaded.new) result }
+    ensures turn { MakesDriveTurn P.port L.Driver.driver port.old port.new (drive end.old loaded.old) (drive end.new loaded.new) result }
 {
     begin_drive::<L>(end, loaded);
     match end.step(port) {

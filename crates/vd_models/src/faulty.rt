@@ -101,7 +101,8 @@ impl<L: Layout> Device<L> for FaultyDevice<L> {
         requires base { L.Device.device.base end ≡ order.now.base.0 }
         ensures does { MatchResult
             result
-            (λ _. IsAttach L.Device.device ⟦<FaultyDevice<L> as Device<L>>⟧.party order.now (option_copied control.entry) end self.old self.new)
+            (λ _. IsAttach L.Device.device ⟦<FaultyDevice<L> as Device<L>>⟧.party order.now
+            (option_copied control.entry) end self.old self.new)
             (λ r. (r.end ≡ end) × IsRefused ⟦<FaultyDevice<L> as Device<L>>⟧.party self.old self.new) }
         ensures refused { IsErr result ↔ RefusesNext ⟦<FaultyDevice<L> as Device<L>>⟧.party self.old }
     {

@@ -21,3 +21,6 @@ pub use guest::ModelGuest;
 pub use refusal::Refusal;
 pub use serving::{Session, Stage};
 pub use window::Held;
+
+#[cfg(test)]
+mod tests;

@@ -1,12 +1,8 @@
 //! What a model device does with the end that it holds.
-ghost use Rattle.std.specs.Prelude.{◌≡◌, ◌≤◌, Bool};
-ghost use Rattle.vd_ring.specs.declared.device.DeviceView.{DeviceView};
-ghost use Rattle.vd_words.specs.Own.{IsOwn};
+ghost use Rattle.std.specs.Prelude.{◌≡◌};
 ghost use Rattle.vd_layout.specs.Begun.{DeviceOp};
-ghost use Rattle.vd_bus.specs.Entries.{Reserved};
-ghost use Rattle.vd_model.specs.declared.record.Begun.{Begun};
 ghost use Rattle.vd_models.specs.Stages.{taken_stage, given_stage, nothing_stage, woken_stage, waking_turn, is_done};
-ghost use Rattle.vd_models.specs.Serving.{Opens, BeginsNext, IsTurn, HasMore, state};
+ghost use Rattle.vd_models.specs.Serving.{CanBegin, Begins, CanServe, MakesTurn, state};
 
 use crate::counts::Turn;
 use crate::window::{Held, drop_next, next, note};
@@ -87,11 +83,11 @@ fn begin_next<L: Layout>(
     held: &HeapCircularBuffer<Held>,
     more: bool,
 )
-    requires { (begun : Reserved Begun) × (w : DeviceView) × Opens L.Device.device (state session.old held.now begun) w × HasMore more session.old.by begun.items }
+    requires { CanBegin L.Device.device session.old held.now more }
     ensures busy { ¬ (L.Device.device.begun session.new.end ≡ DeviceOp.idle) }
     ensures by { session.new.by ≡ session.old.by }
     ensures stage { session.new.stage ≡ session.old.stage }
-    ensures next { (begun : Reserved Begun) (w : DeviceView) → Opens L.Device.device (state session.old held.now begun) w → HasMore more session.old.by begun.items → BeginsNext L.Device.device w (state session.old held.now begun) (state session.new held.now begun) }
+    ensures next { Begins L.Device.device session.old session.new held.now more }
 {
     if session.end.idle() {
         match session.stage {
@@ -114,9 +110,16 @@ pub(crate) fn serve<L: Layout, P: Port>(
     begun: &mut Entries<Begun>,
     port: &mut P,
 ) -> Turn
-    requires own { (w : DeviceView) × Opens L.Device.device (state session.old held.old begun.old) w × IsOwn P.port L.Device.device.side port.old w }
+    requires own { CanServe P.port L.Device.device port.old (state session.old held.old begun.old) }
     ensures by { session.new.by ≡ session.old.by }
-    ensures turn { (w : DeviceView) → Opens L.Device.device (state session.old held.old begun.old) w → IsOwn P.port L.Device.device.side port.old w → IsTurn P.port L.Device.device port.old port.new w (state session.old held.old begun.old) (state session.new held.new begun.new) result }
+    ensures turn { MakesTurn
+        P.port
+        L.Device.device
+        port.old
+        port.new
+        (state session.old held.old begun.old)
+        (state session.new held.new begun.new)
+        result }
 {
     let all = session.by.at as usize + session.by.count as usize;
     let in_order = session.end.features().in_order;

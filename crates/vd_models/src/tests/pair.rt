@@ -161,6 +161,28 @@ impl<L: Layout, G: Guest<L>, V: Device<L>> Pair<L, G, V> {
         self.guest.returned()
     }
 
+    /// The guest's steps until it looks at its bell or is done: how many.
+    pub fn guest_turn(&mut self) -> u32 {
+        for made in 0..100 {
+            match self.guest_step() {
+                Some(Move::Looked) | None => return made,
+                _ => {}
+            }
+        }
+        100
+    }
+
+    /// The same of the device.
+    pub fn device_turn(&mut self) -> u32 {
+        for made in 0..100 {
+            match self.device_step() {
+                Some(Move::Looked) | None => return made,
+                _ => {}
+            }
+        }
+        100
+    }
+
     /// How many accesses the guest and the device made, and how many bells each heard.
     pub fn counts(&self) -> [u64; 4] {
         [

@@ -33,12 +33,13 @@ pub fn chain_of(read: u32, write: u32) -> Chain {
     chain
 }
 
-/// Steps of the guest and the device in turn.
+/// Each steps until it sleeps or is done, in turn.
 fn play<G: Guest<Split>, V: Device<Split>>(pair: &mut Pair<Split, G, V>) {
-    for _ in 0..600 {
-        let _ = pair.guest_step();
-        let _ = pair.device_step();
+    for _ in 0..6 {
+        let _ = pair.guest_turn();
+        let _ = pair.device_turn();
     }
+    let _ = pair.guest_turn();
 }
 
 fn came_back(returned: &[Return], numbers: &[u32], len: u32) -> bool {

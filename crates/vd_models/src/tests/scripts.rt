@@ -8,7 +8,8 @@ use vd_model::{Chain, Run, Script};
 
 /// Whether the chain has no more pieces than a ring of that size, and at most 1,000,000 bytes of either direction.
 pub fn fits(chain: &Chain, size: u32) -> bool
-    ensures { result ≡ true → IsChain chain.now × (length chain.now ≤ size) × (readable chain.now ≤ 1000000) × (writable chain.now ≤ 1000000) }
+    ensures { result ≡ true → IsChain chain.now × (length chain.now ≤ size) × (readable chain.now ≤ 1000000) ×
+        (writable chain.now ≤ 1000000) }
 {
     chain.pieces().len() <= size as usize
         && chain.readable() <= 1_000_000

@@ -19,7 +19,8 @@ returns-in-Moved-clause-turn g c = λ v opens own.
     let q = c.step.new.port in
     let go = c.begin_drive.ensures.next v opens in
     let h = c.in-Moved.ensures v go.opens.drives.stands own in
-    from_begun port d p q v a.end.now b l.script l.at l.offered l.returned.items l.stage _ _ go.owes (went_on port d law p q l.script v b c.step.new.self l.at l.offered l.returned.items l.stage go.opens h)
+    from_begun port d p q v a.end.now b l.script l.at l.offered l.returned.items l.stage _ _ go.owes
+    (went_on port d law p q l.script v b c.step.new.self l.at l.offered l.returned.items l.stage go.opens h)
 
 pub returns-in-Armed-clause-turn : goal.returns-in-Armed-clause-turn
 returns-in-Armed-clause-turn g c = λ v opens own.
@@ -33,7 +34,8 @@ returns-in-Armed-clause-turn g c = λ v opens own.
     let q = c.step.new.port in
     let go = c.begin_drive.ensures.next v opens in
     let h = c.in-Armed.ensures v go.opens.drives.stands own in
-    from_begun port d p q v a.end.now b l.script l.at l.offered l.returned.items l.stage _ _ go.owes (armed_at port d law p q l.script v b c.step.new.self l.at l.offered l.returned.items l.stage go.opens h)
+    from_begun port d p q v a.end.now b l.script l.at l.offered l.returned.items l.stage _ _ go.owes
+    (armed_at port d law p q l.script v b c.step.new.self l.at l.offered l.returned.items l.stage go.opens h)
 
 pub returns-in-Asleep-clause-turn : goal.returns-in-Asleep-clause-turn
 returns-in-Asleep-clause-turn g c = λ v opens own.
@@ -47,7 +49,8 @@ returns-in-Asleep-clause-turn g c = λ v opens own.
     let q = c.step.new.port in
     let go = c.begin_drive.ensures.next v opens in
     let h = c.in-Asleep.ensures v go.opens.drives.stands own in
-    from_begun port d p q v a.end.now b l.script l.at l.offered l.returned.items l.stage _ _ go.owes (slept_at port d law p q l.script v b c.step.new.self l.at l.offered l.returned.items l.stage go.opens h)
+    from_begun port d p q v a.end.now b l.script l.at l.offered l.returned.items l.stage _ _ go.owes
+    (slept_at port d law p q l.script v b c.step.new.self l.at l.offered l.returned.items l.stage go.opens h)
 
 pub returns-in-Nothing-clause-turn : goal.returns-in-Nothing-clause-turn
 returns-in-Nothing-clause-turn g c = λ v opens own.
@@ -61,7 +64,8 @@ returns-in-Nothing-clause-turn g c = λ v opens own.
     let q = c.step.new.port in
     let go = c.begin_drive.ensures.next v opens in
     let h = c.in-Nothing.ensures v go.opens.drives.stands own in
-    from_begun port d p q v a.end.now b l.script l.at l.offered l.returned.items l.stage _ _ go.owes (rw c.after_nothing-loaded.ensures (found_none port d law p q l.script v b c.step.new.self l.at l.offered l.returned.items l.stage go.opens own h))
+    from_begun port d p q v a.end.now b l.script l.at l.offered l.returned.items l.stage _ _ go.owes (rw c.after_nothing-loaded.ensures
+    (found_none port d law p q l.script v b c.step.new.self l.at l.offered l.returned.items l.stage go.opens own h))
 
 pub returns-in-Awake-clause-turn : goal.returns-in-Awake-clause-turn
 returns-in-Awake-clause-turn g c = λ v opens own.
@@ -75,7 +79,10 @@ returns-in-Awake-clause-turn g c = λ v opens own.
     let q = c.step.new.port in
     let go = c.begin_drive.ensures.next v opens in
     let h = c.in-Awake.ensures v go.opens.drives.stands own in
-    from_begun port d p q v a.end.now b l.script l.at l.offered l.returned.items l.stage _ _ go.owes (rw c.after_waking-loaded.ensures (rw c.waking-turn.ensures (woken_at port d law p q l.script v b c.step.new.self l.at l.offered l.returned.items l.stage c.armed.result go.opens h (sym c.armed.ensures))))
+    from_begun port d p q v a.end.now b l.script l.at l.offered l.returned.items l.stage _ _ go.owes (rw c.after_waking-loaded.ensures
+    (rw c.waking-turn.ensures
+    (woken_at port d law p q l.script v b c.step.new.self l.at l.offered l.returned.items l.stage c.armed.result go.opens h
+    (sym c.armed.ensures))))
 
 pub returns-in-Offered-clause-turn : goal.returns-in-Offered-clause-turn
 returns-in-Offered-clause-turn g c = λ v opens own.
@@ -89,8 +96,11 @@ returns-in-Offered-clause-turn g c = λ v opens own.
     let q = c.step.new.port in
     let go = c.begin_drive.ensures.next v opens in
     let h = c.in-Offered.ensures v go.opens.drives.stands own in
-    from_begun port d p q v a.end.now b l.script l.at l.offered l.returned.items l.stage _ _ go.owes (rw c.after_offer-loaded.ensures (offered_at port d law p q l.script v b c.step.new.self l.at l.offered l.returned.items l.stage c.settle-loaded.result c.in-Offered.field-0 a.turns go.opens h
-        (subst (λ (rs : List Run). left_at rs c.settle-loaded.result ≡ left_at rs (record { run = l.at.run; used = l.at.used + 1 })) c.as_slice.ensures c.settle-loaded.ensures.left) (subst (λ (rs : List Run). IsSettled rs c.settle-loaded.result) c.as_slice.ensures c.settle-loaded.ensures.settled)))
+    from_begun port d p q v a.end.now b l.script l.at l.offered l.returned.items l.stage _ _ go.owes (rw c.after_offer-loaded.ensures
+    (offered_at port d law p q l.script v b c.step.new.self l.at l.offered l.returned.items l.stage c.settle-loaded.result c.in-Offered.field-0 a.turns go.opens h
+    (subst (λ (rs : List Run). left_at rs c.settle-loaded.result ≡ left_at rs
+    (record { run = l.at.run; used = l.at.used + 1 })) c.as_slice.ensures c.settle-loaded.ensures.left) (subst
+    (λ (rs : List Run). IsSettled rs c.settle-loaded.result) c.as_slice.ensures c.settle-loaded.ensures.settled)))
 
 pub returns-then-len-loaded-clause-turn : goal.returns-then-len-loaded-clause-turn
 returns-then-len-loaded-clause-turn g c = λ v opens own.
@@ -106,7 +116,8 @@ returns-then-len-loaded-clause-turn g c = λ v opens own.
     let h = c.in-Collected.ensures v go.opens.drives.stands own in
     let len : c.len.result ≡ length c.keep.new.list.items = omega (arith, c.len.ensures, c.keep.new.list.ok) in
     let total = total_is l c.requires.plan in
-    from_begun port d p q v a.end.now b l.script l.at l.offered l.returned.items l.stage _ _ go.owes (collected_at port d law p q l.script v b c.step.new.self l.at l.offered l.returned.items l.stage c.keep.new.list.items c.in-Collected.number c.in-Collected.len c.in-Collected.head true go.opens h c.keep.ensures.items (sym (eq-eqb (length c.keep.new.list.items) (length (chains l.script)) (omega (arith, len, total, c.if-len-loaded.true)))))
+    from_begun port d p q v a.end.now b l.script l.at l.offered l.returned.items l.stage _ _ go.owes
+    (collected_at port d law p q l.script v b c.step.new.self l.at l.offered l.returned.items l.stage c.keep.new.list.items c.in-Collected.number c.in-Collected.len c.in-Collected.head true go.opens h c.keep.ensures.items (sym (eq-eqb (length c.keep.new.list.items) (length (chains l.script)) (omega (arith, len, total, c.if-len-loaded.true)))))
 
 pub returns-else-len-loaded-clause-turn : goal.returns-else-len-loaded-clause-turn
 returns-else-len-loaded-clause-turn g c = λ v opens own.
@@ -122,7 +133,8 @@ returns-else-len-loaded-clause-turn g c = λ v opens own.
     let h = c.in-Collected.ensures v go.opens.drives.stands own in
     let len : c.len.result ≡ length c.keep.new.list.items = omega (arith, c.len.ensures, c.keep.new.list.ok) in
     let total = total_is l c.requires.plan in
-    from_begun port d p q v a.end.now b l.script l.at l.offered l.returned.items l.stage _ _ go.owes (collected_at port d law p q l.script v b c.step.new.self l.at l.offered l.returned.items l.stage c.keep.new.list.items c.in-Collected.number c.in-Collected.len c.in-Collected.head false go.opens h c.keep.ensures.items (sym (ne_eqb (length c.keep.new.list.items) (length (chains l.script)) (λ z. c.if-len-loaded.false (omega (arith, len, total, z))))))
+    from_begun port d p q v a.end.now b l.script l.at l.offered l.returned.items l.stage _ _ go.owes
+    (collected_at port d law p q l.script v b c.step.new.self l.at l.offered l.returned.items l.stage c.keep.new.list.items c.in-Collected.number c.in-Collected.len c.in-Collected.head false go.opens h c.keep.ensures.items (sym (ne_eqb (length c.keep.new.list.items) (length (chains l.script)) (λ z. c.if-len-loaded.false (omega (arith, len, total, z))))))
 
 pub overflow_add-next : goal.overflow_add-next
 overflow_add-next g c =
@@ -136,7 +148,8 @@ overflow_add-next g c =
     let q = c.step.new.port in
     let v = c.requires.own.0 in
     let go = c.begin_drive.ensures.next v c.requires.own.1 in
-    let f = used_fits port d law p q l.script v b c.step.new.self l.at l.offered l.returned.items l.stage c.in-Offered.field-0 go.opens (c.in-Offered.ensures v go.opens.drives.stands c.requires.own.2) in
+    let f = used_fits port d law p q l.script v b c.step.new.self l.at l.offered l.returned.items l.stage c.in-Offered.field-0 go.opens
+    (c.in-Offered.ensures v go.opens.drives.stands c.requires.own.2) in
     omega (arith, f.0)
 
 pub keep-requires : goal.keep-requires

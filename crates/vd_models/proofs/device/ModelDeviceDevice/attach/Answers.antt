@@ -20,12 +20,18 @@ returns g c =
     let stands = ok_of c.resume.result _ ok c.resume.ensures.stands in
     let idle = ok_of c.resume.result _ ok c.resume.ensures.begun in
     let events = c.requires.events in
-    let full : 0 < c.in-Some-held.held.capacity = room_some m.held c.in-Some-held.held m.journal.events.room c.in-Some-held.is (omega arith) in
+    let full : 0 < c.in-Some-held.held.capacity = room_some m.held c.in-Some-held.held m.journal.events.room c.in-Some-held.is
+    (omega arith) in
     let cleared : c.clear.new.self.capacity ≡ c.in-Some-held.held.capacity = ap (λ (z : Buffer Held). z.capacity) c.clear.ensures in
     let session : Session g.row.L-Device.Denot = record { end = c.resume.new.self; by = record { queue = c.queue.result; count = c.count.result; at = c.len-at.result; from = c.taken.result }; stage = stage.Taking } in
-    let settings : c.match-control.settings ≡ control_settings (λ (z : ModelDevice g.row.L.Denot g.row.L-Driver.Denot g.row.L-Device.Denot g.L.Layout g.L.Driver.DriverEnd g.L.Device.DeviceEnd). z.settings) (option_copied c.args.control) = elim c.match-control.branch [
-      | in-Some w ↦ w.settings-is ∙ sym (ap (λ o. control_settings {X = ModelDevice g.row.L.Denot g.row.L-Driver.Denot g.row.L-Device.Denot g.L.Layout g.L.Driver.DriverEnd g.L.Device.DeviceEnd} (λ z. z.settings) (option_copied o)) w.in-Some.is)
-      | in-None w ↦ w.settings-is ∙ w.new-settings.ensures.value ∙ sym (ap (λ o. control_settings {X = ModelDevice g.row.L.Denot g.row.L-Driver.Denot g.row.L-Device.Denot g.L.Layout g.L.Driver.DriverEnd g.L.Device.DeviceEnd} (λ z. z.settings) (option_copied o)) w.in-None.is)
+    let settings : c.match-control.settings ≡ control_settings (λ
+    (z : ModelDevice g.row.L.Denot g.row.L-Driver.Denot g.row.L-Device.Denot g.L.Layout g.L.Driver.DriverEnd g.L.Device.DeviceEnd). z.settings) (option_copied c.args.control) = elim c.match-control.branch [
+      | in-Some w ↦ w.settings-is ∙ sym
+          (ap
+          (λ o. control_settings {X = ModelDevice g.row.L.Denot g.row.L-Driver.Denot g.row.L-Device.Denot g.L.Layout g.L.Driver.DriverEnd g.L.Device.DeviceEnd} (λ z. z.settings) (option_copied o)) w.in-Some.is)
+      | in-None w ↦ w.settings-is ∙ w.new-settings.ensures.value ∙ sym
+          (ap
+          (λ o. control_settings {X = ModelDevice g.row.L.Denot g.row.L-Driver.Denot g.row.L-Device.Denot g.L.Layout g.L.Driver.DriverEnd g.L.Device.DeviceEnd} (λ z. z.settings) (option_copied o)) w.in-None.is)
     ] in
     let more = attaches_more m.journal.events.items c.push.new.self.items _ c.push.ensures.items in
     record {
@@ -37,12 +43,26 @@ returns g c =
         is_held = c.clear.new.self;
         at_session = refl;
         at_held = refl;
-        serves = starts e law c.args.end session c.clear.new.self m.journal.begun w refl st c.requires.still (stands w st) idle (ok_of c.resume.result _ ok c.resume.ensures.awake) c.len-at.ensures.value
-            (c.taken.ensures w (stands w st)) (ap (λ (z : Buffer Held). z.items) c.clear.ensures) (omega arith) (omega (arith, c.count.ensures, c.requires.chains)) (omega (arith, c.count.ensures, c.requires.few, c.len-at.ensures.value)) m.lens;
-        paid = begins_paid e law c.args.end session c.clear.new.self m.journal.begun w m.counts (attaches m.journal.events.items) (attaches c.push.new.self.items) st c.requires.still idle c.len-at.ensures.value (c.taken.ensures w (stands w st)) more (m.paced c.requires.free);
+        serves = starts e law c.args.end session c.clear.new.self m.journal.begun w refl st c.requires.still (stands w st) idle
+            (ok_of c.resume.result _ ok c.resume.ensures.awake) c.len-at.ensures.value
+            (c.taken.ensures w (stands w st)) (ap (λ (z : Buffer Held). z.items) c.clear.ensures) (omega arith) (omega
+            (arith, c.count.ensures, c.requires.chains)) (omega
+            (arith, c.count.ensures, c.requires.few, c.len-at.ensures.value)) m.lens;
+        paid = begins_paid e law c.args.end session c.clear.new.self m.journal.begun w m.counts (attaches m.journal.events.items)
+            (attaches c.push.new.self.items) st c.requires.still idle c.len-at.ensures.value (c.taken.ensures w (stands w st)) more
+            (m.paced c.requires.free);
         event = omega (arith, events, room_most m.held m.journal.events.room, c.push.ensures.room);
       };
       live = λ d. cc;
-      noted = record { events = cc (c.push.ensures.items, c.len-at.ensures.value, c.ring.ensures, c.base-2.ensures, c.mode.ensures, settings, c.map.ensures, c.copy.ensures); begun = refl; faults = refl; window = refl; carried = refl; room = (omega (arith, room_most m.held m.journal.events.room, c.push.ensures.room, room_all c.clear.new.self c.push.new.self.room (omega arith)), omega arith); counts = (refl, refl) };
+      noted = record {
+        events = cc
+            (c.push.ensures.items, c.len-at.ensures.value, c.ring.ensures, c.base-2.ensures, c.mode.ensures, settings, c.map.ensures, c.copy.ensures);
+        begun = refl;
+        faults = refl;
+        window = refl;
+        carried = refl;
+        room = (omega (arith, room_most m.held m.journal.events.room, c.push.ensures.room, room_all c.clear.new.self c.push.new.self.room (omega arith)), omega arith);
+        counts = (refl, refl);
+      };
       settings = refl;
     }

@@ -9,5 +9,6 @@ invariant_of-self g c =
       some = m.some;
       sized = m.sized;
       lens = m.lens;
-      paced = λ n few fewer. omega (arith, m.paced n few fewer, attaches_more m.journal.events.items c.push.new.self.items _ c.push.ensures.items);
+      paced = λ n few fewer. omega
+          (arith, m.paced n few fewer, attaches_more m.journal.events.items c.push.new.self.items _ c.push.ensures.items);
     }

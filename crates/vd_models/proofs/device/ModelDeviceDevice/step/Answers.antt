@@ -15,7 +15,9 @@ returns g c = λ w holds own.
     let t = c.serve-turn.ensures.turn w (record { serves = o.serves; live = not_done m.session s c.in-Some.is c.requires.live }) own in
     let room = room_all h m.journal.events.room (window_some c.serve-turn.new.session.stage _ h.capacity t.serves.window) in
     let same = ap Some c.serve-turn.ensures.by ∙ sym (ap attached_of c.in-Some.is) in
-    let paid = pays g.P.Port.port e c.args.port.now c.serve-turn.new.port w (state s c.in-Some-held.held m.journal.begun) (state c.serve-turn.new.session h c.serve-turn.new.begun) c.serve-turn.result s.by c.serve-turn.new.session.by (attaches m.journal.events.items) m.counts c.note.new.self c.serve-turn.ensures.by t c.note.ensures.accesses c.note.ensures.heard o.serves.serving.before t.serves.serving.before o.paid in
+    let paid = pays g.P.Port.port e c.args.port.now c.serve-turn.new.port w (state s c.in-Some-held.held m.journal.begun)
+    (state c.serve-turn.new.session h c.serve-turn.new.begun) c.serve-turn.result s.by c.serve-turn.new.session.by
+    (attaches m.journal.events.items) m.counts c.note.new.self c.serve-turn.ensures.by t c.note.ensures.accesses c.note.ensures.heard o.serves.serving.before t.serves.serving.before o.paid in
     record {
       op = t.op;
       access = t.access;
@@ -29,6 +31,7 @@ returns g c = λ w holds own.
       finished = finished_at c.move_of.result c.serve-turn.result c.is_done-done.result _ c.move_of.ensures c.is_done-done.ensures t.slept;
       looked = looked_at c.move_of.result c.serve-turn.result c.is_done-done.result _ c.move_of.ensures t.looked;
       rested = t.rested;
-      accesses = c.note.ensures.accesses ∙ ap (λ k. raised k m.counts.accesses) (counted_at c.move_of.result c.serve-turn.result c.is_done-done.result c.move_of.ensures);
+      accesses = c.note.ensures.accesses ∙ ap (λ k. raised k m.counts.accesses)
+          (counted_at c.move_of.result c.serve-turn.result c.is_done-done.result c.move_of.ensures);
       heard = c.note.ensures.heard ∙ ap (λ k. raised k m.counts.heard) t.woken;
     }

@@ -13,5 +13,13 @@ invariant_of-self-2 g c =
     let more = asked_push m.refusal m.inner.journal.events.items c.attach.new.self.journal.events.items _ 0 m.after es in
     record {
       after = after_push m.refusal m.inner.journal.events.items c.attach.new.self.journal.events.items _ m.after es;
-      counted = omega (arith, more, c.saturating_sub-self.ensures, ap (was_refused m.refusal.number) c.saturating_sub-self.ensures, one_more m.refusal.number m.left (attaches (drop m.refusal.after m.inner.journal.events.items)) next m.counted);
+      counted = omega (
+        arith,
+        more,
+        c.saturating_sub-self.ensures,
+        ap
+            (was_refused m.refusal.number) c.saturating_sub-self.ensures,
+        one_more m.refusal.number m.left (attaches
+            (drop m.refusal.after m.inner.journal.events.items)) next m.counted,
+      );
     }

@@ -9,5 +9,10 @@ invariant_of-self g c =
     let es = c.suspend.ensures.noted.events in
     record {
       after = after_push m.refusal m.inner.journal.events.items c.suspend.new.self.journal.events.items _ m.after es;
-      counted = omega (arith, m.counted, asked_push m.refusal m.inner.journal.events.items c.suspend.new.self.journal.events.items _ (was_refused m.refusal.number m.left) m.after es);
+      counted = omega (
+        arith,
+        m.counted,
+        asked_push m.refusal m.inner.journal.events.items c.suspend.new.self.journal.events.items _
+            (was_refused m.refusal.number m.left) m.after es,
+      );
     }

@@ -28,8 +28,10 @@ returns g c =
         plan = record { total = plan.0.total; few = plan.0.few; room = plan.0.room };
         booted = refl;
         drives = booted d c.args.end y c.settle-at.result c.first_stage-stage.result v c.requires.idle plan.0 none empty
-            (subst (λ (rs : List Run). left_at rs c.settle-at.result ≡ left_at rs (record { run = 0; used = 0 })) c.as_slice.ensures c.settle-at.ensures.left)
-            (subst (λ (rs : List Run). IsSettled rs c.settle-at.result) c.as_slice.ensures c.settle-at.ensures.settled) c.first_stage-stage.ensures stands
+            (subst (λ (rs : List Run). left_at rs c.settle-at.result ≡ left_at rs
+            (record { run = 0; used = 0 })) c.as_slice.ensures c.settle-at.ensures.left)
+            (subst (λ
+            (rs : List Run). IsSettled rs c.settle-at.result) c.as_slice.ensures c.settle-at.ensures.settled) c.first_stage-stage.ensures stands
             (subst (λ (z : Script). CanBoot z v) (sym (same_script m.loaded y s is_y is)) can);
         paid = first_paid d (drive c.args.end l) v m.counts _ c.requires.idle quiet;
       };

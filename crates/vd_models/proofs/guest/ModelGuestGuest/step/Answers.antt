@@ -11,12 +11,15 @@ invariant_of-self g c =
     let m = c.args.self.now in
     let r = c.requires.own in
     let o = opened d m.end m.loaded m.counts r.0 c.in-Some.end c.in-Some-loaded.loaded r.1 c.in-Some.is c.in-Some-loaded.is in
-    let t = c.drive-turn.ensures.turn r.0 (record { drives = o.drives; live = not_done m.loaded c.in-Some-loaded.loaded c.in-Some-loaded.is c.requires.live }) r.2 in
+    let t = c.drive-turn.ensures.turn r.0
+    (record { drives = o.drives; live = not_done m.loaded c.in-Some-loaded.loaded c.in-Some-loaded.is c.requires.live }) r.2 in
     let n = c.drive-turn.new in
     let kept = c.drive-turn.ensures.kept in
     record {
       fresh = λ e. absurd (cc (kept.booted, o.booted, e));
-      paced = less_paid c.note.new.self _ _ (pays g.P.Port.port d c.args.port.now n.port r.0 (drive c.in-Some.end c.in-Some-loaded.loaded) (drive n.end n.loaded) c.drive-turn.result m.counts c.note.new.self t c.note.ensures.accesses c.note.ensures.heard o.paid);
+      paced = less_paid c.note.new.self _ _ (pays g.P.Port.port d c.args.port.now n.port r.0
+          (drive c.in-Some.end c.in-Some-loaded.loaded)
+          (drive n.end n.loaded) c.drive-turn.result m.counts c.note.new.self t c.note.ensures.accesses c.note.ensures.heard o.paid);
     }
 
 pub returns : goal.returns
@@ -25,7 +28,8 @@ returns g c = λ v holds own.
     let m = c.args.self.now in
     let y = c.in-Some-loaded.loaded in
     let o = opened d m.end m.loaded m.counts v c.in-Some.end y holds c.in-Some.is c.in-Some-loaded.is in
-    let t = c.drive-turn.ensures.turn v (record { drives = o.drives; live = not_done m.loaded y c.in-Some-loaded.is c.requires.live }) own in
+    let t = c.drive-turn.ensures.turn v
+    (record { drives = o.drives; live = not_done m.loaded y c.in-Some-loaded.is c.requires.live }) own in
     let n = c.drive-turn.new in
     let kept = c.drive-turn.ensures.kept in
     let u = c.drive-turn.result in
@@ -44,7 +48,8 @@ returns g c = λ v holds own.
         plan = kept.plan;
         booted = kept.booted ∙ o.booted;
         drives = t.drives;
-        paid = pays g.P.Port.port d c.args.port.now n.port v (drive c.in-Some.end y) (drive n.end n.loaded) u m.counts c.note.new.self t c.note.ensures.accesses c.note.ensures.heard o.paid;
+        paid = pays g.P.Port.port d c.args.port.now n.port v (drive c.in-Some.end y)
+            (drive n.end n.loaded) u m.counts c.note.new.self t c.note.ensures.accesses c.note.ensures.heard o.paid;
       };
       script = ap Some kept.script ∙ sym (ap script_of c.in-Some-loaded.is);
       grows = t.grows;

@@ -1,4 +1,4 @@
-use Rattle.std.proofs.Common.{◌≤◌, ◌∙◌, ℕ, List, subst, ap, refl, sym, replicate, false, arith, inr, rules, length}
+use Rattle.std.proofs.Common.{None, ◌≤◌, ◌∙◌, ℕ, List, subst, ap, refl, sym, replicate, false, arith, inr, rules, length}
 use Rattle.vd_model.specs.Chains.{IsChain, readable, writable}
 use Rattle.vd_ring.specs.declared.frame.Frame.{Frame}
 use Rattle.vd_layout.specs.Layout.{IsMadeWith}
@@ -12,7 +12,7 @@ use Rattle.vd_models.proofs.tests.pair.Pair.new.Goals as goal
 pub invariant_of-result : goal.invariant_of-result
 invariant_of-result g c =
     let l = g.L.Layout.layout in
-    let f : Frame = plain_frame l 0 c.args.size c.args.f false in
+    let f : Frame = plain_frame l 0 c.args.size c.args.f false None in
     let with : IsMadeWith l c.args.size c.args.f false f = record { packed = refl; size = refl; features = refl; control = refl } in
     let wide = c.words.ensures f with in
     let fresh = c.in_ok-driver.ensures in
@@ -26,9 +26,12 @@ invariant_of-result g c =
     record {
       view = view;
       device_view = device_view;
-      ring = subst (λ (us : List ℕ). l.ring us view device_view) (sym words) (g.met.L.Layout.lawful.opens c.args.size c.args.f false f c.requires.can with);
+      ring = subst (λ (us : List ℕ). l.ring us view device_view) (sym words)
+          (g.met.L.Layout.lawful.opens c.args.size c.args.f false f c.requires.can with);
       control = refl;
-      drives = c.boot.ensures.holds view c.in_ok-script.script (c.in_ok-load.ensures.ok.1) (fresh.drives f with) (can_boot f (l.width f) c.in_ok-script.script c.args.count c.args.chain.now c.in_ok-script.ensures (may_stand f c.args.chain.now chain short read write c.requires.can.direct refl) refl);
+      drives = c.boot.ensures.holds view c.in_ok-script.script (c.in_ok-load.ensures.ok.1) (fresh.drives f with) (can_boot f
+          (l.width f) c.in_ok-script.script c.args.count c.args.chain.now c.in_ok-script.ensures
+          (may_stand f c.args.chain.now chain short read write refl) refl);
       at = record { stands = fresh.serves f with; still = inr fresh.unused; free = c.reserve.ensures.same.attached ∙ c.requires.device };
       events = omega (arith, c.in_ok-reserve.ensures.room);
       chains = omega (arith, c.in_ok-reserve.ensures.room);
