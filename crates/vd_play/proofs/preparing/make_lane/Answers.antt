@@ -26,7 +26,7 @@ returns-clause-ok g c =
     let here : queue_script plan q ≡ s = ap (λ (qs : List Script). Rattle.std.proofs.Common.slice_index_or qs q (script [])) (sym c.as_slice.ensures) ∙ get_or_from_slice_get c.as_slice.result.now q s (script []) at in
     let runs : c.as_slice-2.result.now ≡ (queue_script plan q).runs = c.as_slice-2.ensures ∙ ap (λ (z : Script). z.runs) (sym here) in
     let queue = queue_is l plan q rules c.requires.queue (subst (λ (rs : List Run). All (λ (r : Run). IsChain r.chain) rs) runs c.tell_chains.ensures) in
-    let can : CanMake l plan.size plan.features = record { lawful = c.requires.layout.lawful; direct = m.direct } in
+    let can : CanMake l plan.size plan.features = record { lawful = c.requires.layout.lawful } in
     let with : IsMadeWith l plan.size plan.features false (guest_frame l plan q) = record { packed = refl; size = refl; features = refl; control = refl } in
     let words = c.in_ok-words.ensures.1 ∙ ap (λ n. replicate n 0) (c.words-words.ensures (guest_frame l plan q) with) in
     let many : length (queue_chains plan q) ≡ c.chain_count.result = chains_count (queue_script plan q).runs ∙ sym (c.chain_count.ensures ∙ ap run_count (c.as_slice-3.ensures ∙ ap (λ (z : Script). z.runs) (sym here))) in
