@@ -35,8 +35,35 @@ expect 'no chains' 0 '' 'queue 0 chains 0 bytes 0
 epoch 0 0 pass 0 0
 drained 0
 ' play
+cp examples/tables.toml "$work/in"
+expect 'sixteen pieces in a ring of two' 0 '' 'queue 0 chains 1 bytes 15
+chain 0 0 15
+epoch 0 0 pass 0 1
+drained 1
+' play
 cp examples/size-of-three.toml "$work/in"
 expect 'a size of three' 2 'vdpa: machine file breaks rule M6' '' play
+
+# breaks RULE LINE WITH : the first example with that line so breaks that rule, and no other
+breaks() {
+    sed "s/^$2\$/$3/" examples/one-chain.toml >"$work/in"
+    cmp -s examples/one-chain.toml "$work/in" && { echo "M$1: the example has no line $2"; failed=1; }
+    expect "M$1: $3" 2 "vdpa: machine file breaks rule M$1" '' play
+}
+breaks 1 'size = 4' 'size = '
+breaks 2 'size = 4' 'size = 4\ncolour = 1'
+breaks 3 'size = 4' ''
+breaks 4 'size = 4' 'size = "4"'
+breaks 5 'layout = "split"' 'layout = "round"'
+breaks 6 'size = 4' 'size = 2048'
+breaks 7 'size = 4' 'size = 4\nfeatures = ["fast"]'
+breaks 8 'size = 4' 'size = 4\nwindow = 0'
+breaks 9 'regions = .*' 'regions = [{ addr = 4096, size = 8192 }, { addr = 4096, size = 8192 }]'
+breaks 10 'queues = .*' 'queues = [["w8192+64 r4096+10"]]'
+breaks 11 'queues = .*' 'queues = [["r4096+1 r4096+1 r4096+1 r4096+1 r4096+1"]]'
+breaks 12 'queues = .*' 'queues = [["r12287+2"]]'
+breaks 13 'queues = .*' 'queues = []'
+
 : >"$work/in"
 expect 'an empty file' 2 'vdpa: machine file breaks rule M3' '' play
 printf '\377' >"$work/in"

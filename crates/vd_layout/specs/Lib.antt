@@ -6,6 +6,7 @@ pub mod Device
 pub mod Layout
 pub mod Plain
 pub mod Run
+pub mod Runs
 pub mod Stepped
 pub mod DriverFinish
 pub mod DeviceFinish

@@ -1,5 +1,5 @@
 -- What the facts that a machine keeps say of its size, its window, its regions and its queues.
-use Rattle.std.proofs.Common.{◌≡◌, ℕ, ◌+◌, ◌^◌, ◌<◌, ◌≤◌, ◌==◌, Bool, true, false, ◌&&◌, ◌||◌, cond, nat_le, List, [], ◌∷◌, length, get_or, sym, arith, inl, inr, lit≤}
+use Rattle.std.proofs.Common.{◌≡◌, ℕ, ◌+◌, ◌^◌, ◌<◌, ◌≤◌, ◌==◌, Bool, true, false, ◌&&◌, ◌||◌, cond, nat_le, nat_lt, List, [], ◌∷◌, length, get_or, sym, arith, inl, inr, lit≤}
 use Rattle.std.specs.List.{list_all, sum_by}
 use Rattle.std.proofs.lemmas.Bool.{and_parts, leb-true, eqb-true, false≢true, cases_Bool}
 use Rattle.std.proofs.lemmas.Bool.Decides.{nat_tests}
@@ -69,8 +69,9 @@ few_regions rs h = leb-true (length rs) 64 (region_parts rs h).0
 
 region_fits : (r : Region) → is_region r ≡ true → (1 ≤ r.size) × (r.addr + r.size ≤ 2 ^ 63)
 region_fits r h =
-    let parts = and_parts (nat_le 1 r.size) (nat_le (r.addr + r.size) 0x8000_0000_0000_0000) h in
-    (leb-true 1 r.size parts.0, leb-true (r.addr + r.size) 0x8000_0000_0000_0000 parts.1)
+    let parts = and_parts (nat_le 1 r.size && nat_lt r.size 0x8000_0000_0000_0000) (nat_le (r.addr + r.size) 0x8000_0000_0000_0000) h in
+    let sized = and_parts (nat_le 1 r.size) (nat_lt r.size 0x8000_0000_0000_0000) parts.0 in
+    (leb-true 1 r.size sized.0, leb-true (r.addr + r.size) 0x8000_0000_0000_0000 parts.1)
 
 pub region_bounds : (rs : List Region) (d : Region) (k : ℕ) → are_regions rs ≡ true → k < length rs → (1 ≤ (get_or rs k d).size) × ((get_or rs k d).addr + (get_or rs k d).size ≤ 2 ^ 63)
 region_bounds rs d k h below = region_fits (get_or rs k d) (all_at is_region rs d k (region_parts rs h).1 below)

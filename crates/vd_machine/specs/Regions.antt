@@ -1,14 +1,14 @@
 -- The regions of the guest's memory.
-use Rattle.std.specs.Prelude.{ℕ, ◌+◌, Bool, true, ◌&&◌, ◌||◌, nat_le, if◌then◌else◌, List, [], ◌∷◌, length, map, codes, Option, Some, None, option_and_then}
+use Rattle.std.specs.Prelude.{ℕ, ◌+◌, Bool, true, ◌&&◌, ◌||◌, nat_le, nat_lt, if◌then◌else◌, List, [], ◌∷◌, length, map, codes, Option, Some, None, option_and_then}
 use Rattle.std.specs.List.{list_all}
 use Rattle.toml.specs.Data.{Data, Members, as_table}
 use Rattle.vd_text.specs.Grammar.{all_some}
 use Rattle.vd_machine.specs.Lookup.{natural_at, items_at}
 use Rattle.vd_machine.specs.declared.regions.Region.{Region}
 
--- at least one byte, and an end of at most 2 ^ 63
+-- at least one byte and fewer than 2 ^ 63, and an end of at most 2 ^ 63
 abbrev pub is_region : Region → Bool
-is_region r = nat_le 1 r.size && nat_le (r.addr + r.size) 0x8000_0000_0000_0000
+is_region r = (nat_le 1 r.size && nat_lt r.size 0x8000_0000_0000_0000) && nat_le (r.addr + r.size) 0x8000_0000_0000_0000
 
 -- the two have no address in common
 abbrev pub are_apart : Region → Region → Bool

@@ -1,5 +1,5 @@
 -- The layout and the size of the rings, their features and the window.
-use Rattle.std.specs.Prelude.{ℕ, Bool, true, false, ◌&&◌, ◌==◌, nat_le, if◌then◌else◌, List, [], ◌∷◌, codes, count_by, Option, Some, None, option_and_then}
+use Rattle.std.specs.Prelude.{ℕ, Bool, true, false, ◌&&◌, ◌||◌, ◌==◌, nat_le, if◌then◌else◌, List, [], ◌∷◌, codes, count_by, Option, Some, None, option_and_then}
 use Rattle.std.specs.List.{list_all, list_any}
 use Rattle.std.specs.Option.{option_map_or}
 use Rattle.std.specs.Str.{bytes_eq}
@@ -40,13 +40,22 @@ is_named name d = option_map_or (λ t. bytes_eq t name) (as_str d) false
 abbrev pub times_of : List ℕ → List Data → ℕ
 times_of name ds = count_by (is_named name) ds
 
+-- the name of a feature
+abbrev pub is_feature : Data → Bool
+is_feature d = (is_named (codes "indirect") d || is_named (codes "event_idx") d) || is_named (codes "in_order") d
+
 -- each is a feature's name, and none stands twice
 abbrev pub are_features : List Data → Bool
-are_features ds = list_all (is_named (codes "in_order")) ds && nat_le (times_of (codes "in_order") ds) 1
+are_features ds =
+    ((list_all is_feature ds && nat_le (times_of (codes "indirect") ds) 1) && nat_le (times_of (codes "event_idx") ds) 1) && nat_le (times_of (codes "in_order") ds) 1
 
 -- the features that the list names (VIRTIO 1.2, 6)
 abbrev pub features_in : List Data → Features
-features_in ds = record { indirect = false; event_idx = false; in_order = nat_le 1 (times_of (codes "in_order") ds) }
+features_in ds = record {
+  indirect = nat_le 1 (times_of (codes "indirect") ds);
+  event_idx = nat_le 1 (times_of (codes "event_idx") ds);
+  in_order = nat_le 1 (times_of (codes "in_order") ds);
+}
 
 -- the features, where the list is lawful
 abbrev pub if_features : List Data → Option Features

@@ -59,8 +59,6 @@ pub struct Machine {
     ghost fitted: { are_scripts (most_pieces features size) queues ≡ true },
     ghost inside: { all_lie regions queues ≡ true },
     ghost counted: { few queues ≡ true },
-    ghost direct: { features.indirect ≡ false },
-    ghost eventless: { features.event_idx ≡ false },
     ghost passing: { start ≡ Pass },
     ghost from_default: { first ≡ 4096 },
     ghost to_default: { last ≡ 281474976710655 },

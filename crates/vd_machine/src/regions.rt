@@ -35,7 +35,9 @@ fn region_of(value: &Value) -> Option<Region>
 fn is_region(region: &Region) -> bool
     ensures { result ≡ is_region region.now }
 {
-    1 <= region.size && region.addr as u128 + region.size as u128 <= 0x8000_0000_0000_0000
+    1 <= region.size
+        && region.size < 0x8000_0000_0000_0000
+        && region.addr as u128 + region.size as u128 <= 0x8000_0000_0000_0000
 }
 
 fn each_is_region(regions: &[Region]) -> bool

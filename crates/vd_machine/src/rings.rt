@@ -3,7 +3,7 @@ ghost use Rattle.std.specs.Prelude.{◌≡◌, ◌<◌, ◌^◌, codes, count_by
 ghost use Rattle.std.specs.Bool.{OnTrue};
 ghost use Rattle.std.specs.List.{list_all};
 ghost use Rattle.toml.specs.View.{view, table_view};
-ghost use Rattle.vd_machine.specs.Rings.{layout, layout_of, is_power, is_lawful_size, size_of, is_named, times_of, are_features, features_in, features_of, is_window, window_of};
+ghost use Rattle.vd_machine.specs.Rings.{layout, layout_of, is_power, is_lawful_size, size_of, is_named, is_feature, times_of, are_features, features_in, features_of, is_window, window_of};
 
 use crate::lookup::{items_at, natural_at, natural_or, text_at};
 use toml::{Table, Value};
@@ -68,16 +68,22 @@ fn is_named(name: &str, value: &Value) -> bool
     }
 }
 
-fn all_named(name: &str, values: &[Value]) -> bool
-    ensures { result ≡ list_all (λ v. is_named name.now (view v)) values.now }
+fn is_feature(value: &Value) -> bool
+    ensures { result ≡ is_feature (view value.now) }
 {
-    values.iter().all(|value| is_named(name, value))
+    is_named("indirect", value) || is_named("event_idx", value) || is_named("in_order", value)
 }
 
-fn each_is_named(name: &str, values: &[Value]) -> bool
-    ensures { result ≡ list_all (is_named name.now) (map view values.now) }
+fn all_features(values: &[Value]) -> bool
+    ensures { result ≡ list_all (λ v. is_feature (view v)) values.now }
 {
-    all_named(name, values)
+    values.iter().all(|value| is_feature(value))
+}
+
+fn each_is_feature(values: &[Value]) -> bool
+    ensures { result ≡ list_all is_feature (map view values.now) }
+{
+    all_features(values)
 }
 
 fn count_named(name: &str, values: &[Value]) -> usize
@@ -95,15 +101,18 @@ fn times_of(name: &str, values: &[Value]) -> usize
 fn are_features(values: &[Value]) -> bool
     ensures { result ≡ are_features (map view values.now) }
 {
-    each_is_named("in_order", values) && times_of("in_order", values) <= 1
+    each_is_feature(values)
+        && times_of("indirect", values) <= 1
+        && times_of("event_idx", values) <= 1
+        && times_of("in_order", values) <= 1
 }
 
 fn features_in(values: &[Value]) -> Features
     ensures { result ≡ features_in (map view values.now) }
 {
     Features {
-        indirect: false,
-        event_idx: false,
+        indirect: 1 <= times_of("indirect", values),
+        event_idx: 1 <= times_of("event_idx", values),
         in_order: 1 <= times_of("in_order", values),
     }
 }
@@ -112,8 +121,6 @@ fn features_in(values: &[Value]) -> Features
 #[tactic(auto, unfolding(crate::specs::Rings::features_of))]
 pub fn features_of(file: &Table) -> Option<Features>
     ensures value { result ≡ features_of (table_view file.now) }
-    ensures direct { IfSome result (λ f. f.indirect ≡ false) }
-    ensures eventless { IfSome result (λ f. f.event_idx ≡ false) }
 {
     let values = items_at(file, "features");
     if are_features(values) {

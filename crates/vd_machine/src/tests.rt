@@ -7,6 +7,19 @@ const VALID: &str =
     "layout = \"split\"\nsize = 4\nregions = [{ addr = 4096, size = 8192 }]\nqueues = [[\"r4096+10 w8192+64\"]]\n";
 
 #[test]
+fn tables_let_a_chain_have_more_pieces_than_the_ring_has_places(
+    rt: HostRuntime,
+) -> Result<(), Fail> {
+    let text =
+        "layout = \"split\"\nsize = 2\nfeatures = [\"indirect\", \"event_idx\"]\nregions = [{ addr = 4096, size = 8192 }]\nqueues = [[\"r4096+1 w8192+64 w8192+1\"]]";
+    let machine = Machine::read(rt.alloc(), text.as_bytes())?;
+    assert!(rt;
+        machine.features.indirect && machine.features.event_idx && !machine.features.in_order
+    );
+    Ok(())
+}
+
+#[test]
 fn reads_what_a_file_orders(rt: HostRuntime) -> Result<(), Fail> {
     let text =
         "layout = \"split\"\nsize = 1024\nfeatures = [\"in_order\"]\nwindow = 64\nregions = [{ addr = 9223372036854775807, size = 1 }, { addr = 0, size = 8192 }]\nqueues = [[\"3*r4096+10 w4096+64\", \"w09223372036854775807+01\", \"w09223372036854775807+01\"]]";
@@ -254,12 +267,12 @@ fn names_the_first_broken_rule(rt: HostRuntime) -> Result<(), Fail> {
             MachineFault::M7,
         ),
         (
-            "layout = \"split\"\nsize = 4\nfeatures = [\"indirect\"]\nregions = [{ addr = 4096, size = 8192 }]\nqueues = [[\"r4096+10 w8192+64\"]]\n",
+            "layout = \"split\"\nsize = 4\nfeatures = [\"indirect\", \"indirect\"]\nregions = [{ addr = 4096, size = 8192 }]\nqueues = [[\"r4096+10 w8192+64\"]]\n",
             MachineFault::M7,
         ),
         (
-            "layout = \"split\"\nsize = 4\nfeatures = [\"in_order\", \"event_idx\"]\nregions = [{ addr = 4096, size = 8192 }]\nqueues = [[\"r4096+10 w8192+64\"]]\n",
-            MachineFault::M7,
+            "layout = \"split\"\nsize = 2\nregions = [{ addr = 4096, size = 8192 }]\nqueues = [[\"r4096+10 w8192+64 w8192+1\"]]\n",
+            MachineFault::M11,
         ),
         (
             "layout = \"split\"\nsize = 4\nwindow = 0\nregions = [{ addr = 4096, size = 0 }]\nqueues = [[\"r4096+10 w8192+64\"]]\n",

@@ -1,5 +1,5 @@
 //! The parties with which the program plays.
-ghost use Rattle.std.specs.Prelude.{IfOk};
+ghost use Rattle.std.specs.Prelude.{◌≡◌, IfOk, length};
 ghost use Rattle.vd_play.specs.Prepared.{IsEmptyBench};
 
 use std::alloc::{AllocError, Global};
@@ -15,11 +15,12 @@ const MOST: u32 = 9;
 pub fn model_bench<L: Layout>(
     alloc: Global,
 ) -> Result<Bench<ModelGuest<L>, ModelDevice<L>>, AllocError>
-    ensures { IfOk result (λ b. IsEmptyBench ⟦<ModelGuest<L> as Guest<L>>⟧.party ⟦<ModelDevice<L> as Device<L>>⟧.party b) }
+    ensures empty { IfOk result (λ b. IsEmptyBench ⟦<ModelGuest<L> as Guest<L>>⟧.party ⟦<ModelDevice<L> as Device<L>>⟧.party b) }
+    ensures many { IfOk result (λ b. (length b.guests.items ≡ MOST) × (length b.devices.items ≡ MOST)) }
 {
     let mut guests = Vec::new(alloc);
     let mut devices = Vec::new(alloc);
-    for _ in 0..MOST {
+    for made in 0..MOST {
         guests.push(ModelGuest::new(alloc))?;
         devices.push(ModelDevice::new(alloc, 1))?;
     }

@@ -1,87 +1,101 @@
 -- A lane that is still, and its device's attach.
-use Rattle.std.proofs.Common.{◌≡◌, ℕ, ◌+◌, ◌-◌, ◌<◌, ◌≤◌, ◌^◌, IsSomeAnd, Option, Some, None, List, [], ◌∷◌, ◌++◌, length, slice_get, if◌then◌else◌, nat_lt, refl, sym, ◌∙◌, ap, subst, arith, inl, inr}
+use Rattle.std.proofs.Common.{◌≡◌, ℕ, ◌+◌, ◌-◌, ◌<◌, ◌≤◌, Option, Some, None, true, false, List, [], ◌∷◌, ◌++◌, length, slice_get, refl, sym, ◌∙◌, ap, subst, arith}
 use Rattle.std.proofs.lemmas.Bool.{lt-ltb}
 use Rattle.std.proofs.lemmas.Option.{get_or_from_slice_get}
 use Rattle.vd_model.specs.declared.record.Script.{Script}
 use Rattle.vd_bus.specs.Scripts.{run_count, run_chains}
 use Rattle.vd_machine.specs.Queues.{script}
 use Rattle.vd_model.specs.declared.base.Mode.TheVariants.{Pass}
-use Rattle.vd_words.specs.Plain.{RingWords}
 use Rattle.vd_control.specs.Settings.{default}
-use Rattle.vd_layout.specs.Driver.{DriverModel}
-use Rattle.vd_layout.specs.Device.{DeviceModel}
-use Rattle.vd_layout.specs.Layout.{LayoutModel, IsLawfulLayout}
+use Rattle.vd_words.specs.Plain.{RingWords}
 use Rattle.vd_bus.specs.declared.event.Event.TheVariants.{Attach}
-use Rattle.vd_bus.specs.Device.{DeviceParty, IsLawfulDeviceParty, IsAttach}
-use Rattle.vd_bus.specs.Guest.{GuestParty, IsLawfulGuestParty}
+use Rattle.vd_bus.specs.Device.{IsAttach}
 use Rattle.vd_bus.specs.Orders.{Terms, FitsQueue, mode_of}
+use Rattle.vd_bus.specs.Pace.{attaches}
 use Rattle.vd_machine.specs.File.{Plan}
 use Rattle.vd_ring.specs.declared.frame.Frame.{Frame}
 use Rattle.vd_play.specs.Journal.{queue_script, queue_chains, queue_epochs, guest_frame, attach_event, base_at, pass_map}
-use Rattle.vd_play.specs.Lane.{IsStopped, IsPassing, StoppedWith, InEpochWith, events_before, begun_at}
+use Rattle.vd_play.specs.Lane.{events_before, begun_at}
 use Rattle.vd_play.specs.Orders.{pass_order, stop_of, CanAttach}
+use Rattle.vd_play.specs.Progress.{IsStopped, IsPassing, StoppedWith, InEpochWith}
+use Rattle.vd_play.specs.Setting.{Setting, IsLawful}
 use Rattle.vd_play.proofs.Bounds.{bounded, stops_at, many_epochs, chains_count}
 use Rattle.vd_play.proofs.Keep.{kept_still, begun_of, base_of}
+use Rattle.vd_play.proofs.Pace.{attaches_more}
 
 passes : (q : ℕ) → q < 8 → mode_of q ≡ Pass
 passes q low = rw (lt-ltb q 16 (omega arith)) refl
 
 -- a guest's ring of a data queue is no control ring
-fits : (plan : Plan) (t : Terms) (f g : Frame) → f ≡ g → g.control ≡ Rattle.std.proofs.Common.false → (t.queue ≡ 15 → ⊥) → FitsQueue t f
-fits plan t f g is plain other = (λ h. absurd (cc (h, ap (λ (z : Frame). z.control) is, plain)), λ h. absurd (other h))
+fits : (t : Terms) (f g : Frame) → f ≡ g → g.control ≡ false → (t.queue ≡ 15 → ⊥) → FitsQueue t f
+fits t f g is plain other = (λ h. absurd (cc (h, ap (λ (z : Frame). z.control) is, plain)), λ h. absurd (other h))
 
-module _ {D E G X C : Type 0} (d : DriverModel D) (e : DeviceModel E) (l : LayoutModel) (g : GuestParty G) (m : DeviceParty X C) (lay : IsLawfulLayout d e l) (gue : IsLawfulGuestParty d g) (dev : IsLawfulDeviceParty e m) (plan : Plan) (q k : ℕ) where
-  pub asks : (to : ℕ) (words : RingWords) (still : Option E) (guest : G) (device : X) → to ≡ begun_at plan q (k + 1) → k < length (queue_epochs plan q) → StoppedWith e l g m plan q k words still guest device
-      → (length (m.begun device) ≤ to) × CanAttach e m q (to - length (m.begun device)) still device
+module _ {D E G X C : Type 0} (s : Setting D E G X C) (law : IsLawful s) (plan : Plan) (q k : ℕ) where
+  pub asks : (to : ℕ) (words : RingWords) (still : Option E) (guest : G) (device : X) → to ≡ begun_at plan q (k + 1) → k < length (queue_epochs plan q) → StoppedWith s plan q k words still guest device
+      → (length (s.party.begun device) ≤ to) × CanAttach s.device s.party q (to - length (s.party.begun device)) still device
   asks to words None guest device is more p = absurd p
   asks to words (Some end) guest device is more p =
-      let b = bounded (length (queue_chains plan q)) (queue_epochs plan q) k p.kept.queue.chained more in
-      let many : length (m.begun device) ≡ begun_at plan q k = begun_of d e l g m lay gue dev plan q words guest device p.view p.device_view p.kept ∙ p.taken in (
+      let b = bounded (length (queue_chains plan q)) (queue_epochs plan q) k p.kept.driven.queue.chained more in
+      let many : length (s.party.begun device) ≡ begun_at plan q k = begun_of s law plan q (s.party.begun device) p.device_view p.kept.account ∙ p.rests.taken in (
         omega (arith, is, b.rises, many),
         record {
-          low = p.kept.queue.low;
-          still_end = p.still;
-          free = p.free;
-          events = omega (arith, p.room, more);
+          low = p.kept.driven.queue.low;
+          still_end = p.rests.still;
+          free = p.rests.free;
+          events = omega (arith, p.rests.room, more);
           chains = omega (arith, is, b.low, p.kept.room);
-          few = omega (arith, is, b.low, b.rises, many, p.kept.queue.few);
+          few = omega (arith, is, b.low, b.rises, many, p.kept.driven.queue.few);
         },
       )
 
-  starts : (to : ℕ) (words : RingWords) (end : E) (guest : G) (device device' : X) → to ≡ begun_at plan q (k + 1) → k < length (queue_epochs plan q) → IsStopped e l g m plan q k words end guest device
-      → IsAttach e m (pass_order e plan q (to - length (m.begun device)) end) None end device device' → IsPassing e l g m plan q k 0 words guest device'
+  starts : (to : ℕ) (words : RingWords) (end : E) (guest : G) (device device' : X) → to ≡ begun_at plan q (k + 1) → k < length (queue_epochs plan q) → IsStopped s plan q k 0 words end guest device
+      → IsAttach s.device s.party (pass_order s.device plan q (to - length (s.party.begun device)) end) None end device device' → IsPassing s plan q k 0 words guest device'
   starts to words end guest device device' is more p a =
-      let order : Terms = pass_order e plan q (to - length (m.begun device)) end in
-      let b = bounded (length (queue_chains plan q)) (queue_epochs plan q) k p.kept.queue.chained more in
-      let many : length (m.begun device) ≡ begun_at plan q k = begun_of d e l g m lay gue dev plan q words guest device p.view p.device_view p.kept ∙ p.taken in
-      let framed : p.device_view.frame ≡ guest_frame l plan q = (lay.wide words.words p.view p.device_view p.kept.ring).1 ∙ p.kept.framed in
-      let other : q ≡ 15 → ⊥ = λ h. omega (arith, h, p.kept.queue.low) in
-      let base = base_of d e l g m lay gue dev plan q words end guest device p.view p.device_view (begun_at plan q k) p.kept p.stands p.still p.taken in
-      let last : Attach (length (m.begun device)) q (record { 0 = e.base end }) (mode_of q) default (pass_map plan) ≡ attach_event e l plan q (begun_at plan q k) =
-      ap (λ z. Attach z q (record { 0 = e.base end }) (mode_of q) default (pass_map plan)) many
+      let order : Terms = pass_order s.device plan q (to - length (s.party.begun device)) end in
+      let b = bounded (length (queue_chains plan q)) (queue_epochs plan q) k p.kept.driven.queue.chained more in
+      let many : length (s.party.begun device) ≡ begun_at plan q k = begun_of s law plan q (s.party.begun device) p.device_view p.kept.account ∙ p.rests.taken in
+      let framed : p.device_view.frame ≡ guest_frame s.layout plan q = (law.layout.wide words.words p.view p.device_view p.kept.driven.ring).1 ∙ p.kept.driven.part.framed in
+      let other : q ≡ 15 → ⊥ = λ h. omega (arith, h, p.kept.driven.queue.low) in
+      let base = base_of s law plan q words end guest p.view p.device_view (begun_at plan q k) p.kept.driven p.rests.stands p.rests.still p.rests.taken in
+      let last : Attach (length (s.party.begun device)) q (record { 0 = s.device.base end }) (mode_of q) default (pass_map plan) ≡ attach_event s.device s.layout plan q (begun_at plan q k) =
+      ap (λ z. Attach z q (record { 0 = s.device.base end }) (mode_of q) default (pass_map plan)) many
       ∙ ap (λ z. Attach (begun_at plan q k) q z (mode_of q) default (pass_map plan)) base
-      ∙ ap (λ z. Attach (begun_at plan q k) q (base_at e l plan q (begun_at plan q k)) z default (pass_map plan)) (passes q p.kept.queue.low) in
+      ∙ ap (λ z. Attach (begun_at plan q k) q (base_at s.device s.layout plan q (begun_at plan q k)) z default (pass_map plan)) (passes q p.kept.driven.queue.low) in
+      let counted : attaches (s.party.events device') ≡ attaches (s.party.events device) + 1 = ap attaches a.noted.events ∙ attaches_more (s.party.events device) _ in
       record {
         view = p.view;
         device_view = p.device_view;
-        kept = kept_still d e l g m lay gue dev plan q words guest device device' p.view p.device_view a.noted.begun a.noted.room.1 p.kept;
-        epoch = more;
-        holds = a.holds p.device_view p.stands (fits plan order p.device_view.frame (guest_frame l plan q) framed refl other);
-        by = record { order = order; at = length (m.begun device); from = a.from };
-        attached = a.attached;
-        for_data = other;
-        from = (many, a.taken p.device_view p.stands ∙ p.taken);
-        to = omega (arith, many, is, b.rises);
-        events = a.noted.events ∙ ap (λ zs. zs ++ Attach (length (m.begun device)) q (record { 0 = e.base end }) (mode_of q) default (pass_map plan) ∷ []) p.events ∙ ap (λ z. events_before e l plan q k ++ z ∷ []) last;
-        room = omega (arith, p.room, a.noted.room.0);
-        pace = omega (arith, many, ap length a.noted.begun);
+        kept = kept_still s law plan q words guest device device' p.view p.device_view a.noted.begun a.noted.window a.noted.room.1 p.kept;
+        serves = record {
+          epoch = more;
+          holds = a.holds p.device_view p.rests.stands (fits order p.device_view.frame (guest_frame s.layout plan q) framed refl other);
+          by = record { queue = q; count = to - length (s.party.begun device); at = length (s.party.begun device); from = a.from };
+          attached = a.attached;
+          for_data = other;
+          from = (many, a.taken p.device_view p.rests.stands ∙ p.rests.taken);
+          to = omega (arith, many, is, b.rises);
+          events = a.noted.events ∙ ap (λ zs. zs ++ Attach (length (s.party.begun device)) q (record { 0 = s.device.base end }) (mode_of q) default (pass_map plan) ∷ []) p.rests.events ∙ ap (λ z. events_before s.device s.layout plan q k ++ z ∷ []) last;
+          room = omega (arith, p.rests.room, a.noted.room.0);
+          live = a.live;
+        };
+        paced = record {
+          guest_heard = p.paced.guest_heard;
+          guest_low = p.paced.guest_low;
+          device_heard = omega (arith, p.paced.device_heard, a.noted.counts.1);
+          device_low = omega (arith, p.paced.device_low, a.noted.counts.0, counted);
+          times = omega (arith, p.paced.times, counted);
+        };
+        rounds = omega arith;
       }
 
   pub begins : (to : ℕ) (words words' : RingWords) (still still' : Option E) (guest : G) (device device' : X) → to ≡ begun_at plan q (k + 1) → k < length (queue_epochs plan q) → words' ≡ words → still' ≡ None
-      → ((end : E) → still ≡ Some end → IsAttach e m (pass_order e plan q (to - length (m.begun device)) end) None end device device') → StoppedWith e l g m plan q k words still guest device → InEpochWith e l g m plan q k 0 words' still' guest device'
+      → ((end : E) → still ≡ Some end → IsAttach s.device s.party (pass_order s.device plan q (to - length (s.party.begun device)) end) None end device device') → StoppedWith s plan q k words still guest device
+      → InEpochWith s plan q true k 0 words' still' guest device' × (s.party.accesses device' ≡ s.party.accesses device)
   begins to words words' None still' guest device device' is more same none a p = absurd p
-  begins to words words' (Some end) still' guest device device' is more same none a p =
-      subst (λ o. InEpochWith e l g m plan q k 0 words' o guest device') (sym none) (subst (λ ws. IsPassing e l g m plan q k 0 ws guest device') (sym same) (starts to words end guest device device' is more p (a end refl)))
+  begins to words words' (Some end) still' guest device device' is more same none a p = (
+    subst (λ o. InEpochWith s plan q true k 0 words' o guest device') (sym none) (subst (λ ws. IsPassing s plan q k 0 ws guest device') (sym same) (starts to words end guest device device' is more p (a end refl))),
+    (a end refl).noted.counts.0,
+  )
 
 -- where the next epoch of a queue ends, as the code finds it
 pub stop_is : (plan : Plan) (q k n to : ℕ) (qs : List Script) (s : Script) → qs ≡ plan.queues → slice_get qs q ≡ Some s → n ≡ run_count s.runs → to ≡ stop_of plan.switches k n → k < length plan.switches + 2 → (to ≡ begun_at plan q (k + 1)) × (k < length (queue_epochs plan q))

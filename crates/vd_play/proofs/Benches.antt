@@ -1,7 +1,8 @@
 -- What stays the same of a bench when the parties of one queue are written.
 use Rattle.std.proofs.Common.{◌≡◌, ℕ, ◌<◌, ◌≤◌, Some, length, map, set, slice_get, refl, sym, ◌∙◌, ap, arith}
 use Rattle.std.proofs.lemmas.List.{length-set, length-map}
-use Rattle.vd_bus.specs.Device.{DeviceParty, Rose}
+use Rattle.vd_bus.specs.Device.{DeviceParty}
+use Rattle.vd_bus.specs.Pace.{raised}
 use Rattle.vd_play.specs.declared.bench.Bench.{Bench}
 use Rattle.vd_play.specs.Each.{HasLanes}
 use Rattle.vd_play.specs.Played.{KeepsBench, HasNoFault, IsFaultOf}
@@ -44,7 +45,7 @@ pub faults_set : {G X C : Type 0} (m : DeviceParty X C) (old now new : Bench G X
 faults_set m old now new i x y none xs at same = ap (map m.faults) xs ∙ map_set m.faults now.devices.items i x y at same ∙ none
 
 -- the one device whose count rose
-pub fault_set : {G X C : Type 0} (m : DeviceParty X C) (n : ℕ) (old now new : Bench G X) (i : ℕ) (x y : X) → i < n → HasNoFault m old now → new.devices.items ≡ set now.devices.items i y → slice_get now.devices.items i ≡ Some x → Rose (m.faults x) (m.faults y) → IsFaultOf m n i old new
+pub fault_set : {G X C : Type 0} (m : DeviceParty X C) (n : ℕ) (old now new : Bench G X) (i : ℕ) (x y : X) → i < n → HasNoFault m old now → new.devices.items ≡ set now.devices.items i y → slice_get now.devices.items i ≡ Some x → m.faults y ≡ raised 1 (m.faults x) → IsFaultOf m n i old new
 fault_set m n old now new i x y below none xs at rose = record {
   queue = below;
   rose = λ a b ha hb.

@@ -3,6 +3,7 @@ use Rattle.std.proofs.Common.{◌≡◌, ℕ, zero, suc, add-one, ◌+◌, ◌<�
 use Rattle.std.proofs.lemmas.List.{length-replicate}
 use Rattle.std.proofs.lemmas.List.Sums.{sum_by-cons}
 use Rattle.vd_model.specs.declared.base.Mode.{Mode}
+use Rattle.vd_model.specs.declared.base.Mode.TheVariants.{Pass}
 use Rattle.vd_model.specs.declared.record.Run.{Run}
 use Rattle.vd_bus.specs.Scripts.{run_chains, run_count}
 use Rattle.vd_machine.specs.File.{Plan}
@@ -14,7 +15,7 @@ use Rattle.std.proofs.Math.Seq.{take-suc}
 use Rattle.std.proofs.lemmas.Grind.{flat_map-append}
 use Rattle.std.proofs.lemmas.List.{append-nil}
 use Rattle.std.proofs.lemmas.Option.{slice_get_within, get_or_from_slice_get, slice_get_cases}
-use Rattle.vd_play.specs.Epochs.{Epoch, AreChained, begun_before, epochs, epochs_from, closing, mode_after, is_renewal}
+use Rattle.vd_play.specs.Epochs.{Epoch, AreChained, ArePassing, begun_before, epochs, epochs_from, closing, mode_after, is_renewal}
 
 pub at_index : {A : Type 0} (xs : List A) (i : ℕ) → i < length xs → (x : A) × (slice_get xs i ≡ Some x)
 at_index xs i h = elim (slice_get_cases xs i).1 [ inl f ↦ (f.0, f.2) | inr f ↦ absurd (omega (arith, f.0)) ]
@@ -43,30 +44,41 @@ flat_more f xs k x is =
 
 -- ---- the epochs of a machine
 
-stops_from : (ss : List Switch) (m : Mode) (renewed : Bool) (first n k : ℕ) → k < length ss + 2 → begun_before (epochs_from ss m renewed first n ++ closing n ∷ []) (suc k) ≡ stop_of ss k n
-stops_from [] m renewed first n zero h = refl
-stops_from [] m renewed first n (suc zero) h = refl
-stops_from [] m renewed first n (suc (suc k)) h = absurd (omega arith)
-stops_from (s ∷ ss) m renewed first n zero h = refl
-stops_from (s ∷ ss) m renewed first n (suc k) h = stops_from ss (mode_after m s.to) (is_renewal s.to) (min s.after n) n k (omega arith)
+stops_from : (e : ℕ) (ss : List Switch) (m : Mode) (renewed : Bool) (first n k j : ℕ) → k < length ss + 2 → begun_before (epochs_from e ss m renewed first n ++ closing j n ∷ []) (suc k) ≡ stop_of ss k n
+stops_from e [] m renewed first n zero j h = refl
+stops_from e [] m renewed first n (suc zero) j h = refl
+stops_from e [] m renewed first n (suc (suc k)) j h = absurd (omega arith)
+stops_from e (s ∷ ss) m renewed first n zero j h = refl
+stops_from e (s ∷ ss) m renewed first n (suc k) j h = stops_from (e + 1) ss (mode_after m s.to) (is_renewal s.to) (min s.after n) n k j (omega arith)
 
 -- where an epoch ends, as the code finds it
 pub stops_at : (plan : Plan) (n k : ℕ) → k < length plan.switches + 2 → stop_of plan.switches k n ≡ begun_before (epochs plan n) (k + 1)
-stops_at plan n k h = sym (ap (begun_before (epochs plan n)) (add-one k) ∙ stops_from plan.switches plan.start false 0 n k h)
+stops_at plan n k h = sym (ap (begun_before (epochs plan n)) (add-one k) ∙ stops_from 0 plan.switches plan.start false 0 n k (length plan.switches + 1) h)
 
-many_from : (ss : List Switch) (m : Mode) (renewed : Bool) (first n : ℕ) → length (epochs_from ss m renewed first n ++ closing n ∷ []) ≡ length ss + 2
-many_from [] m renewed first n = omega arith
-many_from (s ∷ ss) m renewed first n = omega (arith, many_from ss (mode_after m s.to) (is_renewal s.to) (min s.after n) n)
+many_from : (e : ℕ) (ss : List Switch) (m : Mode) (renewed : Bool) (first n j : ℕ) → length (epochs_from e ss m renewed first n ++ closing j n ∷ []) ≡ length ss + 2
+many_from e [] m renewed first n j = omega arith
+many_from e (s ∷ ss) m renewed first n j = omega (arith, many_from (e + 1) ss (mode_after m s.to) (is_renewal s.to) (min s.after n) n j)
 
 pub many_epochs : (plan : Plan) (n : ℕ) → length (epochs plan n) ≡ length plan.switches + 2
-many_epochs plan n = many_from plan.switches plan.start false 0 n
+many_epochs plan n = many_from 0 plan.switches plan.start false 0 n (length plan.switches + 1)
 
-two_chained : (m : Mode) (n : ℕ) (es : List Epoch) → es ≡ record { mode = m; renewed = false; first = 0; end = n } ∷ closing n ∷ [] → AreChained n es
-two_chained m n es is = subst (AreChained n) (sym is) record { at = at; whole = refl }
+abbrev first_epoch : Mode → ℕ → Epoch
+first_epoch m n = record { number = 0; mode = m; renewed = false; first = 0; end = n }
+
+two_chained : (m : Mode) (n j : ℕ) (es : List Epoch) → es ≡ first_epoch m n ∷ closing j n ∷ [] → AreChained n es
+two_chained m n j es is = subst (AreChained n) (sym is) record { at = at; whole = refl }
   where
-    at : (k : ℕ) (ep : Epoch) → slice_get (record { mode = m; renewed = false; first = 0; end = n } ∷ closing n ∷ []) k ≡ Some ep → (ep.first ≡ begun_before (record { mode = m; renewed = false; first = 0; end = n } ∷ closing n ∷ []) k) × (ep.first ≤ ep.end) × (ep.end ≤ n)
-    at zero ep h = subst (λ (z : Epoch). (z.first ≡ 0) × (z.first ≤ z.end) × (z.end ≤ n)) (some_same (record { mode = m; renewed = false; first = 0; end = n }) ep (Some (record { mode = m; renewed = false; first = 0; end = n })) refl h) (refl, omega arith, omega arith)
-    at (suc zero) ep h = subst (λ (z : Epoch). (z.first ≡ n) × (z.first ≤ z.end) × (z.end ≤ n)) (some_same (closing n) ep (Some (closing n)) refl h) (refl, omega arith, omega arith)
+    at : (k : ℕ) (ep : Epoch) → slice_get (first_epoch m n ∷ closing j n ∷ []) k ≡ Some ep → (ep.first ≡ begun_before (first_epoch m n ∷ closing j n ∷ []) k) × (ep.first ≤ ep.end) × (ep.end ≤ n)
+    at zero ep h = subst (λ (z : Epoch). (z.first ≡ 0) × (z.first ≤ z.end) × (z.end ≤ n)) (some_same (first_epoch m n) ep (Some (first_epoch m n)) refl h) (refl, omega arith, omega arith)
+    at (suc zero) ep h = subst (λ (z : Epoch). (z.first ≡ n) × (z.first ≤ z.end) × (z.end ≤ n)) (some_same (closing j n) ep (Some (closing j n)) refl h) (refl, omega arith, omega arith)
+    at (suc (suc k)) ep h = absurd (cc)
+
+two_passing : (m : Mode) (n j : ℕ) (es : List Epoch) → m ≡ Pass → es ≡ first_epoch m n ∷ closing j n ∷ [] → ArePassing es
+two_passing m n j es pass is = subst ArePassing (sym is) record { at = at }
+  where
+    at : (k : ℕ) (ep : Epoch) → slice_get (first_epoch m n ∷ closing j n ∷ []) k ≡ Some ep → (ep.mode ≡ Pass) × (ep.renewed ≡ false)
+    at zero ep h = subst (λ (z : Epoch). (z.mode ≡ Pass) × (z.renewed ≡ false)) (some_same (first_epoch m n) ep (Some (first_epoch m n)) refl h) (pass, refl)
+    at (suc zero) ep h = subst (λ (z : Epoch). (z.mode ≡ Pass) × (z.renewed ≡ false)) (some_same (closing j n) ep (Some (closing j n)) refl h) (refl, refl)
     at (suc (suc k)) ep h = absurd (cc)
 
 no_switches : (ss : List Switch) → length ss ≡ 0 → ss ≡ []
@@ -74,8 +86,14 @@ no_switches [] h = refl
 no_switches (s ∷ ss) h = absurd (omega arith)
 
 -- a machine without switches has one epoch and the closing one
+two_epochs : (plan : Plan) (n : ℕ) → length plan.switches ≡ 0 → epochs plan n ≡ first_epoch plan.start n ∷ closing (length plan.switches + 1) n ∷ []
+two_epochs plan n none = ap (λ (ss : List Switch). epochs_from 0 ss plan.start false 0 n ++ closing (length plan.switches + 1) n ∷ []) (no_switches plan.switches none)
+
 pub chained : (plan : Plan) (n : ℕ) → length plan.switches ≡ 0 → AreChained n (epochs plan n)
-chained plan n none = two_chained plan.start n (epochs plan n) (ap (λ (ss : List Switch). epochs_from ss plan.start false 0 n ++ closing n ∷ []) (no_switches plan.switches none))
+chained plan n none = two_chained plan.start n (length plan.switches + 1) (epochs plan n) (two_epochs plan n none)
+
+pub passing : (plan : Plan) (n : ℕ) → length plan.switches ≡ 0 → plan.start ≡ Pass → ArePassing (epochs plan n)
+passing plan n none pass = two_passing plan.start n (length plan.switches + 1) (epochs plan n) pass (two_epochs plan n none)
 
 pub chains_count : (rs : List Run) → length (run_chains rs) ≡ run_count rs
 chains_count [] = refl

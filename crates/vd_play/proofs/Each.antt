@@ -82,6 +82,10 @@ stage_device P Q i ls bs xs l g x hg e new = subst (λ zs. EachLane (Stage (i + 
 pub stage_guest : {A B C : Type 0} (P Q : ℕ → A → B → C → Type 0) (i : ℕ) (ls : List A) (bs : List B) (xs : List C) (l : A) (g : B) (x : C) → slice_get xs i ≡ Some x → EachLane (Stage i P Q) ls bs xs → P i l g x → EachLane (Stage (i + 1) P Q) (set ls i l) (set bs i g) xs
 stage_guest P Q i ls bs xs l g x hx e new = subst (λ zs. EachLane (Stage (i + 1) P Q) (set ls i l) (set bs i g) zs) (set_same xs i x hx) (stage_write P Q i ls bs xs l g x e new)
 
+-- the guest of lane i alone is written
+pub stage_halted : {A B C : Type 0} (P Q : ℕ → A → B → C → Type 0) (i : ℕ) (ls : List A) (bs : List B) (xs : List C) (l : A) (g : B) (x : C) → slice_get ls i ≡ Some l → slice_get xs i ≡ Some x → EachLane (Stage i P Q) ls bs xs → P i l g x → EachLane (Stage (i + 1) P Q) ls (set bs i g) xs
+stage_halted P Q i ls bs xs l g x hl hx e new = subst (λ zs. EachLane (Stage (i + 1) P Q) zs (set bs i g) xs) (set_same ls i l hl) (stage_guest P Q i ls bs xs l g x hx e new)
+
 -- what follows from either stage holds of each, also after one lane and its device are written
 pub all_but_one : {A B C : Type 0} (P Q R : ℕ → A → B → C → Type 0) (i : ℕ) (ls : List A) (bs : List B) (xs : List C) (l : A) (g : B) (x : C) → slice_get bs i ≡ Some g → EachLane (Stage i P Q) ls bs xs
     → ((q : ℕ) (a : A) (b : B) (c : C) → P q a b c → R q a b c) → ((q : ℕ) (a : A) (b : B) (c : C) → Q q a b c → R q a b c) → R i l g x → EachLane R (set ls i l) bs (set xs i x)

@@ -1,10 +1,9 @@
 -- A chain whose pieces lie in the machine's regions lies in the map of the mode pass.
-use Rattle.std.proofs.Common.{◌≡◌, ◌<◌, ◌&&◌, ℕ, Bool, true, false, List, [], ◌∷◌, length, map, nat_le, slice_index_or, refl, ◌∙◌, ap, inl, inr}
-use Rattle.std.specs.List.{All, list_all, list_any}
-use Rattle.std.specs.Option.{is_some, option_map}
+use Rattle.std.proofs.Common.{◌≡◌, ◌&&◌, Bool, true, List, [], ◌∷◌, map, slice_index_or, refl, ◌∙◌, ap, inl, inr}
+use Rattle.std.specs.List.{All, list_all}
+use Rattle.std.specs.Option.{is_some}
 use Rattle.std.proofs.lemmas.Bool.{false≢true, cases_Bool}
 use Rattle.vd_model.specs.declared.chain.Piece.{Piece}
-use Rattle.vd_model.specs.declared.map.Mapping.{Mapping}
 use Rattle.vd_model.specs.Maps as maps
 use Rattle.vd_text.specs.Grammar.{has_bytes}
 use Rattle.vd_text.proofs.Order.{all_at}

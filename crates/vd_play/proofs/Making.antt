@@ -3,6 +3,7 @@ use Rattle.std.proofs.Common.{◌≡◌, ℕ, ◌+◌, ◌*◌, ◌<◌, ◌≤�
 use Rattle.std.specs.List.{All}
 use Rattle.std.proofs.lemmas.List.Elements.{All-nil, All-head, All-tail, All-append, All-replicate}
 use Rattle.vd_model.specs.Chains.{IsChain}
+use Rattle.vd_model.specs.declared.base.Mode.TheVariants.{Pass}
 use Rattle.vd_model.specs.declared.record.Begun.{Begun}
 use Rattle.vd_model.specs.declared.record.Run.{Run}
 use Rattle.vd_model.specs.declared.record.Script.{Script}
@@ -12,21 +13,22 @@ use Rattle.vd_ring.specs.declared.driver.DriverView.{DriverView}
 use Rattle.vd_ring.specs.declared.device.DeviceView.{DeviceView}
 use Rattle.vd_ring.specs.Fresh.{fresh_driver, fresh_device}
 use Rattle.vd_ring.specs.Frames.{Fits}
-use Rattle.vd_layout.specs.Driver.{DriverModel}
-use Rattle.vd_layout.specs.Device.{DeviceModel}
-use Rattle.vd_layout.specs.Layout.{LayoutModel, IsLawfulLayout, IsMadeWith, CanMake, IsFresh}
-use Rattle.vd_bus.specs.Device.{DeviceParty, IsUnchanged, IsBegun, chains_of, lens_of}
-use Rattle.vd_bus.specs.Guest.{GuestParty, IsBoot, CanBoot}
+use Rattle.vd_layout.specs.Layout.{LayoutModel, IsMadeWith, CanMake, IsFresh}
+use Rattle.vd_bus.specs.Device.{IsUnchanged, IsBegun, lens_of}
+use Rattle.vd_bus.specs.Guest.{IsBoot, CanBoot}
 use Rattle.vd_bus.specs.Scripts.{run_chains}
 use Rattle.vd_machine.specs.File.{Plan}
 use Rattle.vd_machine.specs.Queues.{script, most_pieces, are_scripts, all_lie, few}
 use Rattle.vd_machine.specs.Rings.{is_lawful_size}
 use Rattle.vd_play.proofs.InMap.{chain_in_map}
-use Rattle.vd_machine.proofs.Facts.{one_queue, queue_is_short, queue_has_no_commands, run_at, needs_within}
+use Rattle.vd_machine.proofs.Facts.{size_bounds, one_queue, queue_is_short, queue_has_no_commands, run_at, needs_within}
 use Rattle.vd_play.specs.Journal.{queue_script, queue_chains, guest_frame}
-use Rattle.vd_play.specs.Lane.{IsQueue, IsStopped, HasGiven}
-use Rattle.vd_play.specs.Prepared.{IsEmptyDevice}
-use Rattle.vd_play.proofs.Bounds.{chained, chains_count, many_epochs}
+use Rattle.vd_play.specs.Lane.{IsQueue, Account, HasGiven}
+use Rattle.vd_play.specs.Prepared.{IsEmptyGuest, IsEmptyDevice}
+use Rattle.vd_play.specs.Progress.{IsStopped}
+use Rattle.vd_play.specs.Setting.{Setting, IsLawful}
+use Rattle.vd_bus.specs.Pace.{attaches}
+use Rattle.vd_play.proofs.Bounds.{chained, passing, chains_count, many_epochs}
 
 -- the rules that a machine keeps, as far as a queue needs them
 pub record Keeps (plan : Plan) : Type 0 where
@@ -35,6 +37,7 @@ pub record Keeps (plan : Plan) : Type 0 where
   pub inside : all_lie plan.regions plan.queues ≡ true
   pub counted : few plan.queues ≡ true
   pub unswitched : length plan.switches ≡ 0
+  pub passing : plan.start ≡ Pass
 
 no_items : {A : Type 0} (xs : List A) → length xs ≡ 0 → xs ≡ []
 no_items [] h = refl
@@ -50,8 +53,11 @@ queue_is l plan q k below are =
     let d : Script = script [] in record {
       low = omega (arith, one_queue plan.queues k.counted, below);
       plain = no_items (queue_script plan q).commands (queue_has_no_commands (most_pieces plan.features plan.size) plan.queues d q k.fitted below);
+      sized = (size_bounds plan.packed plan.size k.sized).0;
+      epochs = omega (arith, many_epochs plan (length (queue_chains plan q)), k.unswitched);
       few = omega (arith, chains_count (queue_script plan q).runs, queue_is_short plan.queues d q k.counted below);
       chained = chained plan (length (queue_chains plan q)) k.unswitched;
+      passing = passing plan (length (queue_chains plan q)) k.unswitched k.passing;
       fits = runs_fit f (queue_script plan q).runs (λ j e within.
           let r = run_at (most_pieces plan.features plan.size) plan.regions plan.queues d e q j k.fitted k.inside below within in record {
             chain = are j e within;
@@ -61,37 +67,48 @@ queue_is l plan q k below are =
           });
     }
 
-module _ {D E G X C : Type 0} (d : DriverModel D) (e : DeviceModel E) (l : LayoutModel) (g : GuestParty G) (m : DeviceParty X C) (lay : IsLawfulLayout d e l) (plan : Plan) (q : ℕ) where
-  pub made : (words : RingWords) (driver : D) (end : E) (guest guest' : G) (device device' : X) → IsQueue l plan q → CanMake l plan.size plan.features → words.ring ≡ q → words.words ≡ replicate (l.width (guest_frame l plan q)) 0 → IsFresh d e l plan.size plan.features false driver end
-      → g.script guest ≡ Some (queue_script plan q) → IsBoot d g driver guest guest' → IsEmptyDevice m device → IsUnchanged m device device' → 2 * (length plan.switches + 2) ≤ m.event_room device' → length (queue_chains plan q) ≤ m.chain_room device'
-      → IsStopped e l g m plan q 0 words end guest' device'
-  made words driver end guest guest' device device' queue can number is fresh script boot empty same events room =
-      let f : Frame = guest_frame l plan q in
-      let v : DriverView = fresh_driver f (l.width f) in
-      let w : DeviceView = fresh_device f (l.width f) in
-      let with : IsMadeWith l plan.size plan.features false f = record { packed = refl; size = refl; features = refl; control = refl } in
-      let none : m.begun device' ≡ [] = same.begun ∙ empty.begun in
+module _ {D E G X C : Type 0} (s : Setting D E G X C) (law : IsLawful s) (plan : Plan) (q : ℕ) where
+  pub made : (words : RingWords) (driver : D) (end : E) (guest guest1 guest2 : G) (device device' : X) → IsQueue s.layout plan q → CanMake s.layout plan.size plan.features → words.ring ≡ q → words.words ≡ replicate (s.layout.width (guest_frame s.layout plan q)) 0
+      → IsFresh s.driver s.device s.layout plan.size plan.features false driver end → IsEmptyGuest s.guest guest → s.guest.script guest1 ≡ Some (queue_script plan q) → (s.guest.accesses guest1 ≡ s.guest.accesses guest) × (s.guest.heard guest1 ≡ s.guest.heard guest) → IsBoot s.driver s.guest driver guest1 guest2
+      → IsEmptyDevice s.party device → IsUnchanged s.party device device' → s.party.window device' ≡ plan.window → 2 * (length plan.switches + 2) ≤ s.party.event_room device' → length (queue_chains plan q) ≤ s.party.chain_room device' → IsStopped s plan q 0 0 words end guest2 device'
+  made words driver end guest guest1 guest2 device device' queue can number is fresh idle script counts boot empty same window events room =
+      let f : Frame = guest_frame s.layout plan q in
+      let v : DriverView = fresh_driver f (s.layout.width f) in
+      let w : DeviceView = fresh_device f (s.layout.width f) in
+      let with : IsMadeWith s.layout plan.size plan.features false f = record { packed = refl; size = refl; features = refl; control = refl } in
+      let none : s.party.begun device' ≡ [] = same.begun ∙ empty.begun in
       let boots : CanBoot (queue_script plan q) v = record { fresh = refl; unarmed = refl; fits = queue.fits; other = λ h. refl; control = λ h. absurd (h queue.plain) } in
+      let account : Account [] w = record { chains = refl; each = All-nil IsBegun; given = All-nil (HasGiven (lens_of [])) } in
+      let times : attaches (s.party.events device') ≡ 0 = ap attaches (same.events ∙ empty.events) in
       record {
         view = v;
         device_view = w;
         kept = record {
-          queue = queue;
-          numbered = number;
-          ring = subst (λ ws. l.ring ws v w) (sym is) (lay.opens plan.size plan.features false f can with);
-          framed = refl;
-          drives = boot.holds v (queue_script plan q) script (fresh.drives f with) boots;
-          script = boot.script ∙ script;
-          chains = ap chains_of none;
-          each = subst (λ (bs : List Begun). All IsBegun bs) (sym none) (All-nil IsBegun);
-          given = All-nil (HasGiven (lens_of (m.begun device')));
-          even = refl;
+          driven = record {
+            queue = queue;
+            numbered = number;
+            ring = subst (λ ws. s.layout.ring ws v w) (sym is) (law.layout.opens plan.size plan.features false f can with);
+            part = record { script = boot.script ∙ script; holds = boot.holds v (queue_script plan q) script (fresh.drives f with) boots; framed = refl };
+          };
+          account = subst (λ (bs : List Begun). Account bs w) (sym none) account;
+          window = window;
           room = omega (arith, room);
         };
-        stands = fresh.serves f with;
-        still = inr fresh.unused;
-        free = same.attached ∙ empty.free;
-        taken = refl;
-        events = same.events ∙ empty.events;
-        room = omega (arith, events, many_epochs plan (length (queue_chains plan q)));
+        rests = record {
+          stands = fresh.serves f with;
+          still = inr fresh.unused;
+          free = same.attached ∙ empty.free;
+          taken = refl;
+          events = same.events ∙ empty.events;
+          room = omega (arith, events, many_epochs plan (length (queue_chains plan q)));
+        };
+        paced = record {
+          guest_heard = omega (arith, boot.counts.1, counts.1, idle.idle.1);
+          guest_low = omega (arith, boot.counts.0, counts.0, idle.idle.0);
+          device_heard = omega (arith, same.counts.1, empty.idle.1);
+          device_low = omega (arith, same.counts.0, empty.idle.0);
+          times = omega (arith, times);
+        };
+        early = omega arith;
+        late = λ every. inr (omega arith);
       }

@@ -3,7 +3,8 @@ use Rattle.std.specs.Prelude.{◌≡◌, ℕ, ◌<◌, ◌≤◌, Some, List, le
 use Rattle.vd_play.specs.declared.bench.Bench.{Bench}
 
 pub record EachLane {A B C : Type 0} (P : ℕ → A → B → C → Type 0) (lanes : List A) (guests : List B) (devices : List C) : Type 0 where
-  pub at : (q : ℕ) (l : A) (g : B) (x : C) → slice_get lanes q ≡ Some l → slice_get guests q ≡ Some g → slice_get devices q ≡ Some x → P q l g x
+  pub at : (q : ℕ) (l : A) (g : B) (x : C) → slice_get lanes q ≡ Some l → slice_get guests q ≡ Some g → slice_get devices q ≡ Some x
+      → P q l g x
 
 -- below i the one, from there on the other
 pub record Stage {A B C : Type 0} (i : ℕ) (P Q : ℕ → A → B → C → Type 0) (q : ℕ) (l : A) (g : B) (x : C) : Type 0 where

@@ -1,8 +1,12 @@
 -- What a machine orders of each queue's device, and what comes back to its guest.
-use Rattle.std.specs.Prelude.{◌≡◌, ℕ, Bool, true, false, List, [], ◌∷◌, length, map, take, flat_map, slice_get, slice_index_or, Some, if◌then◌else◌, nat_lt}
+use Rattle.std.specs.Prelude.{◌≡◌, ℕ, Bool, true, false, List, [], ◌∷◌, length, map, take, flat_map, slice_get, slice_index_or, Some, if◌then◌else◌, nat_lt, ◌+◌, ◌-◌, ◌*◌, ◌++◌, drop, None}
 use Rattle.std.specs.List.{All}
 use Rattle.vd_model.specs.declared.base.Base.{Base}
-use Rattle.vd_model.specs.declared.base.Mode.TheVariants.{Pass}
+use Rattle.vd_model.specs.declared.base.Mode.{Mode}
+use Rattle.vd_model.specs.declared.base.Mode.TheVariants.{Pass, Shadow}
+use Rattle.std.specs.Option.{unwrap_or}
+use Rattle.vd_iova.specs.Holes.{laid}
+use Rattle.vd_model.specs.Moved.{moved}
 use Rattle.vd_model.specs.declared.chain.Piece.{Piece}
 use Rattle.vd_model.specs.declared.map.Mapping.{Mapping}
 use Rattle.vd_model.specs.declared.record.Return.{Return}
@@ -14,7 +18,7 @@ use Rattle.vd_layout.specs.Both.{plain_frame}
 use Rattle.vd_layout.specs.Device.{DeviceModel}
 use Rattle.vd_layout.specs.Layout.{LayoutModel}
 use Rattle.vd_bus.specs.declared.event.Event.{Event}
-use Rattle.vd_bus.specs.declared.event.Event.TheVariants.{Attach, Suspend}
+use Rattle.vd_bus.specs.declared.event.Event.TheVariants.{Attach, Suspend, Reset}
 use Rattle.vd_bus.specs.Scripts.{chains}
 use Rattle.vd_machine.specs.File.{Plan}
 use Rattle.vd_machine.specs.Queues.{script}
@@ -51,17 +55,58 @@ attach_event e l plan q k = Attach k q (base_at e l plan q k) Pass default (pass
 abbrev pub suspend_event : {E : Type 0} → DeviceModel E → LayoutModel → Plan → ℕ → ℕ → Event
 suspend_event e l plan q k = Suspend k (base_at e l plan q k)
 
--- the device is attached, and suspended once the epoch's chains are begun. No machine has an epoch of the mode shadow yet, nor a
--- renewal
-abbrev pub epoch_events : {E : Type 0} → DeviceModel E → LayoutModel → Plan → ℕ → Epoch → List Event
-epoch_events e l plan q ep = attach_event e l plan q ep.first ∷ suspend_event e l plan q ep.end ∷ []
-
 abbrev pub queue_epochs : Plan → ℕ → List Epoch
 queue_epochs plan q = epochs plan (length (queue_chains plan q))
 
--- the events of a queue's device, epoch by epoch
+-- ---- epoch by epoch
+
+-- the one in the mode pass, the other in the mode shadow
+abbrev pub by_mode : {A : Type 0} → Mode → A → A → A
+by_mode Pass a b = a
+by_mode Shadow a b = b
+
+-- the ring that the device serves: the guest's own, or the epoch's shadow ring
+abbrev pub ring_of : ℕ → Epoch → ℕ
+ring_of q ep = by_mode ep.mode q (16 * (ep.number + 1) + q)
+
+-- in the mode shadow a device finds each region at the lowest iovas that those before it leave
+abbrev pub shadow_map : Plan → List Mapping
+shadow_map plan =
+    unwrap_or (laid (map (λ (r : Region). (r.addr, r.size)) plan.regions) (record { first = plan.first; last = plan.last; mappings = [] })) []
+
+-- a shadow ring has no bounds
+abbrev pub shadow_frame : LayoutModel → Plan → ℕ → Frame
+shadow_frame l plan ring = plain_frame l ring plan.size plan.features false None
+
+-- the script's chains that are begun in the epoch, and where the device finds them
+abbrev pub own_chains : Plan → ℕ → Epoch → List (List Piece)
+own_chains plan q ep = take (ep.end - ep.first) (drop ep.first (queue_chains plan q))
+
+abbrev pub epoch_chains : Plan → ℕ → Epoch → List (List Piece)
+epoch_chains plan q ep = by_mode ep.mode (own_chains plan q ep) (map (moved (shadow_map plan)) (own_chains plan q ep))
+
+-- how the device is attached and suspended: in a shadow epoch to a fresh ring, which has the epoch's chains at the end
+abbrev pub epoch_attach : {E : Type 0} → DeviceModel E → LayoutModel → Plan → ℕ → Epoch → Event
+epoch_attach e l plan q ep =
+    by_mode ep.mode (attach_event e l plan q ep.first)
+    (Attach ep.first (ring_of q ep) (record { 0 = l.fresh_base }) Shadow default (shadow_map plan))
+
+abbrev pub epoch_suspend : {E : Type 0} → DeviceModel E → LayoutModel → Plan → ℕ → Epoch → Event
+epoch_suspend e l plan q ep =
+    by_mode ep.mode (suspend_event e l plan q ep.end)
+    (Suspend ep.end (record { 0 = e.base_of (shadow_frame l plan (ring_of q ep)) (epoch_chains plan q ep) }))
+
+-- the device is reset where the epoch begins with a renewal; it is attached, and suspended once the epoch's chains are begun
+abbrev pub epoch_events : {E : Type 0} → DeviceModel E → LayoutModel → Plan → ℕ → Epoch → List Event
+epoch_events e l plan q ep =
+    (if ep.renewed then Reset ep.first ∷ [] else []) ++ epoch_attach e l plan q ep ∷ epoch_suspend e l plan q ep ∷ []
+
+-- the events of a queue's device, and the chains that it begins
 abbrev pub journal_events : {E : Type 0} → DeviceModel E → LayoutModel → Plan → ℕ → List Event
 journal_events e l plan q = flat_map (epoch_events e l plan q) (queue_epochs plan q)
+
+abbrev pub journal_chains : Plan → ℕ → List (List Piece)
+journal_chains plan q = flat_map (epoch_chains plan q) (queue_epochs plan q)
 
 -- ---- what comes back
 

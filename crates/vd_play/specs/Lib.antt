@@ -1,8 +1,12 @@
 pub mod Epochs
 pub mod Journal
-pub mod Played
+pub mod Setting
+pub mod Draws
 pub mod Turns
 pub mod Lane
 pub mod Each
+pub mod Progress
+pub mod Played
 pub mod Orders
 pub mod Prepared
+pub mod Rounds

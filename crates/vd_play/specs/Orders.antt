@@ -10,7 +10,15 @@ use Rattle.vd_play.specs.Journal.{pass_map}
 
 -- the guest's ring is served from where its end rests, and `count` chains are begun
 abbrev pub pass_order : {E : Type 0} → DeviceModel E → Plan → ℕ → ℕ → E → Terms
-pass_order e plan q count end = record { queue = q; ring = q; base = record { 0 = e.base end }; count = count; size = plan.size; features = plan.features; map = pass_map plan }
+pass_order e plan q count end = record {
+  queue = q;
+  ring = q;
+  base = record { 0 = e.base end };
+  count = count;
+  size = plan.size;
+  features = plan.features;
+  map = pass_map plan;
+}
 
 -- where epoch k of a queue of n chains ends
 abbrev pub stop_of : List Switch → ℕ → ℕ → ℕ

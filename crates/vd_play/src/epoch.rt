@@ -1,12 +1,12 @@
 //! An epoch's begin: each lane's device is attached to its ring.
-ghost use Rattle.std.specs.Prelude.{◌≡◌, ◌<◌, ◌+◌, None, Some, IfErr, IfOk, OnOk, length};
+ghost use Rattle.std.specs.Prelude.{◌≡◌, ◌<◌, ◌+◌, true, None, Some, IfErr, IfOk, OnOk, length};
 ghost use Rattle.vd_bus.specs.Device.{IsAttach, IsRefused};
 ghost use Rattle.vd_machine.specs.File.{view};
 ghost use Rattle.vd_play.specs.Each.{EachLane, HasLanes};
-ghost use Rattle.vd_play.specs.Journal.{queue_epochs};
-ghost use Rattle.vd_play.specs.Lane.{Stopped, InEpoch};
 ghost use Rattle.vd_play.specs.Orders.{pass_order, CanAttach};
 ghost use Rattle.vd_play.specs.Played.{IsCut, KeepsBench, HasNoFault, IsFaultOf, faulty};
+ghost use Rattle.vd_play.specs.Progress.{AllStopped, AllInEpoch, all_steps};
+ghost use Rattle.vd_play.specs.Setting.{setting_of};
 
 use crate::bench::Bench;
 use crate::floor::{Floor, Lane};
@@ -32,10 +32,13 @@ fn attach<'a, L: Layout, V: Device<L>>(
 ) -> Result<(), PlayFault>
     requires can { CanAttach L.Device.device V.party queue count lane.old.still device.old }
     ensures words { lane.new.words ≡ lane.old.words }
-    ensures ok { IfOk result (λ _. (lane.new.still ≡ None) × ((end : _) → lane.old.still ≡ Some end → IsAttach L.Device.device V.party (pass_order L.Device.device (view m.now) queue count end) None end device.old device.new)) }
+    ensures ok { IfOk result (λ _. (lane.new.still ≡ None) × ((end : _) → lane.old.still ≡ Some end
+        → IsAttach L.Device.device V.party (pass_order L.Device.device (view m.now) queue count end) None
+        end device.old device.new)) }
     ensures carried { V.party.carried device.new ≡ V.party.carried device.old }
     ensures faults { OnOk result (V.party.faults device.new ≡ V.party.faults device.old) }
-    ensures err { IfErr result (λ f. (f ≡ PlayFault.Device queue) × (lane.new.still ≡ lane.old.still) × IsRefused V.party device.old device.new) }
+    ensures err { IfErr result (λ f. (f ≡ PlayFault.Device queue) × (lane.new.still ≡ lane.old.still)
+        × IsRefused V.party device.old device.new) }
 {
     let Some(end) = lane.still.take() else {
         unreachable!()
@@ -63,12 +66,18 @@ pub(crate) fn attach_all<L: Layout, G: Guest<L>, V: Device<L>>(
     requires many { length floor.old.lanes.items ≡ length m.now.queues }
     requires parties { HasLanes (length m.now.queues) bench.old }
     requires epoch { epoch < length m.now.switches + 2 }
-    requires lanes { EachLane (λ q a b x. Stopped L.Device.device L.layout G.party V.party (view m.now) q epoch a b x) floor.old.lanes.items bench.old.guests.items bench.old.devices.items }
+    requires lanes { AllStopped (setting_of L.Driver.driver L.Device.device L.layout G.party V.party) (view m.now) epoch
+        floor.old.lanes.items bench.old }
     ensures many { length floor.new.lanes.items ≡ length floor.old.lanes.items }
     ensures keeps { KeepsBench V.party (length m.now.queues) bench.old bench.new }
-    ensures lanes { IfOk result (λ _. EachLane (λ q a b x. InEpoch L.Device.device L.layout G.party V.party (view m.now) q epoch 0 a b x) floor.new.lanes.items bench.new.guests.items bench.new.devices.items) }
+    ensures lanes { IfOk result (λ _. AllInEpoch (setting_of L.Driver.driver L.Device.device L.layout G.party V.party) (view m.now)
+        true epoch 0 floor.new.lanes.items bench.new) }
+    ensures counted { IfOk result (λ _. all_steps (setting_of L.Driver.driver L.Device.device L.layout G.party V.party) bench.new
+        ≡ all_steps (setting_of L.Driver.driver L.Device.device L.layout G.party V.party) bench.old) }
     ensures faults { IfOk result (λ _. HasNoFault V.party bench.old bench.new) }
-    ensures cut { IfErr result (λ f. EachLane (λ q a b x. IsCut L.Device.device L.layout G.party V.party (view m.now) q b x) floor.new.lanes.items bench.new.guests.items bench.new.devices.items) }
+    ensures cut { IfErr result (λ f. EachLane
+        (λ q a b x. IsCut (setting_of L.Driver.driver L.Device.device L.layout G.party V.party) (view m.now) q b x)
+        floor.new.lanes.items bench.new.guests.items bench.new.devices.items) }
     ensures fault { IfErr result (λ f. IsFaultOf V.party (length m.now.queues) (faulty f) bench.old bench.new) }
 {
     for i in 0..floor.lanes.len() {

@@ -2,12 +2,15 @@
 #![tactic(auto)]
 
 mod bench;
+mod draws;
 mod epoch;
 mod floor;
 mod lane;
 mod order;
 mod playing;
 mod preparing;
+mod rounds;
+mod turn;
 
 pub use bench::Bench;
 pub use epoch::PlayFault;

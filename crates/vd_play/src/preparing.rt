@@ -1,13 +1,14 @@
 //! Makes what a play needs, so that the play takes no memory.
-ghost use Rattle.std.specs.Prelude.{◌≡◌, ◌<◌, None, [], IfOk, length};
+ghost use Rattle.std.specs.Prelude.{◌<◌, IfOk, length};
 ghost use Rattle.std.specs.List.{All};
 ghost use Rattle.vd_model.specs.Chains.{IsChain};
 ghost use Rattle.vd_bus.specs.Device.{IsUnchanged};
 ghost use Rattle.vd_machine.specs.File.{view};
 ghost use Rattle.vd_play.specs.Each.{HasLanes};
-ghost use Rattle.vd_play.specs.Lane.{Stopped};
 ghost use Rattle.vd_play.specs.Played.{KeepsBench};
-ghost use Rattle.vd_play.specs.Prepared.{IsOfLayout, IsEmptyDevice, IsEmptyBench, IsUntouched, IsPrepared};
+ghost use Rattle.vd_play.specs.Prepared.{IsOfLayout, IsEmptyGuest, IsEmptyDevice, IsEmptyBench, IsUnused, IsUntouched, IsPrepared};
+ghost use Rattle.vd_play.specs.Progress.{Stopped};
+ghost use Rattle.vd_play.specs.Setting.{setting_of};
 
 use crate::bench::Bench;
 use crate::floor::{Floor, Lane};
@@ -38,10 +39,11 @@ fn make_lane<L: Layout, G: Guest<L>, V: Device<L>>(
 ) -> Result<Lane<L::Device>, AllocError>
     requires layout { IsOfLayout L.layout (view m.now) }
     requires queue { queue < length m.now.queues }
-    requires guest { G.party.script guest.old ≡ None }
+    requires guest { IsEmptyGuest G.party guest.old }
     requires device { IsEmptyDevice V.party device.old }
-    ensures ok { IfOk result (λ lane. Stopped L.Device.device L.layout G.party V.party (view m.now) queue 0 lane guest.new device.new) }
-    ensures guest { (G.party.offered guest.new ≡ 0) × (G.party.returned guest.new ≡ []) }
+    ensures ok { IfOk result (λ lane. Stopped (setting_of L.Driver.driver L.Device.device L.layout G.party V.party) (view m.now)
+        queue 0 lane guest.new device.new) }
+    ensures guest { IsUnused G.party guest.new }
     ensures device { IsUnchanged V.party device.old device.new }
 {
     let script = &m.queues.as_slice()[queue];
@@ -69,7 +71,8 @@ pub fn prepare<L: Layout, G: Guest<L>, V: Device<L>>(
     requires layout { IsOfLayout L.layout (view m.now) }
     requires parties { HasLanes (length m.now.queues) bench.old }
     requires empty { IsEmptyBench G.party V.party bench.old }
-    ensures ok { IfOk result (λ floor. IsPrepared L.Device.device L.layout G.party V.party (view m.now) floor.lanes.items bench.new) }
+    ensures ok { IfOk result (λ floor. IsPrepared (setting_of L.Driver.driver L.Device.device L.layout G.party V.party) (view m.now)
+        floor.lanes.items bench.new) }
     ensures keeps { KeepsBench V.party (length m.now.queues) bench.old bench.new }
     ensures untouched { IsUntouched G.party V.party bench.old bench.new }
 {

@@ -13,20 +13,20 @@ pub chain_at : (q : ℕ) (begun : List Begun) (k : ℕ) (d : Begun) → k < leng
 chain_at q begun k d h = ap (λ bs. chain_lines q k (lens_of bs)) (drop_more begun k d h)
 
 -- a line doesn't tell a renewal
-same_lines : (q e : ℕ) (ss : List Switch) (m : Mode) (r : Bool) (first n : ℕ) → epoch_lines q e (epochs_from ss m r first n) ≡ epoch_lines q e (epochs_from ss m false first n)
-same_lines q e [] m r first n = refl
-same_lines q e (s ∷ ss) m r first n = refl
+same_lines : (q e j : ℕ) (ss : List Switch) (m : Mode) (r : Bool) (first n : ℕ) → epoch_lines q e (epochs_from j ss m r first n) ≡ epoch_lines q e (epochs_from j ss m false first n)
+same_lines q e j [] m r first n = refl
+same_lines q e j (s ∷ ss) m r first n = refl
 
 abbrev pub switch_at : List Switch → ℕ → Switch
 switch_at ss e = get_or ss e (record { after = 0; to = Pass })
 
 pub epoch_at : (q e : ℕ) (ss : List Switch) (m : Mode) (first n : ℕ) → e < length ss
-    → epoch_lines q e (epochs_from (drop e ss) m false first n) ≡ epoch_line q e m first (min (switch_at ss e).after n) ++ epoch_lines q (e + 1) (epochs_from (drop (e + 1) ss) (mode_after m (switch_at ss e).to) false (min (switch_at ss e).after n) n)
+    → epoch_lines q e (epochs_from e (drop e ss) m false first n) ≡ epoch_line q e m first (min (switch_at ss e).after n) ++ epoch_lines q (e + 1) (epochs_from (e + 1) (drop (e + 1) ss) (mode_after m (switch_at ss e).to) false (min (switch_at ss e).after n) n)
 epoch_at q e ss m first n h =
     let s = switch_at ss e in
-    ap (λ xs. epoch_lines q e (epochs_from xs m false first n)) (drop_more ss e (record { after = 0; to = Pass }) h)
-    ∙ ap (λ ls. epoch_line q e m first (min s.after n) ++ ls) (same_lines q (e + 1) (drop (e + 1) ss) (mode_after m s.to) (is_renewal s.to) (min s.after n) n)
+    ap (λ xs. epoch_lines q e (epochs_from e xs m false first n)) (drop_more ss e (record { after = 0; to = Pass }) h)
+    ∙ ap (λ ls. epoch_line q e m first (min s.after n) ++ ls) (same_lines q (e + 1) (e + 1) (drop (e + 1) ss) (mode_after m s.to) (is_renewal s.to) (min s.after n) n)
 
 -- after the last switch one epoch is left
-pub last_epoch : (q e : ℕ) (ss : List Switch) (m : Mode) (first n : ℕ) → length ss ≤ e → epoch_lines q e (epochs_from (drop e ss) m false first n) ≡ epoch_line q e m first n
-last_epoch q e ss m first n h = ap (λ xs. epoch_lines q e (epochs_from xs m false first n)) (drop_all e ss h) ∙ append-nil (epoch_line q e m first n)
+pub last_epoch : (q e : ℕ) (ss : List Switch) (m : Mode) (first n : ℕ) → length ss ≤ e → epoch_lines q e (epochs_from e (drop e ss) m false first n) ≡ epoch_line q e m first n
+last_epoch q e ss m first n h = ap (λ xs. epoch_lines q e (epochs_from e xs m false first n)) (drop_all e ss h) ∙ append-nil (epoch_line q e m first n)

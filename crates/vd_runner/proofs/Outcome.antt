@@ -5,13 +5,10 @@ use Rattle.std.proofs.lemmas.Option.{slice_get-get_or, slice_get_cases}
 use Rattle.std.specs.Io.KnownBytes.{Consumes, IsAtEnd}
 use Rattle.std.specs.Option.{option_map_or}
 use Rattle.vd_stream.specs.Causes.{Rose}
-use Rattle.vd_layout.specs.Device.{DeviceModel}
-use Rattle.vd_layout.specs.Layout.{LayoutModel}
-use Rattle.vd_bus.specs.Device.{DeviceParty}
-use Rattle.vd_bus.specs.Guest.{GuestParty}
 use Rattle.vd_machine.specs.File.{Plan, first}
 use Rattle.vd_machine.specs.declared.machine.MachineFault.{MachineFault}
 use Rattle.vd_play.specs.declared.bench.Bench.{Bench}
+use Rattle.vd_play.specs.Setting.{Setting}
 use Rattle.vd_runner.specs.declared.status.Status.{Status}
 use Rattle.vd_runner.specs.declared.status.Status.TheVariants as status
 use Rattle.vd_runner.specs.Answers.{expected, verdict, need, IsOrMemory}
@@ -73,11 +70,11 @@ too_few q n k (inl h) = ap (λ (b : Bool). if b && nat_le q k then status.Ok els
 too_few q n k (inr h) = ap (λ (b : Bool). if nat_le q n && b then status.Ok else status.TooFewParties q n k) (lt-leb q k h) ∙ ap (λ (b : Bool). if b then status.Ok else status.TooFewParties q n k) (no_other (nat_le q n))
 
 -- a cut shows whose count rose
-cut_rose : {E G X C : Type 0} (e : DeviceModel E) (l : LayoutModel) (g : GuestParty G) (m : DeviceParty X C) (plan : Plan) (q : ℕ) (old new : Bench G X) → IsCutOff e l g m plan q old new → SomeRose m old new
-cut_rose e l g m plan q old new h = elim (slice_get_cases old.devices.items q).1 [
+cut_rose : {D E G X C : Type 0} (z : Setting D E G X C) (plan : Plan) (q : ℕ) (old new : Bench G X) → IsCutOff z plan q old new → SomeRose z.party old new
+cut_rose z plan q old new h = elim (slice_get_cases old.devices.items q).1 [
   | inl (x, below, at, is) ↦
-      let there = slice_get-get_or new.devices.items q x (omega (arith, below, same_devices m (length plan.queues) old new h.keeps)) in
-      record { queue = q; before = x; after = get_or new.devices.items q x; was = at; is = there; rose = h.fault.rose x (get_or new.devices.items q x) at there }
+      let there = slice_get-get_or new.devices.items q x (omega (arith, below, same_devices z.party (length plan.queues) old new h.keeps)) in
+      record { queue = q; before = x; after = get_or new.devices.items q x; was = at; is = there; rose = omega (arith, h.fault.rose x (get_or new.devices.items q x) at there) }
   | inr (past, _) ↦ absurd (none past)
 ]
   where
@@ -85,20 +82,20 @@ cut_rose e l g m plan q old new h = elim (slice_get_cases old.devices.items q).1
     none past = omega (arith, past, h.fault.queue, h.parties.devices)
 
 -- what the play of a machine comes to is the expected answer, where no count rose
-pub play_expected : {E G X C : Type 0} (e : DeviceModel E) (l : LayoutModel) (g : GuestParty G) (m : DeviceParty X C) (bytes : List ℕ) (rest : Option (List ℕ)) (plan : Plan) (brief : Bool) (old new : Bench G X) (held now : Option (List ℕ)) (before after : ℕ) (s : Status) → (Rose before after → ⊥) → (SomeRose m old new → ⊥) → ReadsMachine (Some bytes) rest plan → PlaysTo e l g m plan brief old new held now before after s → IsOrMemory (expected bytes (length old.guests.items) (length old.devices.items)) s
-play_expected e l g m bytes rest plan brief old new held now before after status.Ok calm still h p =
+pub play_expected : {D E G X C : Type 0} (z : Setting D E G X C) (bytes : List ℕ) (rest : Option (List ℕ)) (plan : Plan) (brief : Bool) (old new : Bench G X) (held now : Option (List ℕ)) (before after : ℕ) (s : Status) → (Rose before after → ⊥) → (SomeRose z.party old new → ⊥) → ReadsMachine (Some bytes) rest plan → PlaysTo z plan brief old new held now before after s → IsOrMemory (expected bytes (length old.guests.items) (length old.devices.items)) s
+play_expected z bytes rest plan brief old new held now before after status.Ok calm still h p =
     inl (sym (expects_parties bytes (length old.guests.items) (length old.devices.items) rest plan h ∙ enough (length plan.queues) (length old.guests.items) (length old.devices.items) p.0.parties.guests p.0.parties.devices))
-play_expected e l g m bytes rest plan brief old new held now before after status.WriteFault calm still h p = absurd (calm p.2)
-play_expected e l g m bytes rest plan brief old new held now before after (status.DeviceFault q) calm still h p = absurd (still (cut_rose e l g m plan q old new p.0))
-play_expected e l g m bytes rest plan brief old new held now before after (status.TooFewParties q n k) calm still h p =
+play_expected z bytes rest plan brief old new held now before after status.WriteFault calm still h p = absurd (calm p.2)
+play_expected z bytes rest plan brief old new held now before after (status.DeviceFault q) calm still h p = absurd (still (cut_rose z plan q old new p.0))
+play_expected z bytes rest plan brief old new held now before after (status.TooFewParties q n k) calm still h p =
     let t = p.0 in
     inl (ap (λ i. status.TooFewParties i n k) t.need_is ∙ ap (λ i. status.TooFewParties (length plan.queues) i k) t.guests_are ∙ ap (λ i. status.TooFewParties (length plan.queues) (length old.guests.items) i) t.devices_are
     ∙ sym (expects_parties bytes (length old.guests.items) (length old.devices.items) rest plan h ∙ too_few (length plan.queues) (length old.guests.items) (length old.devices.items) (rw (t.need_is, t.guests_are, t.devices_are) at t.few)))
-play_expected e l g m bytes rest plan brief old new held now before after status.Memory calm still h p = inr refl
-play_expected e l g m bytes rest plan brief old new held now before after status.Usage calm still h p = absurd p
-play_expected e l g m bytes rest plan brief old new held now before after (status.Machine rule) calm still h p = absurd p
-play_expected e l g m bytes rest plan brief old new held now before after status.ReadFault calm still h p = absurd p
-play_expected e l g m bytes rest plan brief old new held now before after (status.TooLarge n) calm still h p = absurd p
+play_expected z bytes rest plan brief old new held now before after status.Memory calm still h p = inr refl
+play_expected z bytes rest plan brief old new held now before after status.Usage calm still h p = absurd p
+play_expected z bytes rest plan brief old new held now before after (status.Machine rule) calm still h p = absurd p
+play_expected z bytes rest plan brief old new held now before after status.ReadFault calm still h p = absurd p
+play_expected z bytes rest plan brief old new held now before after (status.TooLarge n) calm still h p = absurd p
 
 -- the layout that the bytes of a whole source order
 pub layout_read : (bytes : List ℕ) (rest : Option (List ℕ)) (plan : Plan) → ReadsMachine (Some bytes) rest plan → orders_packed bytes ≡ plan.packed

@@ -3,7 +3,8 @@ use Rattle.std.proofs.Common.{◌≡◌, ℕ, ◌<◌, List, length, map, get_or
 use Rattle.std.specs.Prelude.{slice_get}
 use Rattle.std.proofs.lemmas.List.{length-map, ext_get_or, get_or-map}
 use Rattle.std.proofs.lemmas.Option.{slice_get-get_or, slice_get_within, slice_get_cases}
-use Rattle.vd_bus.specs.Device.{DeviceParty, Rose}
+use Rattle.vd_bus.specs.Device.{DeviceParty}
+use Rattle.vd_bus.specs.Pace.{raised}
 use Rattle.vd_bus.specs.Guest.{GuestParty}
 use Rattle.vd_play.specs.Played.{KeepsBench, HasNoFault, IsFaultOf}
 use Rattle.vd_play.specs.Prepared.{IsUntouched}
@@ -45,6 +46,6 @@ calm_on g m n a b c h u calm = calm ∙ ext_get_or 0 (map m.faults b.devices.ite
 pub fault_on : {G X C : Type 0} (g : GuestParty G) (m : DeviceParty X C) (n q : ℕ) (a b c : Bench G X) → KeepsBench m n a b → IsUntouched g m a b → IsFaultOf m n q b c → IsFaultOf m n q a c
 fault_on g m n q a b c h u f = record {
   queue = f.queue;
-  rose = λ x y at there. subst (λ k. Rose k (m.faults y)) (faults_same g m n a b q x h u at) (f.rose (get_or b.devices.items q x) y (between a.devices.items b.devices.items q x (same_devices m n a b h) at) there);
+  rose = λ x y at there. subst (λ k. m.faults y ≡ raised 1 k) (faults_same g m n a b q x h u at) (f.rose (get_or b.devices.items q x) y (between a.devices.items b.devices.items q x (same_devices m n a b h) at) there);
   others = λ k x y apart at there. f.others k (get_or b.devices.items k x) y apart (between a.devices.items b.devices.items k x (same_devices m n a b h) at) there ∙ faults_same g m n a b k x h u at;
 }

@@ -4,12 +4,10 @@ use Rattle.std.proofs.lemmas.List.{drop_more, drop_all, take_more, get_or-map, g
 use Rattle.std.proofs.lemmas.List.Sums.{sum_by-append, sum_by-cons}
 use Rattle.std.proofs.lemmas.Option.{slice_get_read}
 use Rattle.vd_bus.specs.Device.{DeviceParty, lens_of}
-use Rattle.vd_bus.specs.Guest.{GuestParty}
-use Rattle.vd_layout.specs.Device.{DeviceModel}
-use Rattle.vd_layout.specs.Layout.{LayoutModel}
 use Rattle.vd_machine.specs.File.{Plan}
 use Rattle.vd_play.specs.Each.{HasLanes}
 use Rattle.vd_play.specs.Played.{AllPlayed}
+use Rattle.vd_play.specs.Setting.{Setting}
 use Rattle.vd_play.specs.declared.bench.Bench.{Bench}
 use Rattle.vd_runner.specs.Report.{queue_lines, all_queue_lines, drained, all_lens}
 
@@ -38,8 +36,8 @@ lens_at m plan bench k x h below is =
     get_or-map (λ y. lens_of (m.begun y)) (take n xs) k x [] (omega arith) ∙ ap (λ y. lens_of (m.begun y)) (get_or-take n xs k x below ∙ sym is)
 
 -- each chain of a queue that was played came back
-pub back : {E G X C : Type 0} (e : DeviceModel E) (l : LayoutModel) (g : GuestParty G) (m : DeviceParty X C) (plan : Plan) (bench : Bench G X) (k : ℕ) (guest : G) (x : X) → HasLanes (length plan.queues) bench → AllPlayed e l g m plan bench → k < length plan.queues → guest ≡ get_or bench.guests.items k guest → x ≡ get_or bench.devices.items k x → length (g.returned guest) ≡ length (lens_of (m.begun x))
-back e l g m plan bench k guest x parties played below has_guest has_device =
+pub back : {D E G X C : Type 0} (s : Setting D E G X C) (plan : Plan) (bench : Bench G X) (k : ℕ) (guest : G) (x : X) → HasLanes (length plan.queues) bench → AllPlayed s plan bench → k < length plan.queues → guest ≡ get_or bench.guests.items k guest → x ≡ get_or bench.devices.items k x → length (s.guest.returned guest) ≡ length (lens_of (s.party.begun x))
+back s plan bench k guest x parties played below has_guest has_device =
     let one = slice_get_read bench.guests.items (length bench.guests.items) k guest refl (omega (arith, parties.guests)) has_guest in
     let other = slice_get_read bench.devices.items (length bench.devices.items) k x refl (omega (arith, parties.devices)) has_device in
     (played k guest x below one other).returned.as_many

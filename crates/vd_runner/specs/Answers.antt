@@ -35,7 +35,8 @@ verdict None n guests devices = if nat_le n guests && nat_le n devices then stat
 
 -- the answer of `play` to a source of these bytes, with so many guests and devices, where nothing fails
 abbrev pub expected : List ℕ → ℕ → ℕ → Status
-expected bytes guests devices = if nat_lt 1048576 (length bytes) then status.TooLarge 1048577 else verdict (first bytes) (need bytes) guests devices
+expected bytes guests devices =
+    if nat_lt 1048576 (length bytes) then status.TooLarge 1048577 else verdict (first bytes) (need bytes) guests devices
 
 -- this answer, or want of memory
 abbrev pub IsOrMemory : Status → Status → Type 0

@@ -4,3 +4,4 @@ pub mod Reading
 pub mod Outcome
 pub mod Answers
 pub mod Layouts
+pub mod Through

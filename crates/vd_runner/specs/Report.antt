@@ -10,7 +10,8 @@ use Rattle.vd_play.specs.declared.bench.Bench.{Bench}
 
 -- `queue q chains N bytes B`
 unfoldable pub queue_line : ℕ → ℕ → ℕ → List ℕ
-queue_line q chains bytes = codes "queue " ++ decimal q ++ codes " chains " ++ decimal chains ++ codes " bytes " ++ decimal bytes ++ codes "\n"
+queue_line q chains bytes =
+    codes "queue " ++ decimal q ++ codes " chains " ++ decimal chains ++ codes " bytes " ++ decimal bytes ++ codes "\n"
 
 -- `chain q k len`
 unfoldable pub chain_line : ℕ → ℕ → ℕ → List ℕ
@@ -22,7 +23,8 @@ mode_word Shadow = codes "shadow"
 
 -- `epoch q e mode from to`
 unfoldable pub epoch_line : ℕ → ℕ → Mode → ℕ → ℕ → List ℕ
-epoch_line q e mode from to = codes "epoch " ++ decimal q ++ codes " " ++ decimal e ++ codes " " ++ mode_word mode ++ codes " " ++ decimal from ++ codes " " ++ decimal to ++ codes "\n"
+epoch_line q e mode from to =
+    codes "epoch " ++ decimal q ++ codes " " ++ decimal e ++ codes " " ++ mode_word mode ++ codes " " ++ decimal from ++ codes " " ++ decimal to ++ codes "\n"
 
 -- `drained N`
 unfoldable pub drained_line : ℕ → List ℕ
@@ -41,7 +43,8 @@ epoch_lines q e (ep ∷ eps) = epoch_line q e ep.mode ep.first ep.end ++ epoch_l
 -- a queue whose chains were given these lengths: where the report is brief, without a line for each chain; the closing epoch
 -- has none
 abbrev pub queue_lines : Plan → Bool → ℕ → List ℕ → List ℕ
-queue_lines plan brief q lens = queue_line q (length lens) (sum lens) ++ ((if brief then [] else chain_lines q 0 lens) ++ epoch_lines q 0 (working_epochs plan (length lens)))
+queue_lines plan brief q lens =
+    queue_line q (length lens) (sum lens) ++ ((if brief then [] else chain_lines q 0 lens) ++ epoch_lines q 0 (working_epochs plan (length lens)))
 
 -- the queues, from number q on
 abbrev pub all_queue_lines : Plan → Bool → ℕ → List (List ℕ) → List ℕ

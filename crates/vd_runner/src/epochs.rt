@@ -30,8 +30,10 @@ pub fn put_epochs<K: Sink>(
     count: u64,
     sink: &mut K,
 ) -> Result<(), Failed>
-    ensures ok { OnOk result (Appends (K.held sink.old) (K.held sink.new) (epoch_lines queue 0 (epochs_from switches.now start false 0 count))) }
-    ensures err { OnErr result (AppendsFront (K.held sink.old) (K.held sink.new) (epoch_lines queue 0 (epochs_from switches.now start false 0 count))) }
+    ensures ok { OnOk result (Appends (K.held sink.old) (K.held sink.new)
+        (epoch_lines queue 0 (epochs_from 0 switches.now start false 0 count))) }
+    ensures err { OnErr result (AppendsFront (K.held sink.old) (K.held sink.new)
+        (epoch_lines queue 0 (epochs_from 0 switches.now start false 0 count))) }
     ensures cause { HasCause (K.faults sink.old) (K.faults sink.new) result }
 {
     let mut mode = start;

@@ -10,6 +10,10 @@ mod line;
 mod parties_tests;
 mod playing;
 mod read;
+#[cfg(test)]
+mod recording;
+#[cfg(test)]
+mod recording_tests;
 mod reporting;
 mod status;
 #[cfg(test)]

@@ -1,6 +1,6 @@
 //! Commands over packed rings, and over parties that aren't the models.
-ghost use Rattle.std.specs.Prelude.{◌≡◌, None, IfOk};
-ghost use Rattle.vd_play.specs.Prepared.{IsEmptyBench, IsEmptyDevice};
+ghost use Rattle.std.specs.Prelude.{IfOk};
+ghost use Rattle.vd_play.specs.Prepared.{IsEmptyBench, IsEmptyDevice, IsEmptyGuest};
 
 use super::tests::no_parties;
 use super::*;
@@ -9,7 +9,7 @@ use std::test::*;
 use vd_bus::{Device, Event, Guest};
 use vd_layout::Layout;
 use vd_model::Base;
-use vd_models::{FaultyDevice, ModelDevice, ModelGuest, SingleDevice, TurnGuest};
+use vd_models::{FaultyDevice, ModelDevice, ModelGuest};
 use vd_packed::Packed;
 use vd_split::Split;
 use vd_stream::{MemorySink, MemorySource};
@@ -20,7 +20,7 @@ fn bench_with<L: Layout, G: Guest<L>, V: Device<L>>(
     guest: G,
     device: V,
 ) -> Result<Bench<G, V>, AllocError>
-    requires unloaded { G.party.script guest ≡ None }
+    requires unloaded { IsEmptyGuest G.party guest }
     requires empty { IsEmptyDevice V.party device }
     ensures { IfOk result (λ b. IsEmptyBench G.party V.party b) }
 {
@@ -137,8 +137,8 @@ fn other_parties_than_the_models_play_too(rt: HostRuntime) -> Result<(), Fail> {
     let mut sink = MemorySink::new(alloc, 300, &[])?;
     let mut bench = bench_with::<Split, _, _>(
         alloc,
-        TurnGuest::new(alloc),
-        SingleDevice::new(alloc),
+        ModelGuest::in_turns(alloc),
+        ModelDevice::single(alloc, 1),
     )?;
     let status = vdpa(
         alloc,
@@ -170,8 +170,8 @@ fn other_parties_play_on_a_packed_ring(rt: HostRuntime) -> Result<(), Fail> {
     let mut sink = MemorySink::new(alloc, 300, &[])?;
     let mut bench = bench_with::<Packed, _, _>(
         alloc,
-        TurnGuest::new(alloc),
-        SingleDevice::new(alloc),
+        ModelGuest::in_turns(alloc),
+        ModelDevice::single(alloc, 1),
     )?;
     let status = vdpa(
         alloc,

@@ -3,6 +3,7 @@ ghost use Rattle.std.specs.Prelude.{◌≡◌, false};
 ghost use Rattle.vd_machine.specs.File.{view};
 ghost use Rattle.vd_play.specs.Played.{faulty};
 ghost use Rattle.vd_play.specs.Prepared.{IsOfLayout, IsEmptyBench, IsUntouched};
+ghost use Rattle.vd_play.specs.Setting.{setting_of};
 ghost use Rattle.vd_runner.specs.Answers.{has_played};
 ghost use Rattle.vd_runner.specs.Outcome.{PlaysTo};
 
@@ -24,18 +25,21 @@ fn status_of(fault: PlayFault) -> Status
     }
 }
 
-/// Plays the machine with the parties of the bench, and writes its report to the sink. All memory is taken before the
-/// first step of a ring.
+/// Plays the machine with the parties of the bench, by the turns of the seed where there is one, and writes its report to
+/// the sink. All memory is taken before the first step of a ring.
 pub fn play_on<L: Layout, K: Sink, G: Guest<L>, V: Device<L>>(
     alloc: Global,
     m: &Machine,
+    seed: Option<u64>,
     brief: bool,
     bench: &mut Bench<G, V>,
     sink: &mut K,
 ) -> Status
     requires layout { IsOfLayout L.layout (view m.now) }
     requires empty { IsEmptyBench G.party V.party bench.old }
-    ensures answer { PlaysTo L.Device.device L.layout G.party V.party (view m.now) brief bench.old bench.new (K.held sink.old) (K.held sink.new) (K.faults sink.old) (K.faults sink.new) result }
+    ensures answer { PlaysTo (setting_of L.Driver.driver L.Device.device L.layout G.party V.party) (view m.now) brief
+        bench.old bench.new
+        (K.held sink.old) (K.held sink.new) (K.faults sink.old) (K.faults sink.new) result }
     ensures nothing { has_played result ≡ false → IsUntouched G.party V.party bench.old bench.new }
 {
     let need = m.queues.len();
@@ -51,8 +55,8 @@ pub fn play_on<L: Layout, K: Sink, G: Guest<L>, V: Device<L>>(
     let Ok(floor) = prepare::<L, G, V>(alloc, m, bench) else {
         return Status::Memory;
     };
-    match play_machine::<L, G, V>(floor, m, bench) {
-        Ok(()) => {}
+    match play_machine::<L, G, V>(floor, m, seed, bench) {
+        Ok(_) => {}
         Err(fault) => return status_of(fault),
     }
     match report::<L, K, G, V>(m, brief, bench, sink) {

@@ -6,6 +6,7 @@ ghost use Rattle.vd_stream.specs.Sinks.{AppendsFront};
 ghost use Rattle.vd_machine.specs.File.{view};
 ghost use Rattle.vd_play.specs.Each.{HasLanes};
 ghost use Rattle.vd_play.specs.Played.{AllPlayed};
+ghost use Rattle.vd_play.specs.Setting.{setting_of};
 ghost use Rattle.vd_runner.specs.Report.{report, all_lens};
 
 use crate::line::drained_line;
@@ -25,9 +26,11 @@ pub fn report<L: Layout, K: Sink, G: Guest<L>, V: Device<L>>(
     sink: &mut K,
 ) -> Result<(), Failed>
     requires parties { HasLanes (length m.now.queues) bench.now }
-    requires played { AllPlayed L.Device.device L.layout G.party V.party (view m.now) bench.now }
-    ensures ok { OnOk result (Appends (K.held sink.old) (K.held sink.new) (report (view m.now) brief (all_lens V.party (view m.now) bench.now))) }
-    ensures err { OnErr result (AppendsFront (K.held sink.old) (K.held sink.new) (report (view m.now) brief (all_lens V.party (view m.now) bench.now))) }
+    requires played { AllPlayed (setting_of L.Driver.driver L.Device.device L.layout G.party V.party) (view m.now) bench.now }
+    ensures ok { OnOk result (Appends (K.held sink.old) (K.held sink.new)
+        (report (view m.now) brief (all_lens V.party (view m.now) bench.now))) }
+    ensures err { OnErr result (AppendsFront (K.held sink.old) (K.held sink.new)
+        (report (view m.now) brief (all_lens V.party (view m.now) bench.now))) }
     ensures cause { HasCause (K.faults sink.old) (K.faults sink.new) result }
 {
     let mut drained = 0u64;

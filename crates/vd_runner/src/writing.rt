@@ -51,8 +51,10 @@ fn put_if_long<K: Sink>(
     begun: &[Begun],
     sink: &mut K,
 ) -> Result<(), Failed>
-    ensures ok { OnOk result (Appends (K.held sink.old) (K.held sink.new) (if brief then [] else chain_lines queue 0 (lens_of begun.now))) }
-    ensures err { OnErr result (AppendsFront (K.held sink.old) (K.held sink.new) (if brief then [] else chain_lines queue 0 (lens_of begun.now))) }
+    ensures ok { OnOk result (Appends (K.held sink.old) (K.held sink.new)
+        (if brief then [] else chain_lines queue 0 (lens_of begun.now))) }
+    ensures err { OnErr result (AppendsFront (K.held sink.old) (K.held sink.new)
+        (if brief then [] else chain_lines queue 0 (lens_of begun.now))) }
     ensures cause { HasCause (K.faults sink.old) (K.faults sink.new) result }
 {
     if brief {
@@ -69,8 +71,10 @@ pub fn put_queue<K: Sink>(
     journal: &Journal,
     sink: &mut K,
 ) -> Result<(), Failed>
-    ensures ok { OnOk result (Appends (K.held sink.old) (K.held sink.new) (queue_lines (view m.now) brief queue (lens_of journal.now.begun.items))) }
-    ensures err { OnErr result (AppendsFront (K.held sink.old) (K.held sink.new) (queue_lines (view m.now) brief queue (lens_of journal.now.begun.items))) }
+    ensures ok { OnOk result (Appends (K.held sink.old) (K.held sink.new)
+        (queue_lines (view m.now) brief queue (lens_of journal.now.begun.items))) }
+    ensures err { OnErr result (AppendsFront (K.held sink.old) (K.held sink.new)
+        (queue_lines (view m.now) brief queue (lens_of journal.now.begun.items))) }
     ensures cause { HasCause (K.faults sink.old) (K.faults sink.new) result }
 {
     let count = journal.begun.len() as u64;

@@ -4,5 +4,7 @@ mod format;
 mod rig;
 mod rows;
 mod sleepers;
+mod spelled;
 mod table;
+mod tables;
 mod tracked;

@@ -1,5 +1,5 @@
 //! Reading a source to its end.
-ghost use Rattle.std.specs.Prelude.{◌≤◌, IfOk, IfErr};
+ghost use Rattle.std.specs.Prelude.{◌≡◌, ◌≤◌, IfOk, IfErr, OnOk};
 ghost use Rattle.vd_stream.specs.Causes.{ReadsWhole, ReadsFaulty};
 ghost use Rattle.vd_stream.specs.declared.reading.ReadFault.TheVariants.{Memory};
 
@@ -24,6 +24,7 @@ pub fn read_whole<S: Source>(alloc: Global, source: &mut S) -> Result<Vec<u8>, R
     ensures ok { IfOk result (λ bytes. ReadsWhole (S.left source.old) (S.left source.new) bytes.items) }
     ensures fault { IfErr result (ReadsFaulty (S.left source.old) (S.left source.new) (S.faults source.old) (S.faults source.new)) }
     ensures later { S.faults source.old ≤ S.faults source.new }
+    ensures same { OnOk result (S.faults source.new ≡ S.faults source.old) }
 {
     let mut bytes = Vec::new(alloc);
     let mut buffer = [0u8; 4096];

@@ -57,7 +57,12 @@ impl DriverEnd for PackedDriver {
 
     fn begin_offer(&mut self, c: &Chain) {
         copy_pieces(&mut self.pieces, c.pieces());
-        let spot = first_at(self.features.indirect, c.pieces().len(), self.next, self.size);
+        let spot = first_at(
+            self.features.indirect,
+            c.pieces().len(),
+            self.next,
+            self.size,
+        );
         self.at.place = spot.place;
         self.at.wrap = spot.wrap;
         self.doing = first_store(self.features.indirect, c.pieces().len());

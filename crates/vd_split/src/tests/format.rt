@@ -1,6 +1,6 @@
 //! The format of VIRTIO 1.2, 2.7, written anew in 16-bit lanes, for rings of up to 8 places, with tables or without: what stands
 //! there after each whole operation.
-use super::chains::{piece_of, pieces_of};
+use super::chains::pieces_of;
 use super::sleepers::{AWAKE, Sleeper};
 
 const EMPTY: Slot = Slot {
@@ -20,7 +20,7 @@ struct Slot {
 pub struct Format {
     pub(super) size: u32,
     pub(super) event_idx: bool,
-    indirect: bool,
+    pub(super) indirect: bool,
     // the most pieces of a chain
     pub most: u32,
     pub(super) driver: Sleeper,
@@ -105,25 +105,6 @@ impl Format {
             .wrapping_add(lanes.wrapping_add(3) & 0xffff_fffc)
     }
 
-    /// The lane of the table of a place, behind the device area, which has a word more than places. A table has room for 16
-    /// descriptors.
-    fn table(&self, place: u32) -> u32 {
-        self.device_area()
-            .wrapping_add(self.size.wrapping_mul(4))
-            .wrapping_add(4)
-            .wrapping_add(place.wrapping_mul(128))
-    }
-
-    /// The lane of the driver's bell, behind the tables, if there are any. The device's is in the next word.
-    pub(super) fn bells(&self) -> u32 {
-        self.table(if self.indirect { self.size } else { 0 })
-    }
-
-    /// How many words there are.
-    pub fn words(&self) -> u32 {
-        (self.bells() >> 2).wrapping_add(2)
-    }
-
     /// How many places chain number `k` takes.
     fn places_of(&self, k: u32) -> u32 {
         if self.indirect {
@@ -138,30 +119,8 @@ impl Format {
         self.places_of(self.offered) <= self.free_count
     }
 
-    /// A descriptor: an address, a length, flags and the next place.
-    fn describe(&mut self, at: u32, addr: u64, len: u32, flags: u32, next: u32) {
-        self.set_32(at, (addr & 0xffff_ffff) as u32);
-        self.set_32(at.wrapping_add(2), (addr >> 32) as u32);
-        self.set_32(at.wrapping_add(4), len);
-        self.set(at.wrapping_add(6), flags);
-        self.set(at.wrapping_add(7), next);
-    }
-
-    /// Piece `i` of chain number `k`, in the descriptor at this lane.
-    fn describe_piece(&mut self, at: u32, k: u32, i: u32, next: u32) {
-        let piece = piece_of(self.most, k, i);
-        let write = if piece.write { 2 } else { 0 };
-        let more = if i.wrapping_add(1) < pieces_of(self.most, k) {
-            1
-        } else {
-            0
-        };
-        self.describe(at, piece.addr, piece.len, write | more, next);
-    }
-
     pub fn offer(&mut self) {
         let k = self.offered;
-        let n = pieces_of(self.most, k);
         let count = self.places_of(k);
         let mut places = [0; 4];
         for i in 0..count {
@@ -173,27 +132,7 @@ impl Format {
             };
         }
         self.free_count = self.free_count.wrapping_sub(count);
-        let tabled = self.indirect && n > 1;
-        for i in 0..n {
-            let more = i.wrapping_add(1) < n;
-            if tabled {
-                let at = self.table(places[0]).wrapping_add(i.wrapping_mul(8));
-                self.describe_piece(at, k, i, if more { i.wrapping_add(1) } else { 0 });
-            } else {
-                let at = places[(i & 3) as usize].wrapping_mul(8);
-                let next = if more {
-                    places[(i.wrapping_add(1) & 3) as usize]
-                } else {
-                    0
-                };
-                self.describe_piece(at, k, i, next);
-            }
-        }
-        if tabled {
-            // a lane has two bytes, a descriptor sixteen
-            let addr = u64::from(self.table(places[0])).wrapping_mul(2);
-            self.describe(places[0].wrapping_mul(8), addr, n.wrapping_mul(16), 4, 0);
-        }
+        self.spell(k, places);
         let head = places[0];
         self.slots[(head & 7) as usize] = Slot { number: k, places };
         self.shown[(k & 7) as usize] = head;

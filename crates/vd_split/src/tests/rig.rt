@@ -35,18 +35,13 @@ impl<L: Layout> Model for Rig<L> {
 
 impl Rig<Split> {
     /// Both ends of a fresh ring, with tables or without.
-    pub fn tabled(
-        alloc: Global,
-        ring: u32,
-        size: u32,
-        f: Features,
-    ) -> Result<Rig<Split>, AllocError>
+    pub fn tabled(alloc: Global, size: u32, f: Features) -> Result<Rig<Split>, AllocError>
         requires { (0 < size) × (size ≤ 1024) }
     {
         let driver = SplitDriver::make(alloc, size, f, false)?;
         let device = SplitDevice::make(alloc, size, f, false)?;
         let count = all_words(size, f.indirect, false);
-        let words = PlainWords::new(alloc, ring, count)?;
+        let words = PlainWords::new(alloc, 0, count)?;
         Ok(Rig {
             driver,
             device,

@@ -9,13 +9,13 @@ use vd_model::{Base, Chain, Features};
 
 /// What one case does: how many eighths of the gives are out of order, and whether it rests.
 #[derive(Drop)]
-struct Case {
-    disorder: u32,
-    rests: bool,
+pub(super) struct Case {
+    pub(super) disorder: u32,
+    pub(super) rests: bool,
 }
 
 /// Whether every word of the ring is as the format has it.
-fn words_agree<L: Layout>(rig: &Rig<L>, format: &Format) -> bool {
+pub(super) fn words_agree<L: Layout>(rig: &Rig<L>, format: &Format) -> bool {
     for i in 0..format.words() {
         if rig.word(i) != format.word(i) {
             return false;
@@ -160,7 +160,12 @@ fn sleep_device<L: Layout>(rig: &mut Rig<L>, format: &mut Format, disarms: bool)
 }
 
 /// One operation, chosen by a number.
-fn operate<L: Layout>(rig: &mut Rig<L>, format: &mut Format, case: &Case, x: u32) -> bool {
+pub(super) fn operate<L: Layout>(
+    rig: &mut Rig<L>,
+    format: &mut Format,
+    case: &Case,
+    x: u32,
+) -> bool {
     let which = x & 31;
     if which < 8 {
         offer(rig, format)
@@ -221,36 +226,6 @@ fn words_are_as_the_format_has_them(rt: HostRuntime) -> Result<(), Fail> {
             let (kicks, calls) = format.rung();
             assert!(rt; kicks > 20);
             assert!(rt; calls > 20);
-        }
-    }
-    Ok(())
-}
-
-/// The same with tables, which leave a place for any chain.
-#[test]
-fn words_are_as_the_format_has_them_with_tables(rt: HostRuntime) -> Result<(), Fail> {
-    for size in [2, 4, 8] {
-        for (event_idx, in_order, disorder, rests) in [
-            (false, false, 8, false),
-            (false, true, 0, true),
-            (true, false, 4, true),
-            (true, true, 0, true),
-        ] {
-            let f = Features {
-                indirect: true,
-                event_idx,
-                in_order,
-            };
-            let case = Case { disorder, rests };
-            let mut rig = Rig::tabled(rt.alloc(), 0, size, f)?;
-            let mut format = Format::new(size, true, event_idx);
-            for i in 0..2000u32 {
-                assert!(rt; operate(&mut rig, &mut format, &case, mixed(i)));
-                assert!(rt; words_agree(&rig, &format));
-                assert!(rt; rig.whole() == format.whole());
-                assert!(rt; rig.armed() == format.armed());
-            }
-            assert!(rt; format.collected > 20);
         }
     }
     Ok(())

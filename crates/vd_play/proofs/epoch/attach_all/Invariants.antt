@@ -1,8 +1,9 @@
-use Rattle.std.proofs.Common.{◌≡◌, length}
+use Rattle.std.proofs.Common.{◌≡◌, true, length}
 use Rattle.vd_machine.specs.File.{view}
 use Rattle.vd_play.specs.Each.{EachLane, Stage, HasLanes}
-use Rattle.vd_play.specs.Lane.{InEpoch, Stopped}
 use Rattle.vd_play.specs.Played.{KeepsBench, HasNoFault}
+use Rattle.vd_play.specs.Progress.{InEpoch, Stopped, all_steps}
+use Rattle.vd_play.specs.Setting.{setting_of}
 use Rattle.vd_play.proofs.epoch.attach_all.Given as goal
 
 abbrev pub invariant-loop-i : goal.invariant-loop-i
@@ -11,5 +12,6 @@ invariant-loop-i g l = record {
   parties : HasLanes (length l.m.queues) l.bench;
   keeps : KeepsBench g.V.Device.party (length l.m.queues) l.initial.bench l.bench;
   faults : HasNoFault g.V.Device.party l.initial.bench l.bench;
-  each : EachLane (Stage l.i (λ q a b x. InEpoch g.L.Device.DeviceEnd.device g.L.Layout.layout g.G.Guest.party g.V.Device.party (view l.m) q l.epoch 0 a b x) (λ q a b x. Stopped g.L.Device.DeviceEnd.device g.L.Layout.layout g.G.Guest.party g.V.Device.party (view l.m) q l.epoch a b x)) l.floor.lanes.items l.bench.guests.items l.bench.devices.items;
+  each : EachLane (Stage l.i (λ q a b x. InEpoch (setting_of g.L.Driver.DriverEnd.driver g.L.Device.DeviceEnd.device g.L.Layout.layout g.G.Guest.party g.V.Device.party) (view l.m) q true l.epoch 0 a b x) (λ q a b x. Stopped (setting_of g.L.Driver.DriverEnd.driver g.L.Device.DeviceEnd.device g.L.Layout.layout g.G.Guest.party g.V.Device.party) (view l.m) q l.epoch a b x)) l.floor.lanes.items l.bench.guests.items l.bench.devices.items;
+  counted : all_steps (setting_of g.L.Driver.DriverEnd.driver g.L.Device.DeviceEnd.device g.L.Layout.layout g.G.Guest.party g.V.Device.party) l.bench ≡ all_steps (setting_of g.L.Driver.DriverEnd.driver g.L.Device.DeviceEnd.device g.L.Layout.layout g.G.Guest.party g.V.Device.party) l.initial.bench;
 }

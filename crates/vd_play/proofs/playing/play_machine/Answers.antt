@@ -1,13 +1,29 @@
-use Rattle.std.proofs.Common.{◌≡◌, ◌+◌, ℕ, length, arith, sym, subst, ◌∙◌}
-use Rattle.vd_machine.specs.File.{view}
+use Rattle.std.proofs.Common.{◌≡◌, ◌+◌, ◌≤◌, ℕ, false, length, map, arith, sym, ap, refl, subst, ◌∙◌}
+use Rattle.vd_machine.specs.File.{view, Plan}
+use Rattle.vd_machine.proofs.Facts.{one_queue}
 use Rattle.vd_play.specs.declared.epoch.PlayFault.{PlayFault}
-use Rattle.vd_play.specs.Played.{KeepsBench, IsFaultOf, IsPlayed, IsCut, AllCut, faulty}
 use Rattle.vd_play.specs.Each.{HasLanes}
-use Rattle.vd_play.proofs.Benches.{keeps_through, lanes_kept, fault_later, same_many}
+use Rattle.vd_play.specs.Played.{KeepsBench, IsFaultOf, IsPlayed, IsCut, AllCut, faulty}
+use Rattle.vd_play.specs.Progress.{AllStopped, all_steps, most_steps}
+use Rattle.vd_play.specs.Rounds.{AllDone}
+use Rattle.vd_play.specs.Setting.{setting_of}
+use Rattle.vd_play.proofs.Benches.{keeps_none, keeps_through, lanes_kept, fault_later, same_many}
 use Rattle.vd_play.proofs.Cut.{if_err_by, if_err_any}
 use Rattle.vd_play.proofs.Each.{each_queue}
-use Rattle.vd_play.proofs.Ending.{all_ended}
+use Rattle.vd_play.proofs.Lasting.{all_closed, all_low, last_epoch}
+use Rattle.vd_play.proofs.Sums.{sum_none}
 use Rattle.vd_play.proofs.playing.play_machine.Goals as goal
+
+pub loop-epoch-init : goal.loop-epoch-init
+loop-epoch-init g c = record {
+  many = c.requires.many;
+  parties = c.requires.parties;
+  few = omega arith;
+  keeps = keeps_none g.V.Device.party _ c.args.bench.now;
+  faults = refl;
+  counted = omega (arith, sum_none g.G.Guest.party.accesses c.args.bench.now.guests.items c.requires.idle.guests, sum_none g.V.Device.party.accesses c.args.bench.now.devices.items c.requires.idle.devices);
+  each = c.requires.each;
+}
 
 pub returns-in_err-attach_all-clause-fault : goal.returns-in_err-attach_all-clause-fault
 returns-in_err-attach_all-clause-fault g c =
@@ -20,46 +36,122 @@ returns-in_err-attach_all-clause-fault g c =
 
 pub returns-in_err-attach_all-clause-cut : goal.returns-in_err-attach_all-clause-cut
 returns-in_err-attach_all-clause-cut g c =
-    if_err_any c.from_residual.result (λ (z : PlayFault). AllCut g.L.Device.DeviceEnd.device g.L.Layout.layout g.G.Guest.party g.V.Device.party (view c.args.m.now) c.attach_all.new.bench)
-    (λ z. each_queue (IsCut g.L.Device.DeviceEnd.device g.L.Layout.layout g.G.Guest.party g.V.Device.party (view c.args.m.now)) (length c.args.m.now.queues) _ _ _ (c.attach_all.ensures.many ∙ c.loop-epoch.invariant.many) c.in_err-attach_all.ensures.cut)
+    let s = setting_of g.L.Driver.DriverEnd.driver g.L.Device.DeviceEnd.device g.L.Layout.layout g.G.Guest.party g.V.Device.party in
+    if_err_any c.from_residual.result (λ (z : PlayFault). AllCut s (view c.args.m.now) c.attach_all.new.bench)
+    (λ z. each_queue (IsCut s (view c.args.m.now)) (length c.args.m.now.queues) _ _ _ (c.attach_all.ensures.many ∙ c.loop-epoch.invariant.many) c.in_err-attach_all.ensures.cut)
 
-pub run_epoch-requires-clause-parties : goal.run_epoch-requires-clause-parties
-run_epoch-requires-clause-parties g c =
+pub run_epoch-made-requires-clause-parties : goal.run_epoch-made-requires-clause-parties
+run_epoch-made-requires-clause-parties g c =
     let n : ℕ = length c.args.m.now.queues in
     let many : length c.attach_all.new.floor.lanes.items ≡ n = c.attach_all.ensures.many ∙ c.loop-epoch.invariant.many in
     subst (λ j. HasLanes j c.attach_all.new.bench) (sym many) (lanes_kept g.V.Device.party n c.loop-epoch.bench c.attach_all.new.bench n c.attach_all.ensures.keeps c.loop-epoch.invariant.parties)
 
-pub run_epoch-requires-clause-lanes : goal.run_epoch-requires-clause-lanes
-run_epoch-requires-clause-lanes g c = (view c.args.m.now, c.loop-epoch.epoch, c.in_ok-attach_all.ensures.lanes)
+pub run_epoch-made-requires-clause-few : goal.run_epoch-made-requires-clause-few
+run_epoch-made-requires-clause-few g c =
+    let many : length c.attach_all.new.floor.lanes.items ≡ length c.args.m.now.queues = c.attach_all.ensures.many ∙ c.loop-epoch.invariant.many in
+    omega (arith, many, one_queue c.args.m.now.queues c.args.m.now.counted)
+
+pub run_epoch-made-requires-clause-lanes : goal.run_epoch-made-requires-clause-lanes
+run_epoch-made-requires-clause-lanes g c = (view c.args.m.now, c.loop-epoch.epoch, c.in_ok-attach_all.ensures.lanes)
 
 pub loop-epoch-preserved : goal.loop-epoch-preserved
 loop-epoch-preserved g c =
     let m = g.V.Device.party in
     let n : ℕ = length c.args.m.now.queues in
     let many : length c.attach_all.new.floor.lanes.items ≡ n = c.attach_all.ensures.many ∙ c.loop-epoch.invariant.many in
-    let later : KeepsBench m n c.attach_all.new.bench c.run_epoch.new.bench = subst (λ j. KeepsBench m j c.attach_all.new.bench c.run_epoch.new.bench) many c.run_epoch.ensures.keeps in
-    let both = keeps_through m n c.loop-epoch.bench c.attach_all.new.bench c.run_epoch.new.bench c.attach_all.ensures.keeps later in
+    let later : KeepsBench m n c.attach_all.new.bench c.run_epoch-made.new.bench = subst (λ j. KeepsBench m j c.attach_all.new.bench c.run_epoch-made.new.bench) many c.run_epoch-made.ensures.keeps in
+    let both = keeps_through m n c.loop-epoch.bench c.attach_all.new.bench c.run_epoch-made.new.bench c.attach_all.ensures.keeps later in
+    let ran = c.run_epoch-made.ensures.goes (view c.args.m.now) c.loop-epoch.epoch c.in_ok-attach_all.ensures.lanes in
     record {
-      many = c.run_epoch.ensures.many ∙ many;
-      parties = lanes_kept m n c.loop-epoch.bench c.run_epoch.new.bench n both c.loop-epoch.invariant.parties;
-      keeps = keeps_through m n c.args.bench.now c.loop-epoch.bench c.run_epoch.new.bench c.loop-epoch.invariant.keeps both;
-      faults = c.run_epoch.ensures.faults ∙ c.in_ok-attach_all.ensures.faults ∙ c.loop-epoch.invariant.faults;
-      each = c.run_epoch.ensures.lanes (view c.args.m.now) c.loop-epoch.epoch c.in_ok-attach_all.ensures.lanes;
+      many = c.run_epoch-made.ensures.many ∙ many;
+      parties = lanes_kept m n c.loop-epoch.bench c.run_epoch-made.new.bench n both c.loop-epoch.invariant.parties;
+      few = omega (arith, c.loop-epoch.invariant.few, c.run_epoch-made.ensures.few);
+      keeps = keeps_through m n c.args.bench.now c.loop-epoch.bench c.run_epoch-made.new.bench c.loop-epoch.invariant.keeps both;
+      faults = c.run_epoch-made.ensures.faults ∙ c.in_ok-attach_all.ensures.faults ∙ c.loop-epoch.invariant.faults;
+      counted = omega (arith, ran.1, c.in_ok-attach_all.ensures.counted, c.loop-epoch.invariant.counted);
+      each = ran.0;
     }
 
-pub finish-requires-clause-lanes : goal.finish-requires-clause-lanes
-finish-requires-clause-lanes g c =
-    let end : c.loop-epoch.epoch ≡ length c.args.m.now.switches + 2 = omega arith in
-    (view c.args.m.now, all_ended g.L.Device.DeviceEnd.device g.L.Layout.layout g.G.Guest.party g.V.Device.party (view c.args.m.now) c.loop-epoch.epoch _ _ _ end c.loop-epoch.invariant.each)
+pub drain-made-requires-clause-parties : goal.drain-made-requires-clause-parties
+drain-made-requires-clause-parties g c = subst (λ j. HasLanes j c.loop-epoch.bench) (sym c.loop-epoch.invariant.many) c.loop-epoch.invariant.parties
+
+pub drain-made-requires-clause-few : goal.drain-made-requires-clause-few
+drain-made-requires-clause-few g c = omega (arith, c.loop-epoch.invariant.many, one_queue c.args.m.now.queues c.args.m.now.counted)
+
+pub drain-made-requires-clause-lanes : goal.drain-made-requires-clause-lanes
+drain-made-requires-clause-lanes g c =
+    let s = setting_of g.L.Driver.DriverEnd.driver g.L.Device.DeviceEnd.device g.L.Layout.layout g.G.Guest.party g.V.Device.party in
+    let plan : Plan = view c.args.m.now in
+    let k : ℕ = length plan.switches + 1 in
+    let end : c.loop-epoch.epoch ≡ k + 1 = omega arith in
+    (plan, k, last_epoch s plan, all_closed s plan k c.loop-epoch.floor.lanes.items c.loop-epoch.bench (subst (λ (j : ℕ). AllStopped s plan j c.loop-epoch.floor.lanes.items c.loop-epoch.bench) end c.loop-epoch.invariant.each))
+
+pub halt_all-requires-clause-parties : goal.halt_all-requires-clause-parties
+halt_all-requires-clause-parties g c =
+    let m = g.V.Device.party in
+    let n : ℕ = length c.loop-epoch.floor.lanes.items in
+    let before : HasLanes n c.loop-epoch.bench = subst (λ j. HasLanes j c.loop-epoch.bench) (sym c.loop-epoch.invariant.many) c.loop-epoch.invariant.parties in
+    subst (λ j. HasLanes j c.drain-made.new.bench) (sym c.drain-made.ensures.many) (lanes_kept m n c.loop-epoch.bench c.drain-made.new.bench n c.drain-made.ensures.keeps before)
+
+pub halt_all-requires-clause-done : goal.halt_all-requires-clause-done
+halt_all-requires-clause-done g c = subst (λ (j : ℕ). AllDone g.G.Guest.party j c.drain-made.new.bench) (sym c.drain-made.ensures.many) c.drain-made.ensures.done
+
+pub halt_all-requires-clause-lanes : goal.halt_all-requires-clause-lanes
+halt_all-requires-clause-lanes g c =
+    let s = setting_of g.L.Driver.DriverEnd.driver g.L.Device.DeviceEnd.device g.L.Layout.layout g.G.Guest.party g.V.Device.party in
+    let plan : Plan = view c.args.m.now in
+    let k : ℕ = length plan.switches + 1 in
+    let end : c.loop-epoch.epoch ≡ k + 1 = omega arith in
+    let start = all_closed s plan k c.loop-epoch.floor.lanes.items c.loop-epoch.bench (subst (λ (j : ℕ). AllStopped s plan j c.loop-epoch.floor.lanes.items c.loop-epoch.bench) end c.loop-epoch.invariant.each) in
+    let drained = c.drain-made.ensures.goes plan k start in
+    (plan, k, drained.0.0, last_epoch s plan, drained.0.1)
 
 pub returns-clause-keeps : goal.returns-clause-keeps
 returns-clause-keeps g c =
     let m = g.V.Device.party in
     let n : ℕ = length c.args.m.now.queues in
-    keeps_through m n c.args.bench.now c.loop-epoch.bench c.finish.new.bench c.loop-epoch.invariant.keeps (subst (λ j. KeepsBench m j c.loop-epoch.bench c.finish.new.bench) c.loop-epoch.invariant.many c.finish.ensures.keeps)
+    let many : length c.loop-epoch.floor.lanes.items ≡ n = c.loop-epoch.invariant.many in
+    let one : KeepsBench m n c.loop-epoch.bench c.drain-made.new.bench = subst (λ j. KeepsBench m j c.loop-epoch.bench c.drain-made.new.bench) many c.drain-made.ensures.keeps in
+    let two : KeepsBench m n c.drain-made.new.bench c.halt_all.new.bench = subst (λ j. KeepsBench m j c.drain-made.new.bench c.halt_all.new.bench) (c.drain-made.ensures.many ∙ many) c.halt_all.ensures.keeps in
+    keeps_through m n c.args.bench.now c.loop-epoch.bench c.halt_all.new.bench c.loop-epoch.invariant.keeps (keeps_through m n c.loop-epoch.bench c.drain-made.new.bench c.halt_all.new.bench one two)
 
 pub returns-clause-played : goal.returns-clause-played
 returns-clause-played g c =
-    let end : c.loop-epoch.epoch ≡ length c.args.m.now.switches + 2 = omega arith in
-    let start = all_ended g.L.Device.DeviceEnd.device g.L.Layout.layout g.G.Guest.party g.V.Device.party (view c.args.m.now) c.loop-epoch.epoch _ _ _ end c.loop-epoch.invariant.each in
-    each_queue (IsPlayed g.L.Device.DeviceEnd.device g.L.Layout.layout g.G.Guest.party g.V.Device.party (view c.args.m.now)) (length c.args.m.now.queues) _ _ _ (c.finish.ensures.many ∙ c.loop-epoch.invariant.many) (c.finish.ensures.lanes (view c.args.m.now) start)
+    let s = setting_of g.L.Driver.DriverEnd.driver g.L.Device.DeviceEnd.device g.L.Layout.layout g.G.Guest.party g.V.Device.party in
+    let plan : Plan = view c.args.m.now in
+    let k : ℕ = length plan.switches + 1 in
+    let end : c.loop-epoch.epoch ≡ k + 1 = omega arith in
+    let start = all_closed s plan k c.loop-epoch.floor.lanes.items c.loop-epoch.bench (subst (λ (j : ℕ). AllStopped s plan j c.loop-epoch.floor.lanes.items c.loop-epoch.bench) end c.loop-epoch.invariant.each) in
+    let drained = c.drain-made.ensures.goes plan k start in
+    each_queue (IsPlayed s plan) (length c.args.m.now.queues) _ _ _ (c.drain-made.ensures.many ∙ c.loop-epoch.invariant.many) (c.halt_all.ensures.halted plan k drained.0.0 (last_epoch s plan) drained.0.1)
+
+pub returns-clause-counted : goal.returns-clause-counted
+returns-clause-counted g c =
+    let s = setting_of g.L.Driver.DriverEnd.driver g.L.Device.DeviceEnd.device g.L.Layout.layout g.G.Guest.party g.V.Device.party in
+    let plan : Plan = view c.args.m.now in
+    let k : ℕ = length plan.switches + 1 in
+    let end : c.loop-epoch.epoch ≡ k + 1 = omega arith in
+    let start = all_closed s plan k c.loop-epoch.floor.lanes.items c.loop-epoch.bench (subst (λ (j : ℕ). AllStopped s plan j c.loop-epoch.floor.lanes.items c.loop-epoch.bench) end c.loop-epoch.invariant.each) in
+    let drained = c.drain-made.ensures.goes plan k start in
+    omega (arith, c.halt_all.ensures.counted, drained.1, c.loop-epoch.invariant.counted)
+
+pub returns-clause-bound : goal.returns-clause-bound
+returns-clause-bound g c =
+    let s = setting_of g.L.Driver.DriverEnd.driver g.L.Device.DeviceEnd.device g.L.Layout.layout g.G.Guest.party g.V.Device.party in
+    let m = g.V.Device.party in
+    let plan : Plan = view c.args.m.now in
+    let n : ℕ = length c.args.m.now.queues in
+    let k : ℕ = length plan.switches + 1 in
+    let end : c.loop-epoch.epoch ≡ k + 1 = omega arith in
+    let start = all_closed s plan k c.loop-epoch.floor.lanes.items c.loop-epoch.bench (subst (λ (j : ℕ). AllStopped s plan j c.loop-epoch.floor.lanes.items c.loop-epoch.bench) end c.loop-epoch.invariant.each) in
+    let drained = c.drain-made.ensures.goes plan k start in
+    let many : length c.loop-epoch.floor.lanes.items ≡ n = c.loop-epoch.invariant.many in
+    let one : KeepsBench m n c.loop-epoch.bench c.drain-made.new.bench = subst (λ j. KeepsBench m j c.loop-epoch.bench c.drain-made.new.bench) many c.drain-made.ensures.keeps in
+    let keeps = keeps_through m n c.args.bench.now c.loop-epoch.bench c.drain-made.new.bench c.loop-epoch.invariant.keeps one in
+    let low : all_steps s c.drain-made.new.bench ≤ most_steps plan = all_low s plan false k drained.0.0 c.drain-made.new.floor.lanes.items c.args.bench.now c.drain-made.new.bench (c.drain-made.ensures.many ∙ many) (lanes_kept m n c.args.bench.now c.drain-made.new.bench n keeps c.requires.parties) c.requires.idle keeps drained.0.1 in
+    omega (arith, low, drained.1, c.loop-epoch.invariant.counted)
+
+pub returns-clause-faults : goal.returns-clause-faults
+returns-clause-faults g c =
+    let m = g.V.Device.party in
+    ap (λ xs. map m.faults xs.items) c.halt_all.ensures.devices ∙ c.drain-made.ensures.faults ∙ c.loop-epoch.invariant.faults

@@ -1,13 +1,14 @@
-use Rattle.std.proofs.Common.{◌≡◌, ◌<◌, ◌+◌, ℕ, None, length, arith, sym, refl, ap, ◌∙◌}
+use Rattle.std.proofs.Common.{◌≡◌, ◌<◌, ◌+◌, ℕ, length, arith, sym, refl, ap, ◌∙◌}
 use Rattle.std.specs.Vec.{with_item}
 use Rattle.std.proofs.lemmas.Option.{slice_get_read}
 use Rattle.std.proofs.lemmas.List.{length_push}
 use Rattle.vd_play.specs.declared.bench.Bench.{Bench}
 use Rattle.vd_play.specs.Played.{KeepsBench}
-use Rattle.vd_play.specs.Prepared.{IsEmptyDevice}
-use Rattle.vd_play.proofs.Benches.{keeps_none, keeps_set, keeps_more, lanes_kept}
+use Rattle.vd_play.specs.Prepared.{IsEmptyGuest, IsEmptyDevice}
+use Rattle.vd_play.proofs.Benches.{keeps_none, keeps_set, keeps_more, lanes_kept, same_many}
 use Rattle.vd_play.proofs.Lists.{All-at}
-use Rattle.vd_play.proofs.Untouched.{untouched_start, untouched_set, each_none, each_push}
+use Rattle.vd_play.specs.Setting.{setting_of}
+use Rattle.vd_play.proofs.Untouched.{untouched_start, untouched_set, idle_of, each_none, each_push}
 use Rattle.vd_play.proofs.preparing.prepare.Goals as goal
 
 pub returns-in_err-lanes-clause-untouched : goal.returns-in_err-lanes-clause-untouched
@@ -32,7 +33,7 @@ make_lane-requires-clause-guest g c =
     let hg = slice_get_read c.loop-i.bench.guests.items _ i c.index_mut.result.now refl (omega (arith, f.guests)) c.index_mut.ensures.value in
     let hx = slice_get_read c.loop-i.bench.devices.items _ i c.index_mut-in-loop-i.result.now refl (omega (arith, f.devices)) c.index_mut-in-loop-i.ensures.value in
     let old = sym (c.loop-i.invariant.keeps.other_devices i (omega arith)) ∙ hx in
-    All-at (λ x. g.G.Guest.party.script x ≡ None) c.args.bench.now.guests.items i c.index_mut.result.now (sym (c.loop-i.invariant.keeps.other_guests i (omega arith)) ∙ hg) c.requires.empty.guests
+    All-at (IsEmptyGuest g.G.Guest.party) c.args.bench.now.guests.items i c.index_mut.result.now (sym (c.loop-i.invariant.keeps.other_guests i (omega arith)) ∙ hg) c.requires.empty.guests
 
 pub make_lane-requires-clause-device : goal.make_lane-requires-clause-device
 make_lane-requires-clause-device g c =
@@ -88,4 +89,16 @@ loop-i-preserved g c =
       keeps = keeps;
       untouched = untouched_set g.G.Guest.party g.V.Device.party c.args.bench.now c.loop-i.bench new i c.make_lane.new.guest c.index_mut-in-loop-i.result.now c.make_lane.new.device c.loop-i.invariant.untouched refl refl c.make_lane.ensures.guest old c.make_lane.ensures.device;
       each = each_push _ i c.loop-i.lanes.items c.push_reserved.new.self.items _ _ c.in_ok-lane.lane c.make_lane.new.guest c.make_lane.new.device c.push_reserved.ensures.items c.loop-i.invariant.many c.loop-i.invariant.each c.in_ok-lane.ensures.ok;
+    }
+
+pub returns-clause-ok : goal.returns-clause-ok
+returns-clause-ok g c =
+    let s = setting_of g.L.Driver.DriverEnd.driver g.L.Device.DeviceEnd.device g.L.Layout.layout g.G.Guest.party g.V.Device.party in
+    let v = c.loop-i.invariant in
+    let end : c.loop-i.i ≡ length c.args.m.now.queues = omega arith in
+    record {
+      many = v.many ∙ end;
+      parties = v.parties;
+      each = v.each;
+      idle = idle_of s c.args.bench.now c.loop-i.bench c.requires.empty v.untouched (same_many g.V.Device.party c.loop-i.i c.args.bench.now c.loop-i.bench v.keeps);
     }

@@ -1,9 +1,10 @@
 use Rattle.std.proofs.Common.{◌≡◌, ◌≤◌, length, vec_len, vec_capacity}
 use Rattle.vd_machine.specs.File.{view}
 use Rattle.vd_play.specs.Each.{EachLane, HasLanes}
-use Rattle.vd_play.specs.Lane.{Stopped}
+use Rattle.vd_play.specs.Progress.{Stopped}
 use Rattle.vd_play.specs.Played.{KeepsBench}
 use Rattle.vd_play.specs.Prepared.{IsUntouched}
+use Rattle.vd_play.specs.Setting.{setting_of}
 use Rattle.vd_play.proofs.preparing.prepare.Given as goal
 
 abbrev pub invariant-loop-i : goal.invariant-loop-i
@@ -13,5 +14,5 @@ invariant-loop-i g l = record {
   parties : HasLanes (length l.m.queues) l.bench;
   keeps : KeepsBench g.V.Device.party l.i l.initial.bench l.bench;
   untouched : IsUntouched g.G.Guest.party g.V.Device.party l.initial.bench l.bench;
-  each : EachLane (λ q a b x. Stopped g.L.Device.DeviceEnd.device g.L.Layout.layout g.G.Guest.party g.V.Device.party (view l.m) q 0 a b x) l.lanes.items l.bench.guests.items l.bench.devices.items;
+  each : EachLane (λ q a b x. Stopped (setting_of g.L.Driver.DriverEnd.driver g.L.Device.DeviceEnd.device g.L.Layout.layout g.G.Guest.party g.V.Device.party) (view l.m) q 0 a b x) l.lanes.items l.bench.guests.items l.bench.devices.items;
 }

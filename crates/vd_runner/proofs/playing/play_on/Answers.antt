@@ -1,6 +1,7 @@
 use Rattle.std.proofs.Common.{length, arith, refl, subst, sym}
 use Rattle.vd_machine.specs.File.{view}
 use Rattle.vd_play.specs.Played.{faulty}
+use Rattle.vd_play.specs.Setting.{setting_of}
 use Rattle.vd_runner.specs.declared.status.Status.{Status}
 use Rattle.vd_runner.specs.Outcome.{PlaysTo}
 use Rattle.vd_runner.proofs.Prepared.{keeps_on, calm_on, fault_on}
@@ -36,7 +37,7 @@ returns-in-Err-report-clause-answer g c =
         played = c.in-Ok-play_machine.ensures.played;
       },
       c.in-Err-report.ensures.err,
-      c.in-Err-report.ensures.cause.failed,
+      omega (arith, c.in-Err-report.ensures.cause.failed),
     )
 
 pub returns-in-Err-clause-answer : goal.returns-in-Err-clause-answer
@@ -45,7 +46,7 @@ returns-in-Err-clause-answer g c =
     let m = g.V.Device.party in
     let held = g.K.Sink.held c.args.sink.now in
     let count = g.K.Sink.faults c.args.sink.now in
-    let way = λ (s : Status). PlaysTo g.L.Device.DeviceEnd.device g.L.Layout.layout g.G.Guest.party m (view c.args.m.now) c.args.brief c.args.bench.now c.play_machine.new.bench held held count count s in
+    let way = λ (s : Status). PlaysTo (setting_of g.L.Driver.DriverEnd.driver g.L.Device.DeviceEnd.device g.L.Layout.layout g.G.Guest.party g.V.Device.party) (view c.args.m.now) c.args.brief c.args.bench.now c.play_machine.new.bench held held count count s in
     subst way (sym c.status_of.ensures) (
       record {
         parties = record {

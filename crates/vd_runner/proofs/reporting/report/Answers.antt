@@ -1,6 +1,7 @@
 use Rattle.std.proofs.Common.{◌≡◌, ◌<◌, ◌≤◌, length, take_all, arith, refl, ◌∙◌, ap, sym}
 use Rattle.vd_bus.specs.Device.{lens_of}
 use Rattle.vd_machine.specs.File.{view}
+use Rattle.vd_play.specs.Setting.{setting_of}
 use Rattle.vd_runner.specs.Report.{report, all_lens, drained_line, drained}
 use Rattle.vd_runner.proofs.Midway.{begin, go_on, broken_off, broken_off_last}
 use Rattle.vd_runner.proofs.Queues.{queue_at, last_queue, drained_at, many_lens, lens_at, back}
@@ -8,7 +9,7 @@ use Rattle.vd_runner.proofs.reporting.report.Goals as goal
 
 pub loop-queue-init : goal.loop-queue-init
 unfolding report
-loop-queue-init g c = record { midway = begin _ _; drained = refl; small = omega arith; later = omega arith }
+loop-queue-init g c = record { midway = begin _ _; drained = refl; small = omega arith; same = refl }
 
 pub returns-in-Err-clause-err : goal.returns-in-Err-clause-err
 returns-in-Err-clause-err g c =
@@ -36,12 +37,12 @@ loop-queue-preserved g c =
     let inside : k < length all = omega (arith, below, many) in
     let lens = lens_at m plan bench k c.index.result.now c.requires.parties.devices below c.index.ensures ∙ ap (λ bs. lens_of bs) (sym c.journal-journal.ensures.begun) in
     let here = rw (queue_at plan c.args.brief all k (lens_of c.journal-journal.result.now.begun.items) (drained_line (drained all)) inside lens) at c.loop-queue.invariant.midway in
-    let count = back g.L.Device.DeviceEnd.device g.L.Layout.layout g.G.Guest.party m plan bench k c.index-in-loop-queue.result.now c.index.result.now c.requires.parties c.requires.played below c.index-in-loop-queue.ensures c.index.ensures in
+    let count = back (setting_of g.L.Driver.DriverEnd.driver g.L.Device.DeviceEnd.device g.L.Layout.layout g.G.Guest.party g.V.Device.party) plan bench k c.index-in-loop-queue.result.now c.index.result.now c.requires.parties c.requires.played below c.index-in-loop-queue.ensures c.index.ensures in
     record {
       midway = go_on _ _ _ _ _ _ here c.in-Ok.ensures.ok;
       drained = omega (arith, c.loop-queue.invariant.drained, drained_at all k inside, ap length (lens_at m plan bench k c.index.result.now c.requires.parties.devices below c.index.ensures), count, ap length c.returned.ensures);
       small = omega (arith, c.loop-queue.invariant.small, c.returned.type_inv);
-      later = omega (arith, c.loop-queue.invariant.later, c.in-Ok.ensures.cause.later);
+      same = c.in-Ok.ensures.cause.ok ∙ c.loop-queue.invariant.same;
     }
 
 pub returns-in-Err-put_line-clause-err : goal.returns-in-Err-put_line-clause-err

@@ -9,5 +9,5 @@ invariant-loop-queue g l = record {
   midway : Midway (g.K.Sink.held l.fn.sink) (g.K.Sink.held l.sink) (report (view l.m) l.brief (all_lens g.V.Device.party (view l.m) l.bench)) (all_queue_lines (view l.m) l.brief l.queue (drop l.queue (all_lens g.V.Device.party (view l.m) l.bench)) ++ drained_line (drained (all_lens g.V.Device.party (view l.m) l.bench)));
   drained : l.drained ≡ drained (take l.queue (all_lens g.V.Device.party (view l.m) l.bench));
   small : l.drained ≤ l.queue * 2 ^ 60;
-  later : g.K.Sink.faults l.fn.sink ≤ g.K.Sink.faults l.sink;
+  same : g.K.Sink.faults l.sink ≡ g.K.Sink.faults l.fn.sink;
 }

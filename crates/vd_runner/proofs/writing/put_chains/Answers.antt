@@ -1,4 +1,4 @@
-use Rattle.std.proofs.Common.{arith}
+use Rattle.std.proofs.Common.{arith, ◌∙◌, refl}
 use Rattle.vd_runner.proofs.Midway.{go_on, broken_off}
 use Rattle.vd_runner.proofs.Lines.{chain_at}
 use Rattle.vd_runner.proofs.writing.put_chains.Goals as goal
@@ -13,5 +13,5 @@ loop-chain-preserved g c =
     let m = rw (chain_at c.args.queue c.args.begun.now c.loop-chain.chain c.index-begun-chain.result c.loop-chain-test.true) at c.loop-chain.invariant.midway in
     record {
       midway = go_on _ _ _ _ _ _ m (rw c.chain_line.ensures at c.in-Ok.ensures.ok);
-      later = omega (arith, c.loop-chain.invariant.later, c.in-Ok.ensures.cause.later);
+      same = c.in-Ok.ensures.cause.ok ∙ c.loop-chain.invariant.same;
     }

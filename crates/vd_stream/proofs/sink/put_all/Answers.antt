@@ -1,4 +1,4 @@
-use Rattle.std.proofs.Common.{arith, sym, take, drop, take-append-drop}
+use Rattle.std.proofs.Common.{◌∙◌, arith, sym, take, drop, take-append-drop}
 use Rattle.std.proofs.lemmas.List.{take_rest}
 use Rattle.vd_stream.proofs.Steps.{appends_more, appends_kept}
 use Rattle.vd_stream.proofs.sink.put_all.Goals as goal
@@ -6,7 +6,7 @@ use Rattle.vd_stream.proofs.sink.put_all.Goals as goal
 pub loop-at-preserved : goal.loop-at-preserved
 loop-at-preserved g c = record {
   held = appends_more _ _ _ c.args.bytes.now c.loop-at.at c.in-Ok.count c.loop-at.invariant.held (rw (take_rest c.args.bytes.now c.loop-at.at) at c.in-Ok.ensures.bytes);
-  later = omega (arith, c.in-Ok.ensures.cause.later, c.loop-at.invariant.later);
+  same = c.in-Ok.ensures.cause.ok ∙ c.loop-at.invariant.same;
   within = omega (arith, c.in-Ok.ensures.bound);
 }
 

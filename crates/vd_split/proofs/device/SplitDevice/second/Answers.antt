@@ -1,4 +1,4 @@
-use Rattle.std.proofs.Common.{ℕ, Bool, false, ◌≡◌, ◌&&◌, ◌+◌, ◌*◌, ◌++◌, ◌∷◌, [], not, Some, arith, sym, ap, ◌∙◌, subst}
+use Rattle.std.proofs.Common.{ℕ, Bool, false, ◌≡◌, ◌&&◌, ◌+◌, ◌*◌, ◌++◌, ◌∷◌, [], not, Some, sym, ap, ◌∙◌, subst}
 use Rattle.std.specs.Vec.{with_item}
 use Rattle.vd_model.specs.declared.chain.Piece.{Piece}
 use Rattle.vd_model.specs.Chains.{IsChain}

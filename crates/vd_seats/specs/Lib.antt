@@ -1,0 +1,6 @@
+pub mod Rule
+pub mod Seat
+pub mod Closing
+pub mod Fresh
+pub mod Asleep
+pub mod Open

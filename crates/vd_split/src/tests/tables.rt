@@ -1,0 +1,111 @@
+//! Both ends with tables: a worked row, and many operations against the format.
+use super::chains::mixed;
+use super::format::Format;
+use super::rig::Rig;
+use super::rows::{IN, OUT, words_are};
+use super::table::{Case, operate, words_agree};
+use std::test::*;
+use vd_layout::{DeviceAct, DriverAct};
+use vd_model::{Chain, Features, Piece};
+
+/// Whole operations, with a place for any chain.
+#[test]
+fn words_are_as_the_format_has_them_with_tables(rt: HostRuntime) -> Result<(), Fail> {
+    for size in [2, 4, 8] {
+        for (event_idx, in_order, disorder, rests) in [
+            (false, false, 8, false),
+            (false, true, 0, true),
+            (true, false, 4, true),
+            (true, true, 0, true),
+        ] {
+            let f = Features {
+                indirect: true,
+                event_idx,
+                in_order,
+            };
+            let case = Case { disorder, rests };
+            let mut rig = Rig::tabled(rt.alloc(), size, f)?;
+            let mut format = Format::new(size, true, event_idx);
+            for i in 0..2000u32 {
+                assert!(rt; operate(&mut rig, &mut format, &case, mixed(i)));
+                assert!(rt; words_agree(&rig, &format));
+                assert!(rt; rig.whole() == format.whole());
+                assert!(rt; rig.armed() == format.armed());
+            }
+            assert!(rt; format.collected > 20);
+        }
+    }
+    Ok(())
+}
+
+/// Fifteen readable pieces of a byte, and a writable one.
+fn longest_chain() -> Chain {
+    let byte = Piece {
+        addr: 4096,
+        len: 1,
+        write: false,
+    };
+    let mut c = Chain::new(byte);
+    for _ in 1..15u32 {
+        let _ = c.push(byte);
+    }
+    let _ = c.push(OUT);
+    c
+}
+
+/// A ring of two places takes chains of sixteen pieces by tables.
+#[test]
+fn a_table_stands_in_the_words(rt: HostRuntime) -> Result<(), Fail> {
+    let indirect = Features {
+        indirect: true,
+        event_idx: false,
+        in_order: false,
+    };
+    let mut rig = Rig::tabled(rt.alloc(), 2, indirect)?;
+    let long = longest_chain();
+    assert_eq!(rt; long.pieces().len(), 16);
+    assert!(rt; rig.offer(&long) == Some(DriverAct::Offered(0)));
+    assert!(rt; rig.offer(&Chain::new(IN)) == Some(DriverAct::Offered(1)));
+    assert!(rt; rig.offer(&Chain::new(IN)).is_none());
+    // the table of place 0 begins with word 9; place 1 has a descriptor of its own
+    assert!(rt; words_are(&rig, &[0x48, 0x4_0000_0100, 0x1000, 0xa]));
+    for i in 0..15u64 {
+        let place = 9 + 2 * i as u32;
+        assert_eq!(rt; rig.word(place), 0x1000);
+        assert_eq!(rt; rig.word(place + 1), i + 1 << 48 | 0x1_0000_0001);
+    }
+    assert_eq!(rt; rig.word(39), 0x2000);
+    assert_eq!(rt; rig.word(40), 0x2_0000_0040);
+    for place in 41..73u32 {
+        assert_eq!(rt; rig.word(place), 0);
+    }
+    match rig.take() {
+        Some(DeviceAct::Taken(0, c)) => assert!(rt; c.pieces() == long.pieces()),
+        _ => assert!(rt; false),
+    }
+    assert!(rt; matches!(rig.take(), Some(DeviceAct::Taken(1, _))));
+    assert!(rt; matches!(rig.give(0, 15), Some(DeviceAct::Given(0))));
+    assert!(rt;
+        rig.collect()
+            == Some(DriverAct::Collected {
+                number: 0,
+                len: 15,
+                head: 0
+            })
+    );
+    // the next chain has place 0 and its table, and leaves the rest of the one before there
+    let mut two = Chain::new(IN);
+    assert!(rt; two.push(OUT).is_ok());
+    assert!(rt; rig.offer(&two) == Some(DriverAct::Offered(2)));
+    assert!(rt; words_are(&rig, &[0x48, 0x4_0000_0020, 0x1000, 0xa]));
+    assert_eq!(rt; rig.word(9), 0x1000);
+    assert_eq!(rt; rig.word(10), 0x1_0001_0000_000a);
+    assert_eq!(rt; rig.word(11), 0x2000);
+    assert_eq!(rt; rig.word(12), 0x2_0000_0040);
+    assert_eq!(rt; rig.word(14), 0x3_0001_0000_0001);
+    match rig.take() {
+        Some(DeviceAct::Taken(2, c)) => assert!(rt; c.pieces() == two.pieces()),
+        _ => assert!(rt; false),
+    }
+    Ok(())
+}
