@@ -1,11 +1,12 @@
 //! An idle end and the seat's port on which it works. An operation that isn't possible isn't made.
-ghost use Rattle.std.specs.Prelude.{◌≡◌, IfOk};
+ghost use Rattle.std.specs.Prelude.{◌≡◌, ◌≤◌, IfOk, [], ◌∷◌};
+ghost use Rattle.vd_model.specs.declared.chain.Piece.{Piece};
 ghost use Rattle.vd_layout.specs.Layout.{CanMake};
 
 use std::alloc::{AllocError, Global};
 use std::marker::Model;
 use vd_layout::{DeviceAct, DeviceEnd, DriverAct, DriverEnd, Layout, finish_device, finish_driver};
-use vd_model::{Chain, Features, Piece};
+use vd_model::{Chain, Features};
 use vd_seats::{Counts, RingTable, SeatPort};
 
 #[derive(Drop)]
@@ -84,22 +85,22 @@ pub fn close<L: Layout>(
 }
 
 impl<L: Layout> DriverHalf<L> {
-    /// Offers a chain of one piece where there is room for it.
-    pub fn offer(&mut self, p: Piece) -> Option<DriverAct>
+    /// Offers a chain of one piece where there is room for it and the driver isn't armed.
+    pub fn offer(&mut self, chain: &Chain) -> Option<DriverAct>
+        requires { (p : Piece) × (chain.now ≡ p ∷ []) × (p.len ≤ 4294967295) }
         ensures { self.new ≡ self.old }
     {
         if self.end.armed() {
             return None;
         }
-        let chain = Chain::new(p);
         let _ = chain.pieces();
         if self.end.offered() >= 1_000_000_000 {
             return None;
         }
-        if !self.end.room(&chain) {
+        if !self.end.room(chain) {
             return None;
         }
-        self.end.begin_offer(&chain);
+        self.end.begin_offer(chain);
         Some(finish_driver(&mut self.end, &mut self.port))
     }
 

@@ -1,5 +1,7 @@
 //! Chains through a ring in a table, timed from outside. Prints a checksum.
 #![tactic(auto)]
+ghost use Rattle.std.specs.Prelude.{◌≡◌, ◌≤◌, [], ◌∷◌};
+ghost use Rattle.vd_model.specs.declared.chain.Piece.{Piece};
 ghost use Rattle.vd_layout.specs.Layout.{CanMake};
 
 mod halves;
@@ -12,7 +14,7 @@ use std::env;
 use std::env::Args;
 use threads::{move_packed, move_split};
 use vd_layout::{DeviceAct, DriverAct, Layout};
-use vd_model::{Features, Piece};
+use vd_model::{Chain, Features, Piece};
 use vd_packed::Packed;
 use vd_split::Split;
 
@@ -31,19 +33,24 @@ enum Kind {
     TwoPacked,
 }
 
-fn piece(k: u32) -> Piece {
-    Piece {
-        addr: (k as u64) << 12,
-        len: 64,
-        write: false,
-    }
-}
+const PIECE: Piece = Piece {
+    addr: 4096,
+    len: 64,
+    write: false,
+};
 
-/// Offers, takes, gives and collects so many chains.
-fn round<L: Layout>(driver: &mut DriverHalf<L>, device: &mut DeviceHalf<L>, window: u32) -> u64 {
+/// Offers, takes, gives and collects so many chains of one piece.
+fn round<L: Layout>(
+    driver: &mut DriverHalf<L>,
+    device: &mut DeviceHalf<L>,
+    chain: &Chain,
+    window: u32,
+) -> u64
+    requires { (p : Piece) × (chain.now ≡ p ∷ []) × (p.len ≤ 4294967295) }
+{
     let mut sum = 0u64;
-    for k in 0..window {
-        let _ = driver.offer(piece(k));
+    for _ in 0..window {
+        let _ = driver.offer(chain);
     }
     for _ in 0..window {
         if let Some(DeviceAct::Taken(number, chain)) = device.take() {
@@ -64,8 +71,9 @@ fn run<L: Layout>(alloc: Global, size: u32, rounds: u32, window: u32) -> Result<
 {
     let (_table, mut driver, mut device) = ring::<L>(alloc, size, PLAIN)?;
     let mut sum = 0u64;
+    let chain = Chain::new(PIECE);
     for _ in 0..rounds {
-        sum = sum.wrapping_add(round(&mut driver, &mut device, window));
+        sum = sum.wrapping_add(round(&mut driver, &mut device, &chain, window));
     }
     Ok(sum)
 }

@@ -9,7 +9,7 @@ use std::sync::Wait;
 use std::thread;
 use std::thread::{Threads, join};
 use vd_layout::{DeviceAct, DriverAct, Layout};
-use vd_model::Piece;
+use vd_model::{Chain, Piece};
 use vd_packed::Packed;
 use vd_seats::Counts;
 use vd_split::Split;
@@ -25,11 +25,12 @@ fn drive<R: Wait, L: Layout>(rt: &R, mut half: DriverHalf<L>, count: u32) -> (Dr
             break;
         }
         if offered < count {
-            let _ = half.offer(Piece {
+            let chain = Chain::new(Piece {
                 addr: (offered as u64) << 12,
                 len: 64,
                 write: true,
             });
+            let _ = half.offer(&chain);
         }
         match half.collect() {
             Some(DriverAct::Collected { number, len, .. }) => {
