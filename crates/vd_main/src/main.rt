@@ -5,8 +5,8 @@ mod bench;
 
 use bench::model_bench;
 use std::alloc::{AllocError, Global};
-use std::process::ExitCode;
 use std::io::{BufWriter, Write};
+use std::process::ExitCode;
 use std::{env, io};
 use vd_machine::MachineFault;
 use vd_packed::Packed;

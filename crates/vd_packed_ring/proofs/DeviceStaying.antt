@@ -68,7 +68,7 @@ looks v r seen seen' tells true t = record {
 -- the second look of an arming
 second : (v : DeviceView) (r seen seen' : ℕ) (tells : Type 0) (b : Bool) → (tells → v.shown ≡ true → b ≡ true)
     → At (record v { doing = now.Arming }) op.Arm tells b (if b then woken_act v.frame else act.Armed)
-        (if b then record v { seen = seen; shown = true; armed = Rattle.std.proofs.Common.None; doing = device_wakes v.frame op.Arm } else record v { seen = seen'; shown = false; doing = now.Idle })
+    (if b then record v { seen = seen; shown = true; armed = Rattle.std.proofs.Common.None; doing = device_wakes v.frame op.Arm } else record v { seen = seen'; shown = false; doing = now.Idle })
 second v r seen seen' tells false t = record {
   arms = λ e f. absurd (cc f);
   armed = λ e. refl;
@@ -87,6 +87,7 @@ second v r seen seen' tells true t = record {
     woken : (f : Bool) → (if f then act.Awake else act.Moved) ≡ act.Armed → ⊥
     woken true e = cc e
     woken false e = cc e
+
     slept : (f : Bool) → (if f then act.Awake else act.Moved) ≡ act.Asleep → ⊥
     slept true e = cc e
     slept false e = cc e

@@ -18,6 +18,7 @@ const FILE: &str =
     "layout = \"split\"\nsize = 4\nregions = [{ addr = 4096, size = 8192 }]\nqueues = [[\"r4096+10 w8192+64\"]]\n";
 
 type Guests<'a> = RecordingGuest<'a, ModelGuest<Split>>;
+
 type Devices<'a> = RecordingDevice<'a, ModelDevice<Split>>;
 
 /// A bench of one guest and one device that record by the clock.
@@ -70,14 +71,25 @@ fn steps_at(
 #[test]
 fn steps_follow_the_schedule(rt: HostRuntime) -> Result<(), Fail> {
     let alloc = rt.alloc();
-    let guest = [0, 2, 4, 6, 8, 10, 12, 14, 16, 18, 20, 22, 24, 26, 28, 30, 32, 34, 36, 38, 40, 42, 44, 46, 48];
-    let device = [1, 3, 5, 7, 9, 11, 13, 15, 17, 19, 21, 23, 25, 27, 29, 31, 33, 35, 37, 39, 41, 43, 45, 47];
+    let guest = [
+        0, 2, 4, 6, 8, 10, 12, 14, 16, 18, 20, 22, 24, 26, 28, 30, 32, 34, 36, 38, 40, 42, 44, 46,
+        48,
+    ];
+    let device = [
+        1, 3, 5, 7, 9, 11, 13, 15, 17, 19, 21, 23, 25, 27, 29, 31, 33, 35, 37, 39, 41, 43, 45, 47,
+    ];
     assert!(rt; steps_at(alloc, None, &guest, &device)?);
     let guest = [0, 1, 2, 3, 5, 6, 8, 9, 14, 19, 24, 25, 26, 27, 31];
-    let device = [4, 7, 10, 11, 12, 13, 15, 16, 17, 18, 20, 21, 22, 23, 28, 29, 30, 32, 33];
+    let device = [
+        4, 7, 10, 11, 12, 13, 15, 16, 17, 18, 20, 21, 22, 23, 28, 29, 30, 32, 33,
+    ];
     assert!(rt; steps_at(alloc, Some(0), &guest, &device)?);
-    let guest = [0, 1, 2, 3, 6, 8, 9, 10, 11, 16, 21, 22, 25, 30, 32, 33, 36, 37];
-    let device = [4, 5, 7, 12, 13, 14, 15, 17, 18, 19, 20, 23, 24, 26, 27, 28, 29, 31, 34, 35];
+    let guest = [
+        0, 1, 2, 3, 6, 8, 9, 10, 11, 16, 21, 22, 25, 30, 32, 33, 36, 37,
+    ];
+    let device = [
+        4, 5, 7, 12, 13, 14, 15, 17, 18, 19, 20, 23, 24, 26, 27, 28, 29, 31, 34, 35,
+    ];
     assert!(rt; steps_at(alloc, Some(9), &guest, &device)?);
     Ok(())
 }

@@ -67,31 +67,31 @@ pub fn vdpa<
     ensures device_fault { (q : ℕ) → result ≡ Status.DeviceFault q
         → OfMachine (S.left source.old) (S.left source.new) (λ plan. OfLayout plan.packed
         (IsCutOff (setting_of split_driver split_device split_layout GS.party VS.party) plan q split.old split.new
-            × (packed.new ≡ packed.old))
+        × (packed.new ≡ packed.old))
         (IsCutOff (setting_of packed_driver packed_device packed_layout GP.party VP.party) plan q packed.old packed.new
-            × (split.new ≡ split.old))) }
+        × (split.new ≡ split.old))) }
     // What was played and written.
     ensures done { result ≡ Status.Ok → OfMachine (S.left source.old) (S.left source.new) (λ plan. OfLayout plan.packed
         (IsWellPlayed (setting_of split_driver split_device split_layout GS.party VS.party) plan split.old split.new
-            × (packed.new ≡ packed.old)
-            × Appends (K.held sink.old) (K.held sink.new) (report plan false (all_lens VS.party plan split.new)))
+        × (packed.new ≡ packed.old)
+        × Appends (K.held sink.old) (K.held sink.new) (report plan false (all_lens VS.party plan split.new)))
         (IsWellPlayed (setting_of packed_driver packed_device packed_layout GP.party VP.party) plan packed.old packed.new
-            × (split.new ≡ split.old)
-            × Appends (K.held sink.old) (K.held sink.new) (report plan false (all_lens VP.party plan packed.new)))) }
+        × (split.new ≡ split.old)
+        × Appends (K.held sink.old) (K.held sink.new) (report plan false (all_lens VP.party plan packed.new)))) }
     ensures part { result ≡ Status.WriteFault → OfMachine (S.left source.old) (S.left source.new) (λ plan. OfLayout plan.packed
         (IsWellPlayed (setting_of split_driver split_device split_layout GS.party VS.party) plan split.old split.new
-            × (packed.new ≡ packed.old)
-            × AppendsFront (K.held sink.old) (K.held sink.new) (report plan false (all_lens VS.party plan split.new)))
+        × (packed.new ≡ packed.old)
+        × AppendsFront (K.held sink.old) (K.held sink.new) (report plan false (all_lens VS.party plan split.new)))
         (IsWellPlayed (setting_of packed_driver packed_device packed_layout GP.party VP.party) plan packed.old packed.new
-            × (split.new ≡ split.old)
-            × AppendsFront (K.held sink.old) (K.held sink.new) (report plan false (all_lens VP.party plan packed.new)))) }
+        × (split.new ≡ split.old)
+        × AppendsFront (K.held sink.old) (K.held sink.new) (report plan false (all_lens VP.party plan packed.new)))) }
     // Where memory was wanting, the bench of the machine's layout has its parties still, and the other is as it was.
     ensures memory { result ≡ Status.Memory → ((split.new ≡ split.old) × (packed.new ≡ packed.old))
         ⊎ OfMachine (S.left source.old) (S.left source.new) (λ plan. OfLayout plan.packed
         (IsUnplayed (setting_of split_driver split_device split_layout GS.party VS.party) plan split.old split.new
-            × (packed.new ≡ packed.old))
+        × (packed.new ≡ packed.old))
         (IsUnplayed (setting_of packed_driver packed_device packed_layout GP.party VP.party) plan packed.old packed.new
-            × (split.new ≡ split.old))) }
+        × (split.new ≡ split.old))) }
     // What every other answer leaves.
     ensures unwritten { has_written result ≡ false → K.held sink.new ≡ K.held sink.old }
     ensures nothing { has_played result ≡ false

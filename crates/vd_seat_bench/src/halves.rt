@@ -66,11 +66,7 @@ pub fn ring<L: Layout>(
 }
 
 /// Closes the table of both halves.
-pub fn close<L: Layout>(
-    table: RingTable<L>,
-    driver: DriverHalf<L>,
-    device: DeviceHalf<L>,
-) -> Counts
+pub fn close<L: Layout>(table: RingTable<L>, driver: DriverHalf<L>, device: DeviceHalf<L>) -> Counts
     requires { (driver ≡ table) × (device ≡ table) }
 {
     let DriverHalf {

@@ -1,5 +1,6 @@
 //! Chains through a ring in a table, timed from outside. Prints a checksum.
 #![tactic(auto)]
+
 ghost use Rattle.std.specs.Prelude.{◌≡◌, ◌≤◌, [], ◌∷◌};
 ghost use Rattle.vd_model.specs.declared.chain.Piece.{Piece};
 ghost use Rattle.vd_layout.specs.Layout.{CanMake};

@@ -67,7 +67,7 @@ looks v r seen tells false t = record {
 -- the second look of an arming
 second : (v : DriverView) (r seen : ℕ) (tells : Type 0) (b : Bool) → (tells → v.shown ≡ true → b ≡ false)
     → At (record v { doing = now.Arming }) op.Arm tells (not b) (if b then act.Armed else woken_act v.frame)
-        (if b then record v { seen = seen; shown = false; doing = now.Idle } else record v { seen = seen; shown = true; armed = Rattle.std.proofs.Common.None; doing = driver_wakes v.frame op.Arm })
+    (if b then record v { seen = seen; shown = false; doing = now.Idle } else record v { seen = seen; shown = true; armed = Rattle.std.proofs.Common.None; doing = driver_wakes v.frame op.Arm })
 second v r seen tells true t = record {
   arms = λ e f. absurd (cc f);
   armed = λ e. refl;
@@ -86,6 +86,7 @@ second v r seen tells false t = record {
     woken : (f : Bool) → (if f then act.Awake else act.Moved) ≡ act.Armed → ⊥
     woken true e = cc e
     woken false e = cc e
+
     slept : (f : Bool) → (if f then act.Awake else act.Moved) ≡ act.Asleep → ⊥
     slept true e = cc e
     slept false e = cc e
