@@ -83,7 +83,7 @@ finish_next e v r w is st =
 
 pub finish_goes : (e : SplitDriver) (v : DriverView) (r w x : ℕ) (e' : SplitDriver) (number : ℕ) → e.doing ≡ step.Finish r w → DriverStands e v → (hit : Found e.free.items e.free.capacity e.slots.items v.frame v.done (lane32 w 1)) → number ≡ hit.number
     → e'.free.items ≡ e.free.items ++ places v.frame v.done hit.number → e'.free.capacity ≡ e.free.capacity
-    → Goes e (record e { collected = e.collected + 1; used = next_place e.used e.size; free = e'.free; shown = not (shows r (e.collected + 1)); doing = step.Idle }) v op.Collect (Load (used_area e.size + e.used + 1)) x (act.Collected number (lane32 x 0) (lane32 w 1))
+    → Goes e (record e { collected = e.collected + 1; used = next_place e.used e.size; free = e'.free; shown = not (shows r (e.collected + 1)); got = e'.got; doing = step.Idle }) v op.Collect (Load (used_area e.size + e.used + 1)) x (act.Collected number (lane32 x 0) (lane32 w 1))
 finish_goes e v r w x e' number is st hit same items capacity =
     let f : Frame = v.frame in let o : List DriverDone = v.done in let k : ℕ = hit.number in
     let n : DriverStepStands (step.Finish r w) e.pieces.items f o v.doing = subst (λ t. DriverStepStands t e.pieces.items f o v.doing) is st.doing in
@@ -92,7 +92,7 @@ finish_goes e v r w x e' number is st hit same items capacity =
     let one : us ≡ entry k (lane32 x 0) ∷ [] = collects_one f o (lane32 w 1) (lane32 x 0) k st.holds.held hit.is_open hit.is_head hit.in_order in
     let longer = length_push (collects o) (entry k (lane32 x 0)) in
     let off : e.armed ≡ false = subst (λ t. DriverStepArmed t e.armed) is st.signals.awake in
-    let e2 : SplitDriver = record e { collected = e.collected + 1; used = next_place e.used e.size; free = e'.free; shown = not (shows r (e.collected + 1)); doing = step.Idle } in
+    let e2 : SplitDriver = record e { collected = e.collected + 1; used = next_place e.used e.size; free = e'.free; shown = not (shows r (e.collected + 1)); got = e'.got; doing = step.Idle } in
     let w2 : DriverView = record v { done = Collect (entry k (lane32 x 0) ∷ []) ∷ o; shown = not (shows r (length (collects o ++ entry k (lane32 x 0) ∷ []))); doing = now.Idle } in
     let is_after : driver_after v op.Collect (Load p) x ≡ w2 = ap (λ t. driver_after_at t v op.Collect (Load p) x) n.0 ∙ ap (λ (ys : List Used). record v { done = Collect ys ∷ o; shown = not (shows r (length (collects o ++ ys))); doing = now.Idle }) one in
     record {

@@ -1,12 +1,17 @@
--- What a step of the device's end answers.
+-- What a step of an end answers.
 use Rattle.std.specs.Prelude.{List}
 use Rattle.vd_model.specs.declared.chain.Piece.{Piece}
 use Rattle.vd_ring.specs.declared.act.DeviceAct.{DeviceAct}
 use Rattle.vd_ring.specs.declared.act.DeviceAct.TheVariants as act
+use Rattle.vd_ring.specs.declared.act.DriverAct.{DriverAct}
+use Rattle.vd_ring.specs.declared.act.DriverAct.TheVariants as driver_act
 use Rattle.vd_split.specs.declared.device.DeviceStep.{DeviceStep}
 use Rattle.vd_split.specs.declared.device.DeviceStep.TheVariants as step
 use Rattle.vd_split.specs.declared.driver.DriverStep.{DriverStep}
 use Rattle.vd_split.specs.declared.driver.DriverStep.TheVariants as driver
+use Rattle.vd_split.specs.declared.driver.Collected.{Collected}
+use Rattle.vd_split.specs.declared.driver.DriverTold.{DriverTold}
+use Rattle.vd_split.specs.declared.driver.DriverTold.TheVariants as driver_told
 use Rattle.vd_split.specs.declared.device.Told.{Told}
 use Rattle.vd_split.specs.declared.device.Told.TheVariants as told
 
@@ -20,6 +25,16 @@ act_of told.Armed ps = act.Armed
 act_of told.Awake ps = act.Awake
 act_of told.Asleep ps = act.Asleep
 act_of told.Rested ps = act.Rested
+
+-- the answer of a step of the driver's end that told this, where it keeps this chain
+abbrev pub driver_act_of : DriverTold → Collected → DriverAct
+driver_act_of driver_told.Moved c = driver_act.Moved
+driver_act_of (driver_told.Offered k) c = driver_act.Offered k
+driver_act_of driver_told.Collected c = driver_act.Collected c.number c.len c.head
+driver_act_of driver_told.Nothing c = driver_act.Nothing
+driver_act_of driver_told.Armed c = driver_act.Armed
+driver_act_of driver_told.Awake c = driver_act.Awake
+driver_act_of driver_told.Asleep c = driver_act.Asleep
 
 -- a step of an arming, a hearing, a disarming or a rest
 abbrev pub DeviceSleeps : DeviceStep → Type 0

@@ -44,6 +44,26 @@ pub struct Slot {
     pub places: Places,
 }
 
+/// A collected chain: its number, the length that the device wrote, and its head.
+#[derive(Copy, Clone)]
+pub struct Collected {
+    pub number: u32,
+    pub len: u32,
+    pub head: u32,
+}
+
+/// What a step did. The chain of a collect is kept in the end, so that each step returns a small answer.
+#[derive(Copy, Clone)]
+pub enum DriverTold {
+    Moved,
+    Offered(u32),
+    Collected,
+    Nothing,
+    Armed,
+    Awake,
+    Asleep,
+}
+
 /// The driver's end of a split ring.
 #[derive(Drop)]
 pub struct SplitDriver {
@@ -68,5 +88,7 @@ pub struct SplitDriver {
     pub(crate) bells: u64,
     // the chain of an offer in progress
     pub(crate) pieces: Pieces,
+    // the chain collected last
+    pub(crate) got: Collected,
     pub(crate) doing: DriverStep,
 }

@@ -4,7 +4,7 @@ ghost use Rattle.vd_split.specs.DriverEnd.{split_driver};
 ghost use Rattle.vd_split.specs.DriverLaws.{driver_laws};
 ghost use Rattle.vd_split.specs.Parts.{first_store};
 
-use super::{DriverStep, SplitDriver};
+use super::{DriverStep, DriverTold, SplitDriver};
 use crate::descriptors::place_at;
 use crate::tables::needed;
 use vd_layout::DriverEnd;
@@ -72,7 +72,19 @@ impl DriverEnd for SplitDriver {
 
     #[inline(always)]
     fn step<P: Port>(&mut self, port: &mut P) -> DriverAct {
-        self.advance(port)
+        match self.advance(port) {
+            DriverTold::Moved => DriverAct::Moved,
+            DriverTold::Offered(number) => DriverAct::Offered(number),
+            DriverTold::Collected => DriverAct::Collected {
+                number: self.got.number,
+                len: self.got.len,
+                head: self.got.head,
+            },
+            DriverTold::Nothing => DriverAct::Nothing,
+            DriverTold::Armed => DriverAct::Armed,
+            DriverTold::Awake => DriverAct::Awake,
+            DriverTold::Asleep => DriverAct::Asleep,
+        }
     }
 }
 

@@ -7,7 +7,7 @@ ghost use Rattle.vd_split_ring.specs.SplitWords.{IsLawful, width};
 ghost use Rattle.vd_split.specs.DriverEnd.{IsMadeFor, DriverStands};
 ghost use Rattle.vd_split.specs.Parts.{all_words};
 
-use super::{DriverStep, Slot, SplitDriver};
+use super::{Collected, DriverStep, Slot, SplitDriver};
 use crate::descriptors::zero_words;
 use crate::layout::all_words;
 use crate::pieces::Pieces;
@@ -80,6 +80,11 @@ impl SplitDriver {
             heard: 0,
             bells: 0,
             pieces: Pieces::new(),
+            got: Collected {
+                number: 0,
+                len: 0,
+                head: 0,
+            },
             doing: DriverStep::Idle,
         })
     }

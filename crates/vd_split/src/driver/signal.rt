@@ -8,12 +8,12 @@ ghost use Rattle.vd_split_ring.specs.SplitDriver.{driver_side};
 ghost use Rattle.vd_layout.specs.Driver.{IsDriverStep};
 ghost use Rattle.vd_split.specs.DriverEnd.{DriverStands, split_driver};
 ghost use Rattle.vd_split.specs.Parts.{asks, wanted, event_place};
+ghost use Rattle.vd_split.specs.Telling.{driver_act_of};
 
-use super::{DriverStep, SplitDriver};
+use super::{DriverStep, DriverTold, SplitDriver};
 use crate::descriptors::used_area;
 use vd_bits::lane16;
 use vd_event::{Answer, Due, EventRule};
-use vd_ring::DriverAct;
 use vd_words::{Access, Op, Port};
 
 /// Whether an event word by this rule asks for a signal for the range `old` to `new - 1`.
@@ -74,10 +74,10 @@ impl SplitDriver {
     /// The load of the device's event word, after the index was stored: it answers the device's arming, which looks again after its
     /// own store.
     #[inline(always)]
-    pub(super) fn check<P: Port>(&mut self, port: &mut P, old: u64, new: u64) -> DriverAct
+    pub(super) fn check<P: Port>(&mut self, port: &mut P, old: u64, new: u64) -> DriverTold
         requires now { self.old.doing ≡ DriverStep.Check old new }
         requires own { (v : DriverView) × DriverStands self.old v × IsOwn P.port driver_side port.old v }
-        ensures { (v : DriverView) → DriverStands self.old v → IsOwn P.port driver_side port.old v → IsDriverStep P.port split_driver port.old port.new v self.old self.new result }
+        ensures { (v : DriverView) → DriverStands self.old v → IsOwn P.port driver_side port.old v → IsDriverStep P.port split_driver port.old port.new v self.old self.new (driver_act_of result self.new.got) }
     {
         let event_idx = self.features.event_idx;
         let place = event_place(self.size, event_idx);
@@ -88,20 +88,20 @@ impl SplitDriver {
         } else {
             DriverStep::Idle
         };
-        DriverAct::Moved
+        DriverTold::Moved
     }
 
     /// The store of the bell.
     #[inline(always)]
-    pub(super) fn ring<P: Port>(&mut self, port: &mut P, old: u64, new: u64) -> DriverAct
+    pub(super) fn ring<P: Port>(&mut self, port: &mut P, old: u64, new: u64) -> DriverTold
         requires now { self.old.doing ≡ DriverStep.Ring old new }
         requires own { (v : DriverView) × DriverStands self.old v × IsOwn P.port driver_side port.old v }
-        ensures { (v : DriverView) → DriverStands self.old v → IsOwn P.port driver_side port.old v → IsDriverStep P.port split_driver port.old port.new v self.old self.new result }
+        ensures { (v : DriverView) → DriverStands self.old v → IsOwn P.port driver_side port.old v → IsDriverStep P.port split_driver port.old port.new v self.old self.new (driver_act_of result self.new.got) }
     {
         let bells = self.bells + 1;
         port.access(Op::Offer, Access::Store(self.kick, bells));
         self.bells = bells;
         self.doing = DriverStep::Idle;
-        DriverAct::Moved
+        DriverTold::Moved
     }
 }

@@ -7,6 +7,7 @@ use Rattle.vd_ring.specs.declared.act.DriverAct.TheVariants as act
 use Rattle.vd_ring.specs.declared.driver.DriverView.{DriverView}
 use Rattle.vd_split.specs.declared.driver.SplitDriver.{SplitDriver}
 use Rattle.vd_split.specs.declared.driver.Slot.{Slot}
+use Rattle.vd_split.specs.declared.driver.Collected.{Collected}
 use Rattle.vd_split.specs.declared.driver.DriverStep.TheVariants as step
 use Rattle.vd_split.specs.DriverEnd.{DriverStands}
 use Rattle.vd_split.specs.DriverSteps.{Goes, made}
@@ -40,12 +41,13 @@ returns g c = λ v st own.
     let slot = c.index-slot.ensures ∙ ap (λ k. slice_index_or e.slots.items k c.index-slot.result.now) c.lane32-head.ensures in
     let places_are = c.as_slice.ensures.value ∙ ap (λ (s : Slot). s.places.items) slot ∙ (hit.kept c.index-slot.result.now).1 in
     let number_is = ap (λ (s : Slot). s.number) slot ∙ (hit.kept c.index-slot.result.now).0 in
-    let go = finish_goes e v r w x (record e { free = c.give_back.new.free }) c.index-slot.result.now.number c.requires.now st hit number_is (c.give_back.ensures.items ∙ ap (λ (l : List ℕ). e.free.items ++ l) places_are) c.give_back.ensures.capacity in
+    let got : Collected = record { number = c.index-slot.result.now.number; len = c.lane32-len.result; head = c.lane32-head.result } in
+    let go = finish_goes e v r w x (record e { free = c.give_back.new.free; got = got }) c.index-slot.result.now.number c.requires.now st hit number_is (c.give_back.ensures.items ∙ ap (λ (l : List ℕ). e.free.items ++ l) places_are) c.give_back.ensures.capacity in
     made g.P.Port.port c.args.port.now c.access-last.new.self e
-    (record e { collected = e.collected + 1; used = c.next_place-self.result; free = c.give_back.new.free; shown = not c.shows_count.result; doing = step.Idle }) v op.Collect (Load (c.used_area.result + e.used + 1)) x (act.Collected c.index-slot.result.now.number c.lane32-len.result c.lane32-head.result)
-    (subst (λ k. Goes e (record e { collected = e.collected + 1; used = k; free = c.give_back.new.free; shown = not c.shows_count.result; doing = step.Idle }) v op.Collect (Load (c.used_area.result + e.used + 1)) x (act.Collected c.index-slot.result.now.number c.lane32-len.result c.lane32-head.result)) (sym c.next_place-self.ensures)
-    (subst (λ b. Goes e (record e { collected = e.collected + 1; used = next_place e.used e.size; free = c.give_back.new.free; shown = not b; doing = step.Idle }) v op.Collect (Load (c.used_area.result + e.used + 1)) x (act.Collected c.index-slot.result.now.number c.lane32-len.result c.lane32-head.result)) (sym c.shows_count.ensures)
-    (subst (λ k. Goes e (record e { collected = e.collected + 1; used = next_place e.used e.size; free = c.give_back.new.free; shown = not (shows r (e.collected + 1)); doing = step.Idle }) v op.Collect (Load (k + e.used + 1)) x (act.Collected c.index-slot.result.now.number c.lane32-len.result c.lane32-head.result)) (sym c.used_area.ensures)
-    (subst (λ (a : DriverAct). Goes e (record e { collected = e.collected + 1; used = next_place e.used e.size; free = c.give_back.new.free; shown = not (shows r (e.collected + 1)); doing = step.Idle }) v op.Collect (Load (used_area e.size + e.used + 1)) x a)
+    (record e { collected = e.collected + 1; used = c.next_place-self.result; free = c.give_back.new.free; shown = not c.shows_count.result; got = got; doing = step.Idle }) v op.Collect (Load (c.used_area.result + e.used + 1)) x (act.Collected c.index-slot.result.now.number c.lane32-len.result c.lane32-head.result)
+    (subst (λ k. Goes e (record e { collected = e.collected + 1; used = k; free = c.give_back.new.free; shown = not c.shows_count.result; got = got; doing = step.Idle }) v op.Collect (Load (c.used_area.result + e.used + 1)) x (act.Collected c.index-slot.result.now.number c.lane32-len.result c.lane32-head.result)) (sym c.next_place-self.ensures)
+    (subst (λ b. Goes e (record e { collected = e.collected + 1; used = next_place e.used e.size; free = c.give_back.new.free; shown = not b; got = got; doing = step.Idle }) v op.Collect (Load (c.used_area.result + e.used + 1)) x (act.Collected c.index-slot.result.now.number c.lane32-len.result c.lane32-head.result)) (sym c.shows_count.ensures)
+    (subst (λ k. Goes e (record e { collected = e.collected + 1; used = next_place e.used e.size; free = c.give_back.new.free; shown = not (shows r (e.collected + 1)); got = got; doing = step.Idle }) v op.Collect (Load (k + e.used + 1)) x (act.Collected c.index-slot.result.now.number c.lane32-len.result c.lane32-head.result)) (sym c.used_area.ensures)
+    (subst (λ (a : DriverAct). Goes e (record e { collected = e.collected + 1; used = next_place e.used e.size; free = c.give_back.new.free; shown = not (shows r (e.collected + 1)); got = got; doing = step.Idle }) v op.Collect (Load (used_area e.size + e.used + 1)) x a)
     (sym (ap (λ k. act.Collected c.index-slot.result.now.number k c.lane32-head.result) c.lane32-len.ensures ∙ ap (λ k. act.Collected c.index-slot.result.now.number (lane32 x 0) k) c.lane32-head.ensures)) go))))
     c.access-last.ensures
