@@ -146,7 +146,7 @@ impl PackedDevice {
     }
 
     /// Makes one access of a check, a bell, an arming, a hearing, a disarming or a rest.
-    #[inline(never)]
+    #[inline(always)]
     fn signal<P: Port>(&mut self, port: &mut P) -> Told
         requires now { IsSignal self.old.doing }
         requires own { (v : DeviceView) × DeviceStands self.old v × IsOwn P.port device_side port.old v }

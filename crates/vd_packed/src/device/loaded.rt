@@ -12,7 +12,21 @@ use super::{DeviceStep, PackedDevice, Told};
 use crate::spot::forward;
 use crate::tables::{is_indirect, places_of};
 use crate::words::{has_next, piece_from, shows_available};
+use arrayvec::ArrayVec;
 use vd_bits::lane16;
+use vd_model::Piece;
+
+/// Leaves no pieces. A single one is taken out, which costs less than a clear.
+#[inline(always)]
+fn empty(pieces: &mut ArrayVec<Piece, 16>)
+    ensures { pieces.new.items ≡ [] }
+{
+    if pieces.len() == 1 {
+        let _ = pieces.pop();
+        return;
+    }
+    pieces.clear();
+}
 
 impl PackedDevice {
     /// The second word at the available position was loaded.
@@ -26,11 +40,11 @@ impl PackedDevice {
             self.doing = DeviceStep::Idle;
             return Told::Nothing;
         }
-        self.pieces.clear();
         self.second = word;
         self.at.place = self.next.place;
         self.at.wrap = self.next.wrap;
         self.doing = DeviceStep::Address;
+        empty(&mut self.pieces);
         Told::Moved
     }
 

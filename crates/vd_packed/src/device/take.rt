@@ -13,7 +13,7 @@ use vd_words::{Access, Op, Port};
 
 impl PackedDevice {
     /// The load of the second word at the available position, which the last store of an offer changes.
-    #[inline(always)]
+    #[inline(never)]
     pub(super) fn look<P: Port>(&mut self, port: &mut P) -> Told
         requires now { self.old.doing ≡ DeviceStep.Look }
         requires own { (v : DeviceView) × DeviceStands self.old v × IsOwn P.port device_side port.old v }

@@ -106,7 +106,7 @@ impl DriverEnd for PackedDriver {
 
 impl PackedDriver {
     /// Makes one access of a check, a bell, an arming, a hearing or a disarming.
-    #[inline(never)]
+    #[inline(always)]
     fn signal<P: Port>(&mut self, port: &mut P) -> DriverAct
         requires now { IsSignal self.old.doing }
         requires own { (v : DriverView) × DriverStands self.old v × IsOwn P.port driver_side port.old v }
@@ -135,6 +135,11 @@ fn copy_pieces(to: &mut ArrayVec<Piece, 16>, from: &[Piece])
     requires { length from.now ≤ 16 }
     ensures { to.new.items ≡ from.now }
 {
+    // as many as there were: no blanks are written first
+    if to.len() == from.len() {
+        to.as_mut_slice().copy_from_slice(from);
+        return;
+    }
     to.clear();
     match to.try_extend_from_slice(from) {
         Ok(()) => {}
