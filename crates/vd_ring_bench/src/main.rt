@@ -1,8 +1,6 @@
 //! Chains through a split or a packed ring, timed from outside. Prints a checksum of what came back, and no time.
 #![tactic(auto)]
 
-ghost use Rattle.std.specs.Prelude.{◌≡◌, false};
-
 mod rig;
 mod words;
 
@@ -21,6 +19,12 @@ const WINDOW: u32 = 16;
 
 const PLAIN: Features = Features {
     indirect: false,
+    event_idx: false,
+    in_order: false,
+};
+
+const TABLED: Features = Features {
+    indirect: true,
     event_idx: false,
     in_order: false,
 };
@@ -98,20 +102,19 @@ fn round<L: Layout>(rig: &mut Rig<L>, window: u32, sleeps: bool, chains: &[Chain
 fn run<L: Layout>(rig: &mut Rig<L>, w: Workload, window: u32) -> u64 {
     let mut sum = 0u64;
     let chains = [chain(0, w.most), chain(1, w.most), chain(2, w.most)];
-    let sleeps = !matches!(w.way, Way::Awake);
+    let sleeps = matches!(w.way, Way::Flags | Way::Index);
     for _ in 0..w.rounds {
         sum = sum.wrapping_add(round(rig, window, sleeps, &chains));
     }
     sum
 }
 
-fn features_of(way: Way) -> Features
-    ensures { result.indirect ≡ false }
-{
+fn features_of(way: Way) -> Features {
     match way {
         Way::Awake => PLAIN,
         Way::Flags => PLAIN,
         Way::Index => INDEXED,
+        Way::Tables => TABLED,
     }
 }
 
@@ -135,7 +138,7 @@ fn packed(alloc: Global, w: Workload) -> Result<u64, AllocError> {
 
 fn main(rt: HostRuntime) -> Result<()> {
     let workload = words::read(env::args(&rt)?).context(
-        "usage: vd_ring_bench LAYOUT SIZE ROUNDS MOST [flags|index]",
+        "usage: vd_ring_bench LAYOUT SIZE ROUNDS MOST [flags|index|tables]",
     )?;
     let alloc = rt.alloc();
     let sum = match workload.kind {

@@ -20,6 +20,8 @@ pub enum Way {
     Flags,
     /// The same by EVENT_IDX.
     Index,
+    /// Neither sleeps, and chains of two pieces or more go by tables.
+    Tables,
 }
 
 /// The layout of the ring.
@@ -58,6 +60,7 @@ fn way_of(name: &str) -> Option<Way> {
     match name {
         "flags" => Some(Way::Flags),
         "index" => Some(Way::Index),
+        "tables" => Some(Way::Tables),
         _ => None,
     }
 }
