@@ -15,7 +15,7 @@ use vd_words::{Access, Op, Port};
 impl PackedDevice {
     /// The store of a second word at the used position, by which the chain is given: one for the whole chain, whose
     /// descriptors the position then passes. The driver's look at it is the access of its collect.
-    #[inline(always)]
+    #[inline(never)]
     pub(super) fn give<P: Port>(&mut self, port: &mut P, number: u32, head: u32, len: u32) -> Told
         requires now { self.old.doing ≡ DeviceStep.Give number head len }
         requires own { (v : DeviceView) × DeviceStands self.old v × IsOwn P.port device_side port.old v }
