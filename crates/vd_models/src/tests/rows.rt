@@ -1,10 +1,10 @@
 //! Six chains on a ring of 8 places, and fewer.
 use super::pair::Pair;
-use crate::{FaultyDevice, ModelDevice, ModelGuest};
+use crate::{ModelDevice, ModelGuest};
 use std::test::*;
-use vd_bus::{Device, Event, Guest, Journal};
+use vd_bus::{Device, Guest, Journal};
 use vd_layout::Move;
-use vd_model::{Base, Chain, Features, Mode, Piece, Return};
+use vd_model::{Base, Chain, Features, Piece, Return};
 use vd_split::Split;
 
 const PLAIN: Features = Features {
@@ -107,13 +107,18 @@ fn in_order_the_first_begun_is_given_first(rt: HostRuntime) -> Result<(), Fail> 
 }
 
 #[test]
-fn a_window_of_one_and_a_single_device_give_each_at_once(rt: HostRuntime) -> Result<(), Fail> {
+fn a_window_of_one_gives_each_at_once(rt: HostRuntime) -> Result<(), Fail> {
     let guest = ModelGuest::<Split>::new(rt.alloc());
     let device = ModelDevice::<Split>::new(rt.alloc(), 64);
     let mut pair = Pair::new(rt.alloc(), 8, PLAIN, 1, &chain_of(10, 64), 6, guest, device)?;
     assert!(rt; pair.attach(0, 6) == Some(true));
     play(&mut pair);
     assert!(rt; came_back(pair.returned(), &[0, 1, 2, 3, 4, 5], 10));
+    Ok(())
+}
+
+#[test]
+fn a_single_device_gives_each_at_once(rt: HostRuntime) -> Result<(), Fail> {
     let guest = ModelGuest::<Split>::new(rt.alloc());
     let device = ModelDevice::<Split>::single(rt.alloc(), 4);
     let mut pair = Pair::new(rt.alloc(), 8, PLAIN, 4, &chain_of(10, 64), 6, guest, device)?;
@@ -182,71 +187,5 @@ fn single_steps_to_the_end(rt: HostRuntime) -> Result<(), Fail> {
     assert!(rt; pair.guest_done() && pair.device_done());
     assert!(rt; pair.returned().len() == 6);
     assert!(rt; all_begun(pair.journal(), 6, 4));
-    Ok(())
-}
-
-#[test]
-fn events_stand_in_the_journal(rt: HostRuntime) -> Result<(), Fail> {
-    let guest = ModelGuest::<Split>::new(rt.alloc());
-    let device = FaultyDevice::new(ModelDevice::<Split>::new(rt.alloc(), 4), 2);
-    let mut pair = Pair::new(rt.alloc(), 8, PLAIN, 4, &chain_of(10, 64), 6, guest, device)?;
-    assert!(rt; pair.attach(0, 4) == Some(true));
-    play(&mut pair);
-    assert!(rt; pair.suspend() == Some(Base(4)));
-    assert!(rt; pair.reset());
-    assert_eq!(rt; pair.faults(), 0);
-    assert!(rt; pair.attach(0, 2) == Some(false));
-    assert_eq!(rt; pair.faults(), 1);
-    assert!(rt; pair.journal().events.len() == 3);
-    assert!(rt; pair.attach(0, 2) == Some(true));
-    play(&mut pair);
-    assert!(rt; pair.suspend() == Some(Base(6)));
-    assert!(rt; pair.attach(0, 0) == Some(true));
-    assert_eq!(rt; pair.faults(), 1);
-    assert!(rt; pair.guest_done());
-    assert!(rt; came_back(pair.returned(), &[3, 2, 1, 0, 5, 4], 10));
-    let events = pair.journal().events.as_slice();
-    assert!(rt; events.len() == 6);
-    assert!(rt;
-        matches!(
-            events[0],
-            Event::Attach {
-                at: 0,
-                ring: 0,
-                base: Base(0),
-                mode: Mode::Pass,
-                ..
-            }
-        )
-    );
-    assert!(rt;
-        matches!(
-            events[1],
-            Event::Suspend {
-                at: 4,
-                base: Base(4)
-            }
-        )
-    );
-    assert!(rt; matches!(events[2], Event::Reset { at: 4 }));
-    assert!(rt;
-        matches!(
-            events[3],
-            Event::Attach {
-                at: 4,
-                base: Base(4),
-                ..
-            }
-        )
-    );
-    assert!(rt;
-        matches!(
-            events[4],
-            Event::Suspend {
-                at: 6,
-                base: Base(6)
-            }
-        )
-    );
     Ok(())
 }
