@@ -22,7 +22,15 @@ impl Model for Order {
 
     ghost Value = { Terms };
 
-    ghost view = { λ o. record { queue = o.queue; ring = o.ring; base = o.base; count = o.count; size = o.size; features = o.features; map = o.map } };
+    ghost view = { λ o. record {
+      queue = o.queue;
+      ring = o.ring;
+      base = o.base;
+      count = o.count;
+      size = o.size;
+      features = o.features;
+      map = o.map;
+    } };
 }
 
 impl Order {

@@ -13,7 +13,8 @@ digit false = 0
 
 pub number_of-suc : (n : ℕ) (p : ℕ → Bool) → number_of (suc n) p ≡ digit (p 0) + 2 * number_of n (λ place. p (place + 1))
 unfolding number_of
-number_of-suc n p = elim (p 0) as (λ b. cond b 1 0 + 2 * number_of n (λ place. p (place + 1)) ≡ digit b + 2 * number_of n (λ place. p (place + 1))) [ true ↦ refl | false ↦ refl ]
+number_of-suc n p = elim (p 0) as (λ b. cond b 1 0 + 2 * number_of n (λ place. p (place + 1)) ≡ digit b
+    + 2 * number_of n (λ place. p (place + 1))) [ true ↦ refl | false ↦ refl ]
 
 pub number_of-small : (n : ℕ) (p : ℕ → Bool) → number_of n p < 2 ^ n
 unfolding number_of
@@ -51,7 +52,8 @@ digit_has number place =
     let small = bit_at-lt number place in
     elim (cases_Bool (has_bit number place)) [
       | inl on ↦ rw on (sym (eqb-true (bit_at number place) 1 on))
-      | inr off ↦ rw off (let none : bit_at number place ≡ 1 → ⊥ = eqb-false (bit_at number place) 1 off in let e : bit_at number place ≡ 0 = omega arith in sym e)
+      | inr off ↦ rw off (let none : bit_at number place ≡ 1 → ⊥ = eqb-false (bit_at number place) 1 off in
+          let e : bit_at number place ≡ 0 = omega arith in sym e)
     ]
 
 -- the number has the bits that pass
@@ -61,4 +63,5 @@ has_bit-number_of n p i h = ap (λ (x : ℕ). x == 1) (bit_of n p i h) ∙ has_d
 -- a number is the one of its bits
 pub number_of_same : (n number : ℕ) (p : ℕ → Bool) → number < 2 ^ n → ((i : ℕ) → i < n → has_bit number i ≡ p i) → number ≡ number_of n p
 number_of_same n number p small same =
-    same_from_bits_below n number (number_of n p) small (number_of-small n p) (λ i h. sym (digit_has number i) ∙ ap digit (same i h) ∙ sym (bit_of n p i h))
+    same_from_bits_below n number (number_of n p) small (number_of-small n p) (λ i h. sym (digit_has number i) ∙ ap digit (same i h)
+    ∙ sym (bit_of n p i h))

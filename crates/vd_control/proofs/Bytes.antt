@@ -11,9 +11,12 @@ unfolding command
 read_back (Rx flag true) h = grind (arith, nat_tests)
 read_back (Rx flag false) h = grind (arith, nat_tests)
 read_back (Mac mac) h = grind (arith, nat_tests)
-read_back (VlanAdd vlan) h = let small : vlan < 2 ^ 16 = omega arith in rw (from_le_bytes-to_le_bytes_2 vlan small) (grind (arith, nat_tests))
-read_back (VlanDel vlan) h = let small : vlan < 2 ^ 16 = omega arith in rw (from_le_bytes-to_le_bytes_2 vlan small) (grind (arith, nat_tests))
-read_back (Pairs pairs) h = let small : pairs < 2 ^ 16 = omega arith in rw (from_le_bytes-to_le_bytes_2 pairs small) (grind (arith, nat_tests))
+read_back (VlanAdd vlan) h = let small : vlan < 2 ^ 16 = omega arith in
+    rw (from_le_bytes-to_le_bytes_2 vlan small) (grind (arith, nat_tests))
+read_back (VlanDel vlan) h = let small : vlan < 2 ^ 16 = omega arith in
+    rw (from_le_bytes-to_le_bytes_2 vlan small) (grind (arith, nat_tests))
+read_back (Pairs pairs) h = let small : pairs < 2 ^ 16 = omega arith in
+    rw (from_le_bytes-to_le_bytes_2 pairs small) (grind (arith, nat_tests))
 read_back (Offloads offloads) h = rw (from_le_bytes-to_le_bytes_8 offloads h) refl
 
 pub reads_back : (bytes : List ℕ) (c : Command) → bytes ≡ spelled c → IsCommand c → command bytes ≡ Some c

@@ -33,7 +33,8 @@ and-true false = refl
 pub one_more : (p : ℕ → Bool) (n v : ℕ) → (nat_lt v (suc n) && p v) ≡ (((v == n) && p n) || (nat_lt v n && p v))
 one_more p n v = elim (cases_eq v n) [
   | inl e ↦ ap (λ (b : Bool). b && p v) (lt-ltb v (suc n) (omega arith)) ∙ ap p e ∙ sym (or-false (p n))
-      ∙ sym (ap (λ (b : Bool). (b && p n) || false) (eq-eqb v n e)) ∙ sym (ap (λ (b : Bool). ((v == n) && p n) || (b && p v)) (le-ltb v n (omega arith)))
+      ∙ sym (ap (λ (b : Bool). (b && p n) || false) (eq-eqb v n e))
+      ∙ sym (ap (λ (b : Bool). ((v == n) && p n) || (b && p v)) (le-ltb v n (omega arith)))
   | inr ne ↦ ap (λ (b : Bool). b && p v) (same ne) ∙ sym (ap (λ (b : Bool). (b && p n) || (nat_lt v n && p v)) (ne_eqb v n ne))
 ]
   where
@@ -56,28 +57,35 @@ length-with_flags : (flags : List Bool) (on : List ℕ) → length (with_flags f
 length-with_flags flags [] = refl
 length-with_flags flags (flag ∷ on) = length-with_flags (slice_set flags flag true) on ∙ length-set flags flag true
 
-one_flag : (b : Bool) (old : List Bool) (n k : ℕ) → n < length old → get_or (with_flags old (kept b n)) k false ≡ (((k == n) && b) || get_or old k false)
+one_flag : (b : Bool) (old : List Bool) (n k : ℕ) → n < length old
+    → get_or (with_flags old (kept b n)) k false ≡ (((k == n) && b) || get_or old k false)
 one_flag false old n k h = ap (λ (b : Bool). b || get_or old k false) (sym (and-false (k == n)))
 one_flag true old n k h = elim (cases_eq k n) [
-  | inl e ↦ ap (λ (j : ℕ). get_or (set old n true) j false) e ∙ get_or-set_same old n true false h ∙ sym (ap (λ (b : Bool). (b && true) || get_or old k false) (eq-eqb k n e))
+  | inl e ↦ ap (λ (j : ℕ). get_or (set old n true) j false) e ∙ get_or-set_same old n true false h
+      ∙ sym (ap (λ (b : Bool). (b && true) || get_or old k false) (eq-eqb k n e))
   | inr ne ↦ get_or-set_other old n k true false ne ∙ sym (ap (λ (b : Bool). (b && true) || get_or old k false) (ne_eqb k n ne))
 ]
 
 -- the flags below n that are on are set, the others off
 flags_at : (p : ℕ → Bool) (n k : ℕ) → n ≤ 6 → k < 6 → get_or (with_flags (replicate 6 false) (passing p n)) k false ≡ (nat_lt k n && p k)
-flags_at p zero k h below = ap (λ (on : List ℕ). get_or (with_flags (replicate 6 false) on) k false) (passing-none p) ∙ get_or-replicate {A = Bool} 6 k false false below ∙ ap (λ (b : Bool). b && p k) (sym (le-ltb k 0 (omega arith)))
+flags_at p zero k h below = ap (λ (on : List ℕ). get_or (with_flags (replicate 6 false) on) k false) (passing-none p)
+    ∙ get_or-replicate {A = Bool} 6 k false false below ∙ ap (λ (b : Bool). b && p k) (sym (le-ltb k 0 (omega arith)))
 flags_at p (suc n) k h below =
     let old = with_flags (replicate 6 false) (passing p n) in
     let long : length old ≡ 6 = length-with_flags (replicate 6 false) (passing p n) in
     let step : with_flags (replicate 6 false) (passing p (suc n)) ≡ with_flags old (kept (p n) n) =
-    ap (with_flags (replicate 6 false)) (sym (ap (passing p) (add-one n)) ∙ passing-more p n) ∙ fold-append (λ r flag. slice_set r flag true) (replicate 6 false) (passing p n) (kept (p n) n) in
+    ap (with_flags (replicate 6 false)) (sym (ap (passing p) (add-one n)) ∙ passing-more p n)
+    ∙ fold-append (λ r flag. slice_set r flag true) (replicate 6 false) (passing p n) (kept (p n) n) in
     ap (λ (r : List Bool). get_or r k false) step ∙ one_flag (p n) old n k (omega arith)
     ∙ ap (λ (b : Bool). ((k == n) && p n) || b) (flags_at p n k (omega arith) below) ∙ sym (one_more p n k)
 
 flags_back : (flags : List Bool) → length flags ≡ 6 → with_flags (replicate 6 false) (passing (has_flag flags) 6) ≡ flags
 flags_back flags six =
-    let long : length (with_flags (replicate 6 false) (passing (has_flag flags) 6)) ≡ 6 = length-with_flags (replicate 6 false) (passing (has_flag flags) 6) in
-    ext_get_or false (with_flags (replicate 6 false) (passing (has_flag flags) 6)) flags (long ∙ sym six) (λ i h. flags_at (has_flag flags) 6 i (omega arith) (omega arith) ∙ ap (λ (b : Bool). b && has_flag flags i) (lt-ltb i 6 (omega arith)))
+    let long : length (with_flags (replicate 6 false) (passing (has_flag flags) 6)) ≡ 6 =
+    length-with_flags (replicate 6 false) (passing (has_flag flags) 6) in
+    ext_get_or false (with_flags (replicate 6 false) (passing (has_flag flags) 6)) flags (long ∙ sym six)
+    (λ i h. flags_at (has_flag flags) 6 i (omega arith) (omega arith) ∙ ap (λ (b : Bool). b && has_flag flags i)
+    (lt-ltb i 6 (omega arith)))
 
 -- ---- the address
 
@@ -97,7 +105,8 @@ after_vlans s [] = refl
 after_vlans s (vlan ∷ vlans) = after_vlans (record s { vlans = words_of (λ v. (v == vlan) || has_vlan s.vlans v) }) vlans
 
 no_vlan : (v : ℕ) → v < 4096 → has_vlan (replicate 64 0) v ≡ false
-no_vlan v h = ap (λ (w : ℕ). has_bit w (v % 64)) (get_or-replicate {A = ℕ} 64 (v / 64) 0 0 (omega arith)) ∙ ap (λ (x : ℕ). x == 1) (bit_at-zero (v % 64))
+no_vlan v h = ap (λ (w : ℕ). has_bit w (v % 64)) (get_or-replicate {A = ℕ} 64 (v / 64) 0 0 (omega arith))
+    ∙ ap (λ (x : ℕ). x == 1) (bit_at-zero (v % 64))
 
 one_vlan : (b : Bool) (p : ℕ → Bool) (n : ℕ) → with_vlans (words_of p) (kept b n) ≡ words_of (λ v. ((v == n) && b) || p v)
 one_vlan false p n = words_of_agree p (λ v. ((v == n) && false) || p v) (λ v low. ap (λ (b : Bool). b || p v) (sym (and-false (v == n))))
@@ -108,7 +117,8 @@ one_vlan true p n = words_of_agree (λ v. (v == n) || has_vlan (words_of p) v) (
 vlans_are : (p : ℕ → Bool) (n : ℕ) → n ≤ 4096 → with_vlans (replicate 64 0) (passing p n) ≡ words_of (λ v. nat_lt v n && p v)
 vlans_are p zero h =
     ap (with_vlans (replicate 64 0)) (passing-none p)
-    ∙ words_of_same (replicate 64 0) (λ v. nat_lt v 0 && p v) IsWords-zeros (λ v low. no_vlan v low ∙ ap (λ (b : Bool). b && p v) (sym (le-ltb v 0 (omega arith))))
+    ∙ words_of_same (replicate 64 0) (λ v. nat_lt v 0 && p v) IsWords-zeros
+    (λ v low. no_vlan v low ∙ ap (λ (b : Bool). b && p v) (sym (le-ltb v 0 (omega arith))))
 vlans_are p (suc n) h =
     ap (with_vlans (replicate 64 0)) (sym (ap (passing p) (add-one n)) ∙ passing-more p n)
     ∙ fold-append (λ ws vlan. words_of (λ v. (v == vlan) || has_vlan ws v)) (replicate 64 0) (passing p n) (kept (p n) n)
@@ -119,7 +129,8 @@ vlans_are p (suc n) h =
 vlans_back : (words : List ℕ) → IsWords words → with_vlans (replicate 64 0) (passing (has_vlan words) 4096) ≡ words
 vlans_back words is =
     vlans_are (has_vlan words) 4096 (omega arith)
-    ∙ sym (words_of_same words (λ v. nat_lt v 4096 && has_vlan words v) is (λ v h. ap (λ (b : Bool). b && has_vlan words v) (sym (lt-ltb v 4096 h))))
+    ∙ sym (words_of_same words (λ v. nat_lt v 4096 && has_vlan words v) is
+    (λ v h. ap (λ (b : Bool). b && has_vlan words v) (sym (lt-ltb v 4096 h))))
 
 -- ---- the whole list
 
@@ -129,15 +140,18 @@ both_parts s t u xs ys a b = fold-append applied s xs ys ∙ ap (λ (x : Setting
 abbrev made : List Bool → List ℕ → List ℕ → ℕ → ℕ → Settings
 made rx mac vlans pairs offloads = record { rx = rx; mac = mac; vlans = vlans; pairs = pairs; offloads = offloads }
 
-address_back : (b : Bool) (rx : List Bool) (mac old words : List ℕ) (pairs offloads : ℕ) → (b ≡ true → old ≡ mac) → fold applied (made rx old words pairs offloads) (unless b (Mac mac)) ≡ made rx mac words pairs offloads
+address_back : (b : Bool) (rx : List Bool) (mac old words : List ℕ) (pairs offloads : ℕ) → (b ≡ true → old ≡ mac)
+    → fold applied (made rx old words pairs offloads) (unless b (Mac mac)) ≡ made rx mac words pairs offloads
 address_back true rx mac old words pairs offloads h = ap (λ (m : List ℕ). made rx m words pairs offloads) (h refl)
 address_back false rx mac old words pairs offloads h = refl
 
-pairs_back : (b : Bool) (rx : List Bool) (mac words : List ℕ) (pairs old offloads : ℕ) → (b ≡ true → old ≡ pairs) → fold applied (made rx mac words old offloads) (unless b (Pairs pairs)) ≡ made rx mac words pairs offloads
+pairs_back : (b : Bool) (rx : List Bool) (mac words : List ℕ) (pairs old offloads : ℕ) → (b ≡ true → old ≡ pairs)
+    → fold applied (made rx mac words old offloads) (unless b (Pairs pairs)) ≡ made rx mac words pairs offloads
 pairs_back true rx mac words pairs old offloads h = ap (λ (n : ℕ). made rx mac words n offloads) (h refl)
 pairs_back false rx mac words pairs old offloads h = refl
 
-offloads_back : (b : Bool) (rx : List Bool) (mac words : List ℕ) (pairs offloads old : ℕ) → (b ≡ true → old ≡ offloads) → fold applied (made rx mac words pairs old) (unless b (Offloads offloads)) ≡ made rx mac words pairs offloads
+offloads_back : (b : Bool) (rx : List Bool) (mac words : List ℕ) (pairs offloads old : ℕ) → (b ≡ true → old ≡ offloads)
+    → fold applied (made rx mac words pairs old) (unless b (Offloads offloads)) ≡ made rx mac words pairs offloads
 offloads_back true rx mac words pairs offloads old h = ap (λ (n : ℕ). made rx mac words pairs n) (h refl)
 offloads_back false rx mac words pairs offloads old h = refl
 
@@ -151,10 +165,13 @@ from_made s is =
     let third = map VlanAdd vlans ++ fourth in
     let second = unless (is_zeros s.mac) (Mac s.mac) ++ third in
     let none : List ℕ = replicate 64 0 in
-    both_parts (made (replicate 6 false) (replicate 6 0) none 1 0) (made s.rx (replicate 6 0) none 1 0) s (map (λ flag. Rx flag true) on) second
-    (after_flags (made (replicate 6 false) (replicate 6 0) none 1 0) on ∙ ap (λ (r : List Bool). made r (replicate 6 0) none 1 0) (flags_back s.rx is.flags))
+    both_parts (made (replicate 6 false) (replicate 6 0) none 1 0) (made s.rx (replicate 6 0) none 1 0) s
+    (map (λ flag. Rx flag true) on) second
+    (after_flags (made (replicate 6 false) (replicate 6 0) none 1 0) on ∙ ap (λ (r : List Bool). made r (replicate 6 0) none 1 0)
+    (flags_back s.rx is.flags))
     (both_parts (made s.rx (replicate 6 0) none 1 0) (made s.rx s.mac none 1 0) s (unless (is_zeros s.mac) (Mac s.mac)) third
-    (address_back (is_zeros s.mac) s.rx s.mac (replicate 6 0) none 1 0 (λ e. ap (λ (n : ℕ). replicate n 0) (sym is.mac) ∙ sym (zeros_are s.mac e)))
+    (address_back (is_zeros s.mac) s.rx s.mac (replicate 6 0) none 1 0 (λ e. ap (λ (n : ℕ). replicate n 0) (sym is.mac)
+    ∙ sym (zeros_are s.mac e)))
     (both_parts (made s.rx s.mac none 1 0) (made s.rx s.mac s.vlans 1 0) s (map VlanAdd vlans) fourth
     (after_vlans (made s.rx s.mac none 1 0) vlans ∙ ap (λ (ws : List ℕ). made s.rx s.mac ws 1 0) (vlans_back s.vlans is.vlans))
     (both_parts (made s.rx s.mac s.vlans 1 0) (made s.rx s.mac s.vlans s.pairs 0) s (unless (s.pairs == 1) (Pairs s.pairs)) last
@@ -176,7 +193,8 @@ numbers_below : (p : ℕ → Bool) (n : ℕ) → All (λ v. v < n) (passing p n)
 numbers_below p zero = subst (All (λ v. v < 0)) (sym (passing-none p)) (All-nil (λ v. v < 0))
 numbers_below p (suc n) =
     subst (All (λ v. v < suc n)) (sym (passing-more p n) ∙ ap (passing p) (add-one n))
-    (All-append (λ v. v < suc n) (passing p n) (kept (p n) n) (All-weaker (λ v. v < n) (λ v. v < suc n) (λ v h. omega arith) (passing p n) (numbers_below p n)) (last_below (p n) n))
+    (All-append (λ v. v < suc n) (passing p n) (kept (p n) n)
+    (All-weaker (λ v. v < n) (λ v. v < suc n) (λ v h. omega arith) (passing p n) (numbers_below p n)) (last_below (p n) n))
 
 read_all : (cs : List Command) → All IsCommand cs → filter_map command (map spelled cs) ≡ cs
 read_all [] h = refl
@@ -191,9 +209,13 @@ unless_lawful false c h = All-cons IsCommand c [] h (All-nil IsCommand)
 replay_lawful : (s : Settings) → IsSettings s → All IsCommand (replay s)
 unfolding replay
 replay_lawful s is =
-    All-append IsCommand (map (λ flag. Rx flag true) (passing (has_flag s.rx) 6)) _ (All-map IsCommand (λ flag. Rx flag true) (passing (has_flag s.rx) 6) (numbers_below (has_flag s.rx) 6))
+    All-append IsCommand (map (λ flag. Rx flag true) (passing (has_flag s.rx) 6)) _
+    (All-map IsCommand (λ flag. Rx flag true) (passing (has_flag s.rx) 6) (numbers_below (has_flag s.rx) 6))
     (All-append IsCommand (unless (is_zeros s.mac) (Mac s.mac)) _ (unless_lawful (is_zeros s.mac) (Mac s.mac) is.mac)
-    (All-append IsCommand (map VlanAdd (passing (has_vlan s.vlans) 4096)) _ (All-map IsCommand VlanAdd (passing (has_vlan s.vlans) 4096) (All-weaker (λ v. v < 4096) (λ v. v ≤ 4095) (λ v h. omega arith) (passing (has_vlan s.vlans) 4096) (numbers_below (has_vlan s.vlans) 4096)))
+    (All-append IsCommand (map VlanAdd (passing (has_vlan s.vlans) 4096)) _
+    (All-map IsCommand VlanAdd (passing (has_vlan s.vlans) 4096)
+    (All-weaker (λ v. v < 4096) (λ v. v ≤ 4095) (λ v h. omega arith) (passing (has_vlan s.vlans) 4096)
+    (numbers_below (has_vlan s.vlans) 4096)))
     (All-append IsCommand (unless (s.pairs == 1) (Pairs s.pairs)) _ (unless_lawful (s.pairs == 1) (Pairs s.pairs) is.pairs)
     (unless_lawful (s.offloads == 0) (Offloads s.offloads) is.offloads))))
 

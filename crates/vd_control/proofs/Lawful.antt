@@ -47,14 +47,36 @@ default_lawful = record {
 }
 
 applied_lawful : (s : Settings) (c : Command) → IsSettings s → IsCommand c → IsSettings (applied s c)
-applied_lawful s (Rx flag on) is h = record { flags = length-set s.rx flag on ∙ is.flags; mac = is.mac; vlans = is.vlans; pairs = is.pairs; offloads = is.offloads }
+applied_lawful s (Rx flag on) is h = record {
+  flags = length-set s.rx flag on ∙ is.flags;
+  mac = is.mac;
+  vlans = is.vlans;
+  pairs =
+      is.pairs;
+  offloads = is.offloads;
+}
 applied_lawful s (Mac mac) is h = record { flags = is.flags; mac = h; vlans = is.vlans; pairs = is.pairs; offloads = is.offloads }
-applied_lawful s (VlanAdd vlan) is h = record { flags = is.flags; mac = is.mac; vlans = IsWords-words_of (λ v. (v == vlan) || has_vlan s.vlans v); pairs = is.pairs; offloads = is.offloads }
-applied_lawful s (VlanDel vlan) is h = record { flags = is.flags; mac = is.mac; vlans = IsWords-words_of (λ v. not (v == vlan) && has_vlan s.vlans v); pairs = is.pairs; offloads = is.offloads }
+applied_lawful s (VlanAdd vlan) is h =
+    record {
+      flags = is.flags;
+      mac = is.mac;
+      vlans = IsWords-words_of (λ v. (v == vlan) || has_vlan s.vlans v);
+      pairs = is.pairs;
+      offloads = is.offloads;
+    }
+applied_lawful s (VlanDel vlan) is h =
+    record {
+      flags = is.flags;
+      mac = is.mac;
+      vlans = IsWords-words_of (λ v. not (v == vlan) && has_vlan s.vlans v);
+      pairs = is.pairs;
+      offloads = is.offloads;
+    }
 applied_lawful s (Pairs pairs) is h = record { flags = is.flags; mac = is.mac; vlans = is.vlans; pairs = h; offloads = is.offloads }
 applied_lawful s (Offloads offloads) is h = record { flags = is.flags; mac = is.mac; vlans = is.vlans; pairs = is.pairs; offloads = h }
 
-choice : (b : Bool) (c : Command) (o : Option Command) → (b ≡ true → IsCommand c) → IfSome o IsCommand → IfSome (if b then Some c else o) IsCommand
+choice : (b : Bool) (c : Command) (o : Option Command) → (b ≡ true → IsCommand c) → IfSome o IsCommand
+    → IfSome (if b then Some c else o) IsCommand
 choice true c o h g = h refl
 choice false c o h g = g
 
@@ -66,7 +88,9 @@ byte_at bytes i small = rw (get_or-drop 2 bytes i 0) (elim (cases_lt (2 + i) (le
 
 row_length : (bytes : List ℕ) (class code size : ℕ) → is_row bytes class code size ≡ true → length bytes ≡ size + 2
 row_length bytes class code size e =
-    eqb-true (length bytes) (size + 2) (and_parts (length bytes == size + 2) (slice_index bytes 0 == class) (and_parts ((length bytes == size + 2) && (slice_index bytes 0 == class)) (slice_index bytes 1 == code) e).0).0
+    eqb-true (length bytes) (size + 2)
+    (and_parts (length bytes == size + 2) (slice_index bytes 0 == class)
+    (and_parts ((length bytes == size + 2) && (slice_index bytes 0 == class)) (slice_index bytes 1 == code) e).0).0
 
 le64-small : (bytes : List ℕ) → All (λ byte. byte < 256) bytes → le64 bytes < 2 ^ 64
 le64-small bytes small =
@@ -83,20 +107,27 @@ command_lawful bytes small =
     let fourth : Option Command = if is_row bytes 2 1 2 && nat_le short 4095 then Some (VlanDel short) else fifth in
     let third : Option Command = if is_row bytes 2 0 2 && nat_le short 4095 then Some (VlanAdd short) else fourth in
     let second : Option Command = if is_row bytes 1 1 6 then Some (Mac (drop 2 bytes)) else third in
-    choice (is_row bytes 0 code 1 && nat_lt code 6) (Rx code (not (slice_index bytes 2 == 0))) second (λ e. ltb-true code 6 (and_parts (is_row bytes 0 code 1) (nat_lt code 6) e).1)
-    (choice (is_row bytes 1 1 6) (Mac (drop 2 bytes)) third (λ e. (let long = row_length bytes 1 1 6 e in omega (arith, length-drop 2 bytes)))
-    (choice (is_row bytes 2 0 2 && nat_le short 4095) (VlanAdd short) fourth (λ e. leb-true short 4095 (and_parts (is_row bytes 2 0 2) (nat_le short 4095) e).1)
-    (choice (is_row bytes 2 1 2 && nat_le short 4095) (VlanDel short) fifth (λ e. leb-true short 4095 (and_parts (is_row bytes 2 1 2) (nat_le short 4095) e).1)
+    choice (is_row bytes 0 code 1 && nat_lt code 6) (Rx code (not (slice_index bytes 2 == 0))) second
+    (λ e. ltb-true code 6 (and_parts (is_row bytes 0 code 1) (nat_lt code 6) e).1)
+    (choice (is_row bytes 1 1 6) (Mac (drop 2 bytes)) third
+    (λ e. (let long = row_length bytes 1 1 6 e in omega (arith, length-drop 2 bytes)))
+    (choice (is_row bytes 2 0 2 && nat_le short 4095) (VlanAdd short) fourth
+    (λ e. leb-true short 4095 (and_parts (is_row bytes 2 0 2) (nat_le short 4095) e).1)
+    (choice (is_row bytes 2 1 2 && nat_le short 4095) (VlanDel short) fifth
+    (λ e. leb-true short 4095 (and_parts (is_row bytes 2 1 2) (nat_le short 4095) e).1)
     (choice (is_row bytes 4 0 2 && nat_le 1 short && nat_le short 32768) (Pairs short) last
     (λ e. (let both = and_parts (is_row bytes 4 0 2 && nat_le 1 short) (nat_le short 32768) e in
     (leb-true 1 short (and_parts (is_row bytes 4 0 2) (nat_le 1 short) both.0).1, leb-true short 32768 both.1)))
     (choice (is_row bytes 5 0 8) (Offloads (le64 bytes)) None (λ e. le64-small bytes small) tt)))))
 
-step_lawful : (o : Option Command) (s : Settings) (rest : List Command) → ((t : Settings) → IsSettings t → IsSettings (fold applied t rest)) → IsSettings s → IfSome o IsCommand → IsSettings (fold applied s (cons_option o rest))
+step_lawful : (o : Option Command) (s : Settings) (rest : List Command)
+    → ((t : Settings) → IsSettings t → IsSettings (fold applied t rest)) → IsSettings s → IfSome o IsCommand
+    → IsSettings (fold applied s (cons_option o rest))
 step_lawful None s rest go is h = go s is
 step_lawful (Some c) s rest go is h = go (applied s c) (applied_lawful s c is h)
 
-steps_lawful : (strings : List (List ℕ)) (s : Settings) → IsSettings s → All (All (λ byte. byte < 256)) strings → IsSettings (fold applied s (filter_map command strings))
+steps_lawful : (strings : List (List ℕ)) (s : Settings) → IsSettings s → All (All (λ byte. byte < 256)) strings
+    → IsSettings (fold applied s (filter_map command strings))
 steps_lawful [] s is small = is
 steps_lawful (bytes ∷ strings) s is small =
     step_lawful (command bytes) s (filter_map command strings)

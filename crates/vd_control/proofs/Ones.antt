@@ -25,8 +25,10 @@ length-bits (suc n) w h =
     let twice = pow-suc 2 n in
     let half : w / 2 < 2 ^ n = omega arith in
     let shift : passing (λ i. has_bit w (1 + i)) n ≡ passing (has_bit (w / 2)) n =
-    passing_same (λ i. has_bit w (1 + i)) (has_bit (w / 2)) n (λ i _. ap (has_bit w) (let e : 1 + i ≡ suc i = omega arith in e) ∙ ap (λ (x : ℕ). x == 1) (bit_at-suc w i)) in
-    let low : length (passing (has_bit w) 1) ≡ w % 2 = ap length (passing_one (has_bit w)) ∙ length-kept-digit (has_bit w 0) 0 ∙ digit_has w 0 ∙ bit_at_lowest w in
+    passing_same (λ i. has_bit w (1 + i)) (has_bit (w / 2)) n (λ i _. ap (has_bit w) (let e : 1 + i ≡ suc i = omega arith in e)
+    ∙ ap (λ (x : ℕ). x == 1) (bit_at-suc w i)) in
+    let low : length (passing (has_bit w) 1) ≡ w % 2 = ap length (passing_one (has_bit w)) ∙ length-kept-digit (has_bit w 0) 0
+    ∙ digit_has w 0 ∙ bit_at_lowest w in
     let rest = length-bits n (w / 2) half in
     ap (λ (k : ℕ). length (passing (has_bit w) k)) next ∙ length-passing-add (has_bit w) 1 n
     ∙ ap (λ (k : ℕ). k + length (passing (λ i. has_bit w (1 + i)) n)) low
@@ -54,22 +56,26 @@ lowest_first w some small =
     ∙ ap (λ (k : ℕ). t ∷ passing (has_bit (without_lowest w)) k) whole
 
 -- where bits are left, the number isn't 0
-pub some_left : (first w k : ℕ) → first < 2 ^ 64 → w < 2 ^ 64 → passing (has_bit w) 64 ≡ drop k (passing (has_bit first) 64) → k < count_ones first → 0 < w
+pub some_left : (first w k : ℕ) → first < 2 ^ 64 → w < 2 ^ 64 → passing (has_bit w) 64 ≡ drop k (passing (has_bit first) 64)
+    → k < count_ones first → 0 < w
 some_left first zero k all small e h =
     let many = length-bits 64 first all in
     let few = length-bits 64 0 small in
     let none = ones-le 0 0 (let g : 0 < 2 ^ 0 = omega arith in g) in
-    let left : length (passing (has_bit 0) 64) ≡ length (passing (has_bit first) 64) - k = ap length e ∙ length-drop k (passing (has_bit first) 64) in
+    let left : length (passing (has_bit 0) 64) ≡ length (passing (has_bit first) 64) - k =
+    ap length e ∙ length-drop k (passing (has_bit first) 64) in
     absurd (omega arith)
 some_left first (suc w) k all small e h = omega arith
 
 -- one bit less is left
-pub one_less_left : (first w k : ℕ) → 0 < w → w < 2 ^ 64 → passing (has_bit w) 64 ≡ drop k (passing (has_bit first) 64) → passing (has_bit (without_lowest w)) 64 ≡ drop (k + 1) (passing (has_bit first) 64)
+pub one_less_left : (first w k : ℕ) → 0 < w → w < 2 ^ 64 → passing (has_bit w) 64 ≡ drop k (passing (has_bit first) 64)
+    → passing (has_bit (without_lowest w)) 64 ≡ drop (k + 1) (passing (has_bit first) 64)
 one_less_left first w k some small e =
     ap (drop 1) (sym (lowest_first w some small) ∙ e) ∙ drop-drop 1 k (passing (has_bit first) 64)
 
 -- the lowest bit left is the one in its place
-pub next_left : (first w k : ℕ) → 0 < w → w < 2 ^ 64 → passing (has_bit w) 64 ≡ drop k (passing (has_bit first) 64) → slice_get (passing (has_bit first) 64) k ≡ Some (trailing_zeros w64 w)
+pub next_left : (first w k : ℕ) → 0 < w → w < 2 ^ 64 → passing (has_bit w) 64 ≡ drop k (passing (has_bit first) 64)
+    → slice_get (passing (has_bit first) 64) k ≡ Some (trailing_zeros w64 w)
 next_left first w k some small e =
     sym (slice_get-drop (passing (has_bit first) 64) k) ∙ ap (λ (xs : List ℕ). slice_get xs 0) (sym e ∙ lowest_first w some small)
 
@@ -83,7 +89,8 @@ pub length-words-more : (words : List ℕ) (k : ℕ) → get_or words k 0 < 2 ^ 
 length-words-more words k small =
     ap (λ (n : ℕ). length (passing (has_vlan words) n)) (let e : 64 * (k + 1) ≡ 64 * k + 64 = omega arith in e)
     ∙ length-passing-add (has_vlan words) (64 * k) 64
-    ∙ ap (λ (n : ℕ). length (passing (has_vlan words) (64 * k)) + n) (ap length (word_part words k) ∙ length-bits 64 (get_or words k 0) small)
+    ∙ ap (λ (n : ℕ). length (passing (has_vlan words) (64 * k)) + n)
+    (ap length (word_part words k) ∙ length-bits 64 (get_or words k 0) small)
 
 pub vlan_in_word : (words : List ℕ) (k j bit : ℕ) → k < 64 → slice_get (passing (has_bit (get_or words k 0)) 64) j ≡ Some bit
     → slice_get (passing (has_vlan words) 4096) (length (passing (has_vlan words) (64 * k)) + j) ≡ Some (64 * k + bit)

@@ -15,7 +15,8 @@ kept false n = []
 
 range_with_len-suc : (n : ℕ) → range_with_len 0 (n + 1) ≡ range_with_len 0 n ++ n ∷ []
 range_with_len-suc n =
-    sym (map-id (range_with_len 0 (n + 1))) ∙ map-range_with_len_more (λ (x : ℕ). x) 0 n n (omega arith) ∙ ap (λ (xs : List ℕ). xs ++ n ∷ []) (map-id (range_with_len 0 n))
+    sym (map-id (range_with_len 0 (n + 1))) ∙ map-range_with_len_more (λ (x : ℕ). x) 0 n n (omega arith)
+    ∙ ap (λ (xs : List ℕ). xs ++ n ∷ []) (map-id (range_with_len 0 n))
 
 cond-kept : (b : Bool) (n : ℕ) → cond b (n ∷ []) [] ≡ kept b n
 cond-kept true n = refl
@@ -27,7 +28,8 @@ passing-none p = refl
 
 pub passing-more : (p : ℕ → Bool) (n : ℕ) → passing p (n + 1) ≡ passing p n ++ kept (p n) n
 unfolding passing
-passing-more p n = ap (filter p) (range_with_len-suc n) ∙ filter-append p (range_with_len 0 n) (n ∷ []) ∙ ap (λ (xs : List ℕ). filter p (range_with_len 0 n) ++ xs) (cond-kept (p n) n)
+passing-more p n = ap (filter p) (range_with_len-suc n) ∙ filter-append p (range_with_len 0 n) (n ∷ [])
+    ∙ ap (λ (xs : List ℕ). filter p (range_with_len 0 n) ++ xs) (cond-kept (p n) n)
 
 map-kept : (m n : ℕ) (b : Bool) → map (λ i. m + i) (kept b n) ≡ kept b (m + n)
 map-kept m n true = refl
@@ -36,7 +38,8 @@ map-kept m n false = refl
 -- what passes below m, and what passes from m on
 pub passing-add : (p : ℕ → Bool) (m n : ℕ) → passing p (m + n) ≡ passing p m ++ map (λ i. m + i) (passing (λ i. p (m + i)) n)
 passing-add p m zero =
-    ap (passing p) (add-zero m) ∙ sym (append-nil (passing p m)) ∙ ap (λ (xs : List ℕ). passing p m ++ map (λ i. m + i) xs) (sym (passing-none (λ i. p (m + i))))
+    ap (passing p) (add-zero m) ∙ sym (append-nil (passing p m)) ∙ ap (λ (xs : List ℕ). passing p m ++ map (λ i. m + i) xs)
+    (sym (passing-none (λ i. p (m + i))))
 passing-add p m (suc n) =
     let q : ℕ → Bool = λ i. p (m + i) in
     let next : m + suc n ≡ (m + n) + 1 = omega arith in
@@ -63,7 +66,8 @@ length-kept false n = omega arith
 pub length-passing : (p : ℕ → Bool) (n : ℕ) → length (passing p n) ≤ n
 length-passing p zero = rw (passing-none p) (omega arith)
 length-passing p (suc n) =
-    let e : length (passing p (suc n)) ≡ length (passing p n) + length (kept (p n) n) = ap length (sym (ap (passing p) (add-one n)) ∙ passing-more p n) ∙ length-append (passing p n) (kept (p n) n) in
+    let e : length (passing p (suc n)) ≡ length (passing p n) + length (kept (p n) n) =
+    ap length (sym (ap (passing p) (add-one n)) ∙ passing-more p n) ∙ length-append (passing p n) (kept (p n) n) in
     let a = length-passing p n in
     let b = length-kept (p n) n in
     omega arith
@@ -76,14 +80,18 @@ none_pass p (suc n) none =
     ∙ ap (λ (b : Bool). kept b n) (none n (omega arith))
 
 -- the first that passes, and those that pass without it
-pub passing_first : (p q : ℕ → Bool) (t k : ℕ) → ((i : ℕ) → i < t → p i ≡ false) → p t ≡ true → ((i : ℕ) → i < t → q i ≡ false) → q t ≡ false → ((i : ℕ) → t < i → i < t + (1 + k) → p i ≡ q i)
+pub passing_first : (p q : ℕ → Bool) (t k : ℕ) → ((i : ℕ) → i < t → p i ≡ false) → p t ≡ true → ((i : ℕ) → i < t → q i ≡ false)
+    → q t ≡ false → ((i : ℕ) → t < i → i < t + (1 + k) → p i ≡ q i)
     → passing p (t + (1 + k)) ≡ t ∷ passing q (t + (1 + k))
 passing_first p q t k before here gone out same =
     let rest = passing (λ i. p (t + (1 + i))) k in
     let other = passing (λ i. q (t + (1 + i))) k in
-    let e : rest ≡ other = passing_same (λ i. p (t + (1 + i))) (λ i. q (t + (1 + i))) k (λ i h. same (t + (1 + i)) (omega arith) (omega arith)) in
-    let first : passing (λ i. p (t + i)) 1 ≡ 0 ∷ [] = passing-more (λ i. p (t + i)) 0 ∙ ap (λ (xs : List ℕ). xs ++ kept (p (t + 0)) 0) (passing-none (λ i. p (t + i))) ∙ ap (λ (b : Bool). kept b 0) (ap p (add-zero t) ∙ here) in
-    let second : passing (λ i. q (t + i)) 1 ≡ [] = passing-more (λ i. q (t + i)) 0 ∙ ap (λ (xs : List ℕ). xs ++ kept (q (t + 0)) 0) (passing-none (λ i. q (t + i))) ∙ ap (λ (b : Bool). kept b 0) (ap q (add-zero t) ∙ out) in
+    let e : rest ≡ other = passing_same (λ i. p (t + (1 + i))) (λ i. q (t + (1 + i))) k
+    (λ i h. same (t + (1 + i)) (omega arith) (omega arith)) in
+    let first : passing (λ i. p (t + i)) 1 ≡ 0 ∷ [] = passing-more (λ i. p (t + i)) 0 ∙ ap (λ (xs : List ℕ). xs ++ kept (p (t + 0)) 0)
+    (passing-none (λ i. p (t + i))) ∙ ap (λ (b : Bool). kept b 0) (ap p (add-zero t) ∙ here) in
+    let second : passing (λ i. q (t + i)) 1 ≡ [] = passing-more (λ i. q (t + i)) 0 ∙ ap (λ (xs : List ℕ). xs ++ kept (q (t + 0)) 0)
+    (passing-none (λ i. q (t + i))) ∙ ap (λ (b : Bool). kept b 0) (ap q (add-zero t) ∙ out) in
     let left : passing p (t + (1 + k)) ≡ (t + 0) ∷ map (λ i. t + i) (map (λ i. 1 + i) rest) =
     passing-add p t (1 + k) ∙ ap (λ (xs : List ℕ). xs ++ map (λ i. t + i) (passing (λ i. p (t + i)) (1 + k))) (none_pass p t before)
     ∙ ap (map (λ i. t + i)) (passing-add (λ i. p (t + i)) 1 k ∙ ap (λ (xs : List ℕ). xs ++ map (λ i. 1 + i) rest) first) in
@@ -108,13 +116,15 @@ pub get_map : {X Y : Type 0} (f : X → Y) (xs : List X) (i : ℕ) (x : X) → s
 get_map f xs i x e = slice_get-map f xs i ∙ ap (option_map f) e
 
 -- a place in the list of those from m on is one in the whole list
-pub passing_within : (p : ℕ → Bool) (m n end j x : ℕ) → m + n ≤ end → slice_get (passing (λ i. p (m + i)) n) j ≡ Some x → slice_get (passing p end) (length (passing p m) + j) ≡ Some (m + x)
+pub passing_within : (p : ℕ → Bool) (m n end j x : ℕ) → m + n ≤ end → slice_get (passing (λ i. p (m + i)) n) j ≡ Some x
+    → slice_get (passing p end) (length (passing p m) + j) ≡ Some (m + x)
 passing_within p m n end j x h e =
     let whole : (m + n) + (end - (m + n)) ≡ end = omega arith in
     let part = passing (λ i. p (m + i)) n in
     ap (λ (k : ℕ). slice_get (passing p k) (length (passing p m) + j)) (sym whole)
     ∙ ap (λ (xs : List ℕ). slice_get xs (length (passing p m) + j)) (passing-add p (m + n) (end - (m + n)))
-    ∙ get_left (passing p (m + n)) (map (λ i. (m + n) + i) (passing (λ i. p ((m + n) + i)) (end - (m + n)))) (length (passing p m) + j) (m + x)
+    ∙ get_left (passing p (m + n)) (map (λ i. (m + n) + i) (passing (λ i. p ((m + n) + i)) (end - (m + n)))) (length (passing p m) + j)
+    (m + x)
     (ap (λ (xs : List ℕ). slice_get xs (length (passing p m) + j)) (passing-add p m n)
     ∙ get_right (passing p m) (map (λ i. m + i) part) j ∙ get_map (λ i. m + i) part j x e)
 
@@ -124,20 +134,23 @@ passing_one p = passing-more p 0 ∙ ap (λ (xs : List ℕ). xs ++ kept (p 0) 0)
 -- a number that passes stands after those below it that do
 pub passing_here : (p : ℕ → Bool) (n end : ℕ) → n < end → p n ≡ true → slice_get (passing p end) (length (passing p n)) ≡ Some n
 passing_here p n end h here =
-    let only : passing (λ i. p (n + i)) 1 ≡ 0 ∷ [] = passing_one (λ i. p (n + i)) ∙ ap (λ (b : Bool). kept b 0) (ap p (add-zero n) ∙ here) in
+    let only : passing (λ i. p (n + i)) 1 ≡ 0 ∷ [] =
+    passing_one (λ i. p (n + i)) ∙ ap (λ (b : Bool). kept b 0) (ap p (add-zero n) ∙ here) in
     ap (slice_get (passing p end)) (sym (add-zero (length (passing p n))))
     ∙ passing_within p n 1 end 0 0 (omega arith) (ap (λ (xs : List ℕ). slice_get xs 0) only) ∙ ap (λ (k : ℕ). Some k) (add-zero n)
 
 -- how many pass one further
 pub length-passing-more : (p : ℕ → Bool) (n : ℕ) → length (passing p (n + 1)) ≡ length (passing p n) + from_bool (p n)
-length-passing-more p n = ap length (passing-more p n) ∙ length-append (passing p n) (kept (p n) n) ∙ ap (λ (k : ℕ). length (passing p n) + k) (by (p n))
+length-passing-more p n = ap length (passing-more p n) ∙ length-append (passing p n) (kept (p n) n)
+    ∙ ap (λ (k : ℕ). length (passing p n) + k) (by (p n))
   where
     by : (b : Bool) → length (kept b n) ≡ from_bool b
     by true = refl
     by false = refl
 
 pub length-passing-add : (p : ℕ → Bool) (m n : ℕ) → length (passing p (m + n)) ≡ length (passing p m) + length (passing (λ i. p (m + i)) n)
-length-passing-add p m n = ap length (passing-add p m n) ∙ length-append (passing p m) (map (λ i. m + i) (passing (λ i. p (m + i)) n)) ∙ ap (λ (k : ℕ). length (passing p m) + k) (length-map (passing (λ i. p (m + i)) n) (λ i. m + i))
+length-passing-add p m n = ap length (passing-add p m n) ∙ length-append (passing p m) (map (λ i. m + i) (passing (λ i. p (m + i)) n))
+    ∙ ap (λ (k : ℕ). length (passing p m) + k) (length-map (passing (λ i. p (m + i)) n) (λ i. m + i))
 
 pub from_bool-on : (b : Bool) (n : ℕ) → (b ≡ true → 0 < n) → from_bool b ≤ n
 from_bool-on true n h = h refl

@@ -46,7 +46,8 @@ words_of_same words p is same =
 
 -- one word written, in which one bit changes
 pub words_written : (words : List ℕ) (vlan w : ℕ) (p : ℕ → Bool) → IsWords words → vlan < 4096 → w < 2 ^ 64 → has_bit w (vlan % 64) ≡ p vlan
-    → ((i : ℕ) → i < 64 → i ≢ vlan % 64 → has_bit w i ≡ has_bit (get_or words (vlan / 64) 0) i) → ((v : ℕ) → v ≢ vlan → has_vlan words v ≡ p v)
+    → ((i : ℕ) → i < 64 → i ≢ vlan % 64 → has_bit w i ≡ has_bit (get_or words (vlan / 64) 0) i)
+    → ((v : ℕ) → v ≢ vlan → has_vlan words v ≡ p v)
     → set words (vlan / 64) w ≡ words_of p
 words_written words vlan w p is low small here beside elsewhere =
     let at : ℕ = vlan / 64 in
@@ -61,7 +62,8 @@ words_written words vlan w p is low small here beside elsewhere =
       ];
     })
     (λ v h. elim (cases_eq (v / 64) at) [
-      | inl e ↦ (let got : get_or (set words at w) (v / 64) 0 ≡ w = ap (λ (j : ℕ). get_or (set words at w) j 0) e ∙ get_or-set_same words at w 0 (omega arith) in
+      | inl e ↦ (let got : get_or (set words at w) (v / 64) 0 ≡ w = ap (λ (j : ℕ). get_or (set words at w) j 0) e
+          ∙ get_or-set_same words at w 0 (omega arith) in
           elim (cases_eq (v % 64) (vlan % 64)) [
             | inl r ↦ (let same : v ≡ vlan = omega arith in
                 ap (λ (x : ℕ). has_bit x (v % 64)) got ∙ ap (λ (j : ℕ). has_bit w j) r ∙ here ∙ ap p (sym same))
@@ -83,18 +85,21 @@ words_with words vlan is h small =
     let old = get_or words (vlan / 64) 0 in
     words_written words vlan (bit_or old (mask vlan)) (λ v. (v == vlan) || has_vlan words v) is h
     (or_lt 64 old (mask vlan) (is.small (vlan / 64) (omega arith)) small)
-    (ap (λ (x : ℕ). x == 1) (bit_at_set_same w64 old (vlan % 64) (omega arith)) ∙ sym (ap (λ (b : Bool). b || has_vlan words vlan) (eq-eqb vlan vlan refl)))
+    (ap (λ (x : ℕ). x == 1) (bit_at_set_same w64 old (vlan % 64) (omega arith))
+    ∙ sym (ap (λ (b : Bool). b || has_vlan words vlan) (eq-eqb vlan vlan refl)))
     (λ i low ne. ap (λ (x : ℕ). x == 1) (bit_at_set_other w64 old (vlan % 64) (omega arith) i ne))
     (λ v ne. sym (ap (λ (b : Bool). b || has_vlan words v) (ne_eqb v vlan ne)))
 
 pub words_without : (words : List ℕ) (vlan : ℕ) → IsWords words → vlan < 4096
-    → set words (vlan / 64) (bit_and (get_or words (vlan / 64) 0) (18446744073709551615 - mask vlan)) ≡ words_of (λ v. not (v == vlan) && has_vlan words v)
+    → set words (vlan / 64) (bit_and (get_or words (vlan / 64) 0) (18446744073709551615 - mask vlan)) ≡ words_of
+    (λ v. not (v == vlan) && has_vlan words v)
 words_without words vlan is h =
     let old = get_or words (vlan / 64) 0 in
     let small = is.small (vlan / 64) (omega arith) in
     let less = and_le_l old (18446744073709551615 - mask vlan) in
     words_written words vlan (bit_and old (18446744073709551615 - mask vlan)) (λ v. not (v == vlan) && has_vlan words v) is h
     (omega arith)
-    (ap (λ (x : ℕ). x == 1) (bit_at_clear_same w64 old (vlan % 64) (omega arith)) ∙ sym (ap (λ (b : Bool). not b && has_vlan words vlan) (eq-eqb vlan vlan refl)))
+    (ap (λ (x : ℕ). x == 1) (bit_at_clear_same w64 old (vlan % 64) (omega arith))
+    ∙ sym (ap (λ (b : Bool). not b && has_vlan words vlan) (eq-eqb vlan vlan refl)))
     (λ i low ne. ap (λ (x : ℕ). x == 1) (bit_at_clear_other w64 old (vlan % 64) (omega arith) i low ne))
     (λ v ne. sym (ap (λ (b : Bool). not b && has_vlan words v) (ne_eqb v vlan ne)))

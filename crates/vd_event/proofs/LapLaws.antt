@@ -57,7 +57,8 @@ only_here n old new o w h b some near f =
     (omega (arith, f.1, f.2), sym f.4 ∙ ap is_even k)
 
 -- or it is in the next lap, whose wrap is the other
-pub next : (n old new o : ℕ) (w : Bool) → o < n → o < old % n → old % n < n → n - old % n + o < new - old → w ≡ not (is_even (old / n)) → HasPlace n old new o w
+pub next : (n old new o : ℕ) (w : Bool) → o < n → o < old % n → old % n < n → n - old % n + o < new - old → w ≡ not (is_even (old / n))
+    → HasPlace n old new o w
 next n old new o w h b a d e =
     let s = split n old in (
       suc (old / n) * n + o,
@@ -78,7 +79,8 @@ only_next n old new o w h b a some near f =
     (omega (arith, f.1, f.2), sym f.4 ∙ ap is_even k ∙ even-suc (old / n))
 
 -- a position outside the range and less than two laps away has not the place and wrap of one in it
-pub apart : (n old new s : ℕ) → 0 < n → new ≤ s + 2 * n → s < old + 2 * n → (s < old) ⊎ (new ≤ s) → HasPlace n old new (s % n) (is_even (s / n)) → ⊥
+pub apart : (n old new s : ℕ) → 0 < n → new ≤ s + 2 * n → s < old + 2 * n → (s < old) ⊎ (new ≤ s)
+    → HasPlace n old new (s % n) (is_even (s / n)) → ⊥
 apart n old new s z low high side f =
     let t = split n s in
     let p : f.0 ≡ f.0 / n * n + s % n = split n f.0 ∙ ap (λ (x : ℕ). f.0 / n * n + x) f.3 in

@@ -23,7 +23,8 @@ wrap-packed o f true h = grind (arith, nat_tests)
 wrap-packed o f false h = grind (arith, nat_tests)
 
 -- a side that waits for a position of the range is told
-pub rings_armed : (rule : EventRule) (old new s : ℕ) → IsArmable rule → new - old ≤ reach rule → old ≤ s → s < new → Rings rule old new (arm_word rule s)
+pub rings_armed : (rule : EventRule) (old new s : ℕ) → IsArmable rule → new - old ≤ reach rule → old ≤ s → s < new
+    → Rings rule old new (arm_word rule s)
 rings_armed SplitFlags old new s a near low high = refl
 rings_armed SplitIndex old new s a near low high = grind (arith, nat_tests)
 rings_armed (Packed n) old new s a near low high =
@@ -34,7 +35,8 @@ rings_armed (Packed n) old new s a near low high =
     ))
 
 -- one that waits for a position outside it, less than a period away, isn't
-pub quiet_apart : (rule : EventRule) (old new s : ℕ) → IsArmable rule → old < new → new - old ≤ reach rule → new ≤ s + period rule → s < old + period rule
+pub quiet_apart : (rule : EventRule) (old new s : ℕ) → IsArmable rule → old < new → new - old ≤ reach rule → new ≤ s + period rule
+    → s < old + period rule
     → (s < old) ⊎ (new ≤ s) → Rings rule old new (arm_word rule s) → ⊥
 quiet_apart SplitFlags old new s a some near low high side r = omega arith
 quiet_apart SplitIndex old new s a some near low high side r = grind (arith, nat_tests)

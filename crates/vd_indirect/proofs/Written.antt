@@ -23,7 +23,8 @@ more_is : (xs : List Piece) → is_more xs ≡ nat_lt 1 (suc (length xs))
 more_is [] = refl
 more_is (x ∷ xs) = sym (lt-ltb 1 (suc (suc (length xs))) (omega arith))
 
-addr_at : (kind : TableKind) (place : ℕ) (xs : List Piece) (i : ℕ) → i < length xs → get_or (words_from kind place xs) (2 * i) 0 ≡ (get_or xs i blank).addr
+addr_at : (kind : TableKind) (place : ℕ) (xs : List Piece) (i : ℕ) → i < length xs
+    → get_or (words_from kind place xs) (2 * i) 0 ≡ (get_or xs i blank).addr
 addr_at kind place [] i h = absurd (omega arith)
 addr_at kind place (x ∷ xs) zero h = refl
 addr_at kind place (x ∷ xs) (suc i) h =
@@ -59,7 +60,8 @@ len_is Split x true place h = omega arith
 len_is Split x false place h = omega arith
 len_is Packed x more place h = omega arith
 
-split_flags : (x : Piece) (more : Bool) (place : ℕ) → x.len < 2 ^ 32 → lane16 (second_word Split x more place) 2 ≡ flag 1 more + flag 2 x.write
+split_flags : (x : Piece) (more : Bool) (place : ℕ) → x.len < 2 ^ 32 → lane16 (second_word Split x more place) 2 ≡ flag 1 more
+    + flag 2 x.write
 split_flags x true place h = let w = flag-le 2 x.write in omega arith
 split_flags x false place h = let w = flag-le 2 x.write in omega arith
 
@@ -98,43 +100,54 @@ packed_indirect false = refl
 
 -- ---- a written table
 
-pub second_is : (kind : TableKind) (c : List Piece) (i : ℕ) → i < length c → second_at (table_words kind c) i ≡ second_word kind (get_or c i blank) (nat_lt (i + 1) (length c)) i
+pub second_is : (kind : TableKind) (c : List Piece) (i : ℕ) → i < length c
+    → second_at (table_words kind c) i ≡ second_word kind (get_or c i blank) (nat_lt (i + 1) (length c)) i
 second_is kind c i h = word_at kind 0 c i h ∙ ap (second_word kind (get_or c i blank) (nat_lt (i + 1) (length c))) (zero-add i)
 
 -- a word by its number
-pub even_word : (kind : TableKind) (c : List Piece) (at : ℕ) → at % 2 ≡ 0 → at < 2 * length c → get_or (table_words kind c) at 0 ≡ (get_or c (at / 2) blank).addr
-even_word kind c at even h = let e : at ≡ 2 * (at / 2) = omega arith in ap (λ (n : ℕ). get_or (table_words kind c) n 0) e ∙ addr_at kind 0 c (at / 2) (omega arith)
+pub even_word : (kind : TableKind) (c : List Piece) (at : ℕ) → at % 2 ≡ 0 → at < 2 * length c
+    → get_or (table_words kind c) at 0 ≡ (get_or c (at / 2) blank).addr
+even_word kind c at even h = let e : at ≡ 2 * (at / 2) = omega arith in ap (λ (n : ℕ). get_or (table_words kind c) n 0) e
+    ∙ addr_at kind 0 c (at / 2) (omega arith)
 
-pub odd_word : (kind : TableKind) (c : List Piece) (at : ℕ) → at % 2 ≢ 0 → at < 2 * length c → get_or (table_words kind c) at 0 ≡ second_word kind (get_or c (at / 2) blank) (nat_lt (at / 2 + 1) (length c)) (at / 2)
-odd_word kind c at odd h = let e : at ≡ 2 * (at / 2) + 1 = omega arith in ap (λ (n : ℕ). get_or (table_words kind c) n 0) e ∙ second_is kind c (at / 2) (omega arith)
+pub odd_word : (kind : TableKind) (c : List Piece) (at : ℕ) → at % 2 ≢ 0 → at < 2 * length c
+    → get_or (table_words kind c) at 0 ≡ second_word kind (get_or c (at / 2) blank) (nat_lt (at / 2 + 1) (length c)) (at / 2)
+odd_word kind c at odd h = let e : at ≡ 2 * (at / 2) + 1 = omega arith in ap (λ (n : ℕ). get_or (table_words kind c) n 0) e
+    ∙ second_is kind c (at / 2) (omega arith)
 
 len_small : (c : List Piece) → IsChain c → (i : ℕ) → i < length c → (get_or c i blank).len < 2 ^ 32
 len_small c chain i h = (chain.3 i blank h).1
 
 -- the flags of a place
-flags_are : (kind : TableKind) (c : List Piece) → IsChain c → (i : ℕ) → i < length c → (has (flags_of kind (table_words kind c) i) 1 ≡ (get_or c i blank).write) × (has (flags_of kind (table_words kind c) i) 2 ≡ false)
+flags_are : (kind : TableKind) (c : List Piece) → IsChain c → (i : ℕ) → i < length c
+    → (has (flags_of kind (table_words kind c) i) 1 ≡ (get_or c i blank).write) × (has (flags_of kind (table_words kind c) i) 2 ≡ false)
 flags_are Split c chain i h =
     let x = get_or c i blank in
     let more = nat_lt (i + 1) (length c) in
-    let is : flags_of Split (table_words Split c) i ≡ flag 1 more + flag 2 x.write = ap (λ (w : ℕ). lane16 w 2) (second_is Split c i h) ∙ split_flags x more i (len_small c chain i h) in
+    let is : flags_of Split (table_words Split c) i ≡ flag 1 more + flag 2 x.write = ap (λ (w : ℕ). lane16 w 2) (second_is Split c i h)
+    ∙ split_flags x more i (len_small c chain i h) in
     (ap (λ (f : ℕ). has f 1) is ∙ write_bit more x.write, ap (λ (f : ℕ). has f 2) is ∙ indirect_bit more x.write)
 flags_are Packed c chain i h =
     let x = get_or c i blank in
     let more = nat_lt (i + 1) (length c) in
-    let is : flags_of Packed (table_words Packed c) i ≡ flag 2 x.write = ap (λ (w : ℕ). lane16 w 3) (second_is Packed c i h) ∙ packed_flags x more i (len_small c chain i h) in
+    let is : flags_of Packed (table_words Packed c) i ≡ flag 2 x.write = ap (λ (w : ℕ). lane16 w 3) (second_is Packed c i h)
+    ∙ packed_flags x more i (len_small c chain i h) in
     (ap (λ (f : ℕ). has f 1) is ∙ packed_write x.write, ap (λ (f : ℕ). has f 2) is ∙ packed_indirect x.write)
 
-split_more : (c : List Piece) → IsChain c → (i : ℕ) → i < length c → has (flags_of Split (table_words Split c) i) 0 ≡ nat_lt (i + 1) (length c)
+split_more : (c : List Piece) → IsChain c → (i : ℕ) → i < length c
+    → has (flags_of Split (table_words Split c) i) 0 ≡ nat_lt (i + 1) (length c)
 split_more c chain i h =
     let x = get_or c i blank in
     let more = nat_lt (i + 1) (length c) in
-    ap (λ (f : ℕ). has f 0) (ap (λ (w : ℕ). lane16 w 2) (second_is Split c i h) ∙ split_flags x more i (len_small c chain i h)) ∙ next_bit more x.write
+    ap (λ (f : ℕ). has f 0) (ap (λ (w : ℕ). lane16 w 2) (second_is Split c i h) ∙ split_flags x more i (len_small c chain i h))
+    ∙ next_bit more x.write
 
 next_is : (c : List Piece) → IsChain c → (i : ℕ) → i + 1 < length c → next_of (table_words Split c) i ≡ i + 1
 next_is c chain i h =
     let x = get_or c i blank in
     let few = chain.1 in
-    ap (λ (w : ℕ). lane16 w 3) (second_is Split c i (omega arith) ∙ ap (λ (b : Bool). second_word Split x b i) (lt-ltb (i + 1) (length c) h))
+    ap (λ (w : ℕ). lane16 w 3) (second_is Split c i (omega arith) ∙ ap (λ (b : Bool). second_word Split x b i)
+    (lt-ltb (i + 1) (length c) h))
     ∙ split_next x i (len_small c chain i (omega arith)) (omega arith)
 
 -- the walk visits the places in order
@@ -146,30 +159,37 @@ visited_in_order Split c chain (suc i) h =
     ap (next_of (table_words Split c)) (visited_in_order Split c chain i (omega arith)) ∙ next_is c chain i (omega arith) ∙ add-one i
 
 -- each place spells its piece
-piece_is : (kind : TableKind) (c : List Piece) → IsChain c → (i : ℕ) → i < length c → piece_at kind (table_words kind c) i ≡ get_or c i blank
+piece_is : (kind : TableKind) (c : List Piece) → IsChain c → (i : ℕ) → i < length c
+    → piece_at kind (table_words kind c) i ≡ get_or c i blank
 piece_is kind c chain i h =
     let x = get_or c i blank in
     let addr : get_or (table_words kind c) (2 * i) 0 ≡ x.addr = addr_at kind 0 c i h in
-    let len : lane32 (second_at (table_words kind c) i) 0 ≡ x.len = ap (λ (w : ℕ). lane32 w 0) (second_is kind c i h) ∙ len_is kind x (nat_lt (i + 1) (length c)) i (len_small c chain i h) in
+    let len : lane32 (second_at (table_words kind c) i) 0 ≡ x.len = ap (λ (w : ℕ). lane32 w 0) (second_is kind c i h)
+    ∙ len_is kind x (nat_lt (i + 1) (length c)) i (len_small c chain i h) in
     let write = (flags_are kind c chain i h).0 in
     same_piece _ _ _ x addr len write
   where
-    same_piece : (a l : ℕ) (w : Bool) (x : Piece) → a ≡ x.addr → l ≡ x.len → w ≡ x.write → ◌≡◌ {A = Piece} (record { addr = a; len = l; write = w }) x
+    same_piece : (a l : ℕ) (w : Bool) (x : Piece) → a ≡ x.addr → l ≡ x.len → w ≡ x.write
+        → ◌≡◌ {A = Piece} (record { addr = a; len = l; write = w }) x
     same_piece a l w x e f g =
         ap (λ (n : ℕ). let p : Piece = record { addr = n; len = l; write = w } in p) e
         ∙ ap (λ (n : ℕ). let p : Piece = record { addr = x.addr; len = n; write = w } in p) f
         ∙ ap (λ (b : Bool). let p : Piece = record { addr = x.addr; len = x.len; write = b } in p) g
 
-spelled : (kind : TableKind) (c : List Piece) → IsChain c → (i : ℕ) → i < length c → piece_at kind (table_words kind c) (visited kind (table_words kind c) i) ≡ get_or c i blank
+spelled : (kind : TableKind) (c : List Piece) → IsChain c → (i : ℕ) → i < length c
+    → piece_at kind (table_words kind c) (visited kind (table_words kind c) i) ≡ get_or c i blank
 spelled kind c chain i h = ap (piece_at kind (table_words kind c)) (visited_in_order kind c chain i h) ∙ piece_is kind c chain i h
 
 -- ---- the walk through a written table
 
-on_to_next : (kind : TableKind) (c : List Piece) → IsChain c → (i : ℕ) → i < length c → goes_on kind (table_words kind c) (length c) i ≡ nat_lt (i + 1) (length c)
-on_to_next Split c chain i h = ap (λ (p : ℕ). has (flags_of Split (table_words Split c) p) 0) (visited_in_order Split c chain i h) ∙ split_more c chain i h
+on_to_next : (kind : TableKind) (c : List Piece) → IsChain c → (i : ℕ) → i < length c
+    → goes_on kind (table_words kind c) (length c) i ≡ nat_lt (i + 1) (length c)
+on_to_next Split c chain i h = ap (λ (p : ℕ). has (flags_of Split (table_words Split c) p) 0) (visited_in_order Split c chain i h)
+    ∙ split_more c chain i h
 on_to_next Packed c chain i h = refl
 
-all_linked : (kind : TableKind) (c : List Piece) → IsChain c → (i : ℕ) → i < length c → is_unlinked kind (table_words kind c) (length c) i ≡ false
+all_linked : (kind : TableKind) (c : List Piece) → IsChain c → (i : ℕ) → i < length c
+    → is_unlinked kind (table_words kind c) (length c) i ≡ false
 all_linked Packed c chain i h = refl
 all_linked Split c chain i h =
     let words = table_words Split c in
@@ -180,7 +200,8 @@ all_linked Split c chain i h =
           (or_from (nat_le (length c) (next_of words (visited Split words i))) (i + 1 == length c)
           (ap (nat_le (length c)) next ∙ lt-leb (length c) (i + 1) below)
           (ne_eqb (i + 1) (length c) (λ e. absurd (omega arith)))))
-      | inr above ↦ and_left (goes_on Split words (length c) i) (nat_le (length c) (next_of words (visited Split words i)) || (i + 1 == length c))
+      | inr above ↦ and_left (goes_on Split words (length c) i)
+          (nat_le (length c) (next_of words (visited Split words i)) || (i + 1 == length c))
           (on_to_next Split c chain i h ∙ le-ltb (i + 1) (length c) above)
     ]
 
@@ -198,19 +219,24 @@ in_order kind c chain (suc i) h =
     ∙ ordered (get_or c i blank).write (get_or c (suc i) blank).write (chain.2 i (suc i) blank (omega arith) h)
 
 not_nested : (kind : TableKind) (c : List Piece) → IsChain c → (i : ℕ) → i < length c → is_nested kind (table_words kind c) i ≡ false
-not_nested kind c chain i h = ap (λ (p : ℕ). has (flags_of kind (table_words kind c) p) 2) (visited_in_order kind c chain i h) ∙ (flags_are kind c chain i h).1
+not_nested kind c chain i h = ap (λ (p : ℕ). has (flags_of kind (table_words kind c) p) 2) (visited_in_order kind c chain i h)
+    ∙ (flags_are kind c chain i h).1
 
-good : (kind : TableKind) (c : List Piece) → IsChain c → (i : ℕ) → i < length c → outcome kind (table_words kind c) (length c) i ≡ Ok (pieces_of kind (table_words kind c) (i + 1))
+good : (kind : TableKind) (c : List Piece) → IsChain c → (i : ℕ) → i < length c
+    → outcome kind (table_words kind c) (length c) i ≡ Ok (pieces_of kind (table_words kind c) (i + 1))
 good kind c chain i h =
     let words = table_words kind c in
-    judge_passes (is_nested kind words i) (is_misplaced kind words i) (Nested (visited kind words i)) (Order (visited kind words i)) (linked kind words (length c) i (is_unlinked kind words (length c) i))
+    judge_passes (is_nested kind words i) (is_misplaced kind words i) (Nested (visited kind words i)) (Order (visited kind words i))
+    (linked kind words (length c) i (is_unlinked kind words (length c) i))
     (not_nested kind c chain i h) (in_order kind c chain i h)
     ∙ ap (linked kind words (length c) i) (all_linked kind c chain i h)
 
-ends_is : (kind : TableKind) (c : List Piece) → IsChain c → (i : ℕ) → i < length c → ends kind (table_words kind c) (length c) i ≡ not (nat_lt (i + 1) (length c))
+ends_is : (kind : TableKind) (c : List Piece) → IsChain c → (i : ℕ) → i < length c
+    → ends kind (table_words kind c) (length c) i ≡ not (nat_lt (i + 1) (length c))
 ends_is kind c chain i h =
     let words = table_words kind c in
-    ap (λ (r : Result (List Piece) TableFault). is_err r || not (goes_on kind words (length c) i)) (good kind c chain i h) ∙ ap not (on_to_next kind c chain i h)
+    ap (λ (r : Result (List Piece) TableFault). is_err r || not (goes_on kind words (length c) i)) (good kind c chain i h)
+    ∙ ap not (on_to_next kind c chain i h)
 
 pub walked_back : (kind : TableKind) (c : List Piece) → IsChain c → walked kind (table_words kind c) (length c) ≡ Ok c
 walked_back kind c chain =
@@ -223,7 +249,9 @@ walked_back kind c chain =
     (ends_is kind c chain last (omega arith) ∙ ap not (le-ltb (last + 1) (length c) (omega arith)))
     ∙ good kind c chain last (omega arith)
     ∙ ap (λ (n : ℕ). Ok (pieces_of kind words n)) whole
-    ∙ ap (λ (xs : List Piece). Ok xs) (sym (fill_by_all (λ n. piece_at kind words (visited kind words n)) c (length c) blank refl (λ k h. sym (spelled kind c chain k h))))
+    ∙ ap (λ (xs : List Piece). Ok xs)
+    (sym (fill_by_all (λ n. piece_at kind words (visited kind words n)) c (length c) blank refl
+    (λ k h. sym (spelled kind c chain k h))))
 
 -- a table of 16 bytes a piece is read as the chain that was written
 pub reads_back : (kind : TableKind) (c : List Piece) → IsChain c → read kind (table_words kind c) (16 * length c) ≡ Ok c
@@ -236,6 +264,7 @@ reads_back kind c chain =
 
 -- ---- the last piece written
 
-pub all_written : (kind : TableKind) (words : List ℕ) (xs : List Piece) (i : ℕ) (whole : List ℕ) → length xs ≤ i → words ++ words_from kind i (drop i xs) ≡ whole → words ≡ whole
+pub all_written : (kind : TableKind) (words : List ℕ) (xs : List Piece) (i : ℕ) (whole : List ℕ) → length xs ≤ i
+    → words ++ words_from kind i (drop i xs) ≡ whole → words ≡ whole
 all_written kind words xs i whole h e =
     sym (append-nil words) ∙ ap (λ (ws : List ℕ). words ++ ws) (sym (at_drop_all (words_from kind i) xs i h)) ∙ e

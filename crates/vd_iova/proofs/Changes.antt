@@ -68,12 +68,15 @@ all_from_has P [] each = tt
 all_from_has P (n ∷ ns) each = (each n (inl refl), all_from_has P ns (λ o h. each o (inr h)))
 
 -- no mapping is below the first of a list in order
-pub first_lowest : (first last : ℕ) (n : Mapping) (ns : List Mapping) → AllByRecursion (IsWithin first last) (n ∷ ns) → IsApart (n ∷ ns) → (o : Mapping) → Has (n ∷ ns) o → n.iova ≤ o.iova
+pub first_lowest : (first last : ℕ) (n : Mapping) (ns : List Mapping) → AllByRecursion (IsWithin first last) (n ∷ ns) → IsApart (n ∷ ns)
+    → (o : Mapping) → Has (n ∷ ns) o → n.iova ≤ o.iova
 first_lowest first last n ns within apart o (inl h) = let e : n.iova ≡ o.iova = ap (λ (y : Mapping). y.iova) h in omega arith
 first_lowest first last n ns within apart o (inr h) = let before = of_each (IsBefore n) ns o apart.0 h in omega (arith, before.iova)
 
-pub apart_placed : (first last : ℕ) (m : Mapping) (ms : List Mapping) → IsWithin first last m → AllByRecursion (IsWithin first last) ms → IsApart ms
-    → ((n : Mapping) → Has ms n → meets_iova m.iova m.size n ≡ false) → ((n : Mapping) → Has ms n → meets_guest m.guest m.size n ≡ false) → IsApart (placed m ms)
+pub apart_placed : (first last : ℕ) (m : Mapping) (ms : List Mapping) → IsWithin first last m → AllByRecursion (IsWithin first last) ms
+    → IsApart ms
+    → ((n : Mapping) → Has ms n → meets_iova m.iova m.size n ≡ false)
+    → ((n : Mapping) → Has ms n → meets_guest m.guest m.size n ≡ false) → IsApart (placed m ms)
 apart_placed first last m [] mine within apart iovas guests = (tt, tt)
 apart_placed first last m (n ∷ ns) mine within apart iovas guests = elim (cases_Bool (nat_lt m.iova n.iova)) [
   | inl t ↦ rw t (
@@ -82,7 +85,8 @@ apart_placed first last m (n ∷ ns) mine within apart iovas guests = elim (case
         let theirs = of_each (IsWithin first last) (n ∷ ns) o within has in
         let below : m.iova < n.iova = grind (arith, nat_tests) in
         record {
-          iova = elim (sides m.iova m.size o.iova o.size mine.has_byte theirs.has_byte (iovas o has)) [ inl h ↦ h | inr h ↦ absurd (omega (arith, theirs.has_byte)) ];
+          iova = elim (sides m.iova m.size o.iova o.size mine.has_byte theirs.has_byte (iovas o has))
+              [ inl h ↦ h | inr h ↦ absurd (omega (arith, theirs.has_byte)) ];
           guest = guests o has;
         }),
     apart,
@@ -91,7 +95,8 @@ apart_placed first last m (n ∷ ns) mine within apart iovas guests = elim (case
     all_placed (IsBefore n) m ns
         (let above : n.iova ≤ m.iova = grind (arith, nat_tests) in
         record {
-          iova = elim (sides m.iova m.size n.iova n.size mine.has_byte within.0.has_byte (iovas n (inl refl))) [ inl h ↦ absurd (omega (arith, mine.has_byte)) | inr h ↦ h ];
+          iova = elim (sides m.iova m.size n.iova n.size mine.has_byte within.0.has_byte (iovas n (inl refl)))
+              [ inl h ↦ absurd (omega (arith, mine.has_byte)) | inr h ↦ h ];
           guest = meets-flip m.guest m.size n.guest n.size (guests n (inl refl));
         }) apart.0,
     apart_placed first last m ns mine within.1 apart.1 (λ o h. iovas o (inr h)) (λ o h. guests o (inr h)),
@@ -122,7 +127,8 @@ fresh_guest t m n kept fresh has e =
     (omega arith) (omega (arith, fresh.within.has_byte)) (omega arith) (omega (arith, theirs.has_byte))
 
 -- the entries with a mapping under a new iova
-pub insert-entries : (m : Mapping) (ms : List Mapping) → ((n : Mapping) → Has ms n → n.iova ≡ m.iova → ⊥) → insert_entry nat_cmp (map entry ms) m.iova m ≡ map entry (placed m ms)
+pub insert-entries : (m : Mapping) (ms : List Mapping) → ((n : Mapping) → Has ms n → n.iova ≡ m.iova → ⊥)
+    → insert_entry nat_cmp (map entry ms) m.iova m ≡ map entry (placed m ms)
 insert-entries m [] other = refl
 insert-entries m (n ∷ ns) other = elim (cases_order m.iova n.iova) [
   | inl e ↦ absurd (other n (inl refl) (sym e))
@@ -134,7 +140,8 @@ insert-entries m (n ∷ ns) other = elim (cases_order m.iova n.iova) [
 
 -- an index with a mapping under a new key
 pub index_added : (key : Mapping → ℕ) (was now : ℕ → Option Mapping) (m : Mapping) (ms : List Mapping) → IsIndex key was ms
-    → ((q : ℕ) → now q ≡ cond (is_at (nat_cmp (key m)) q) (Some m) (was q)) → ((n : Mapping) → Has ms n → key n ≡ key m → ⊥) → IsIndex key now (placed m ms)
+    → ((q : ℕ) → now q ≡ cond (is_at (nat_cmp (key m)) q) (Some m) (was q)) → ((n : Mapping) → Has ms n → key n ≡ key m → ⊥)
+    → IsIndex key now (placed m ms)
 index_added key was now m ms index step other = record {
   sound = λ q o e. elim (cases_Bool (nat_eq (key m) q)) [
     | inl t ↦ (let got : Some m ≡ Some o = sym (step q ∙ (rw (at_key (key m) q ∙ t) refl)) ∙ e in
@@ -150,7 +157,8 @@ index_added key was now m ms index step other = record {
 }
 
 -- an index that finds the same is an index
-pub index_same : (key : Mapping → ℕ) (was now : ℕ → Option Mapping) (ms : List Mapping) → IsIndex key was ms → ((q : ℕ) → now q ≡ was q) → IsIndex key now ms
+pub index_same : (key : Mapping → ℕ) (was now : ℕ → Option Mapping) (ms : List Mapping) → IsIndex key was ms → ((q : ℕ) → now q ≡ was q)
+    → IsIndex key now ms
 index_same key was now ms index same = record {
   sound = λ q o e. index.sound q o (sym (same q) ∙ e);
   whole = λ o has. same (key o) ∙ index.whole o has;
@@ -158,7 +166,8 @@ index_same key was now ms index same = record {
 
 -- a mapping that was put under a new key and taken out again
 pub index_undone : (key : Mapping → ℕ) (was put now : ℕ → Option Mapping) (m : Mapping) (ms : List Mapping) → IsIndex key was ms
-    → ((q : ℕ) → put q ≡ cond (is_at (nat_cmp (key m)) q) (Some m) (was q)) → ((q : ℕ) → now q ≡ cond (is_at (nat_cmp (key m)) q) None (put q))
+    → ((q : ℕ) → put q ≡ cond (is_at (nat_cmp (key m)) q) (Some m) (was q))
+    → ((q : ℕ) → now q ≡ cond (is_at (nat_cmp (key m)) q) None (put q))
     → ((n : Mapping) → Has ms n → key n ≡ key m → ⊥) → IsIndex key now ms
 index_undone key was put now m ms index step back other = index_same key was now ms index (λ q. elim (cases_Bool (nat_eq (key m) q)) [
   | inl t ↦ (let gone : now q ≡ None = back q ∙ (rw (at_key (key m) q ∙ t) refl) in

@@ -23,7 +23,8 @@ floor_found found at k m below is greatest key ms index =
       has = mine.0;
       below = omega (arith, mine.1);
       greatest = λ n has n_le.
-          let least : key n ≤ k = ge_from_not_lt k (key n) (greatest (key n) (not_gt_from_le (key n) at n_le) (subst IsSome (sym (index.whole n has)) refl)) in
+          let least : key n ≤ k = ge_from_not_lt k (key n)
+          (greatest (key n) (not_gt_from_le (key n) at n_le) (subst IsSome (sym (index.whole n has)) refl)) in
           omega (arith, mine.1, least);
     }
 
@@ -34,7 +35,8 @@ pub lt_from_less : (a b : ℕ) → nat_cmp a b ≡ Less → a < b
 lt_from_less a b h = grind (arith, nat_tests)
 
 -- what is found at k, where k is the least key found from `start` on and below `end`
-pub first_found : (found : ℕ → Option Mapping) (start end k : ℕ) (m : Mapping) → is_gt (nat_cmp start k) ≡ false → nat_cmp k end ≡ Less → found k ≡ Some m
+pub first_found : (found : ℕ → Option Mapping) (start end k : ℕ) (m : Mapping) → is_gt (nat_cmp start k) ≡ false → nat_cmp k end ≡ Less
+    → found k ≡ Some m
     → ((q : ℕ) → is_gt (nat_cmp start q) ≡ false → nat_cmp q end ≡ Less → IsSome (found q) → is_gt (nat_cmp k q) ≡ false)
     → (key : Mapping → ℕ) (ms : List Mapping) → IsIndex key found ms → IsLeast key start end ms m
 first_found found start end k m from below is least key ms index =
@@ -47,6 +49,8 @@ first_found found start end k m from below is least key ms index =
       from = omega arith;
       below = omega arith;
       lowest = λ n has n_from n_below.
-          let le : k ≤ key n = le_from_not_gt k (key n) (least (key n) (not_gt_from_le start (key n) n_from) (less_from_lt (key n) end n_below) (subst IsSome (sym (index.whole n has)) refl)) in
+          let le : k ≤ key n = le_from_not_gt k (key n)
+          (least (key n) (not_gt_from_le start (key n) n_from) (less_from_lt (key n) end n_below)
+          (subst IsSome (sym (index.whole n has)) refl)) in
           omega arith;
     }

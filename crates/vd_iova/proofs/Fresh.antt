@@ -29,7 +29,8 @@ find_neither p q (n ∷ ns) e = elim (cases_Bool (p n)) [
 ]
 
 -- a mapping at the lowest hole
-pub fresh_at_hole : (t : Tree) (size guest iova : ℕ) → IsLowestHole t size iova → 0 < size → guest + size ≤ 2 ^ 63 → find (meets_guest guest size) t.mappings ≡ None
+pub fresh_at_hole : (t : Tree) (size guest iova : ℕ) → IsLowestHole t size iova → 0 < size → guest + size ≤ 2 ^ 63
+    → find (meets_guest guest size) t.mappings ≡ None
     → IsFresh t (record { iova = iova; size = size; guest = guest })
 fresh_at_hole t size guest iova lowest some below none =
     let low = and_parts (nat_le t.first iova) (fits t.last size t.mappings iova) lowest.free in

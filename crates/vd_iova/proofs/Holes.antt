@@ -64,11 +64,13 @@ fits_not last size y m ms h = by (nat_le (y + size) (last + 1)) (meets_iova y si
 fits_met : (last size y : ℕ) (m : Mapping) (ms : List Mapping) → meets_iova y size m ≡ true → fits last size (m ∷ ms) y ≡ false
 fits_met last size y m ms h = rw h (and_right (nat_le (y + size) (last + 1)) false refl)
 
-fits_past : (last size x : ℕ) (m : Mapping) (ms : List Mapping) → fits last size ms x ≡ true → meets_iova x size m ≡ false → fits last size (m ∷ ms) x ≡ true
+fits_past : (last size x : ℕ) (m : Mapping) (ms : List Mapping) → fits last size ms x ≡ true → meets_iova x size m ≡ false
+    → fits last size (m ∷ ms) x ≡ true
 fits_past last size x m ms h apart = rw apart h
 
 -- what holds past the first mapping holds of all, where the bytes do not fit before it
-later : (last size s at : ℕ) (m : Mapping) (ms : List Mapping) (o : Option ℕ) → at ≡ page_end s → s ≤ m.iova → 0 < size → 0 < m.size → m.iova - at < size
+later : (last size s at : ℕ) (m : Mapping) (ms : List Mapping) (o : Option ℕ) → at ≡ page_end s → s ≤ m.iova → 0 < size → 0 < m.size
+    → m.iova - at < size
     → Walks last size (page_end (m.iova + m.size)) ms o → Walks last size at (m ∷ ms) o
 later last size s at m ms None e below some byte short rest = λ y aligned from. elim (cases_lt y (page_end (m.iova + m.size))) [
   | inl h ↦ (let inside : y < m.iova + m.size = below_page_end (m.iova + m.size) y aligned h in
@@ -80,7 +82,8 @@ later last size s at m ms (Some x) e below some byte short rest =
     record {
       from = omega (arith, rest.from);
       aligned = rest.aligned;
-      fit = fits_past last size x m ms rest.fit (apart_from_ends x size m.iova m.size (inl (omega (arith, rest.from, page_end-above (m.iova + m.size)))));
+      fit = fits_past last size x m ms rest.fit
+          (apart_from_ends x size m.iova m.size (inl (omega (arith, rest.from, page_end-above (m.iova + m.size)))));
       least = λ y aligned from lower. elim (cases_lt y (page_end (m.iova + m.size))) [
         | inl h ↦ (let inside : y < m.iova + m.size = below_page_end (m.iova + m.size) y aligned h in
             fits_met last size y m ms (meets_from_ends y size m.iova m.size inside (omega arith)))
@@ -88,7 +91,8 @@ later last size s at m ms (Some x) e below some byte short rest =
       ];
     }
 
-pub walked : (first last size s at : ℕ) (ms : List Mapping) → 0 < size → at ≡ page_end s → AllByRecursion (IsWithin first last) ms → IsApart ms
+pub walked : (first last size s at : ℕ) (ms : List Mapping) → 0 < size → at ≡ page_end s → AllByRecursion (IsWithin first last) ms
+    → IsApart ms
     → ((n : Mapping) → Has ms n → s ≤ n.iova) → Walks last size at ms (walk last size at ms)
 walked first last size s at [] some e within apart below = elim (cases_Bool (nat_le size (last + 1 - at))) [
   | inl t ↦ (let room : size ≤ last + 1 - at = leb-true size (last + 1 - at) t in
@@ -107,7 +111,8 @@ walked first last size s at (m ∷ ms) some e within apart below = elim (cases_B
       rw t (record {
         from = omega arith;
         aligned = rw e (page_end-aligned s);
-        fit = and_from (nat_le (at + size) (last + 1)) (not (list_any (meets_iova at size) (m ∷ ms))) (le-leb (at + size) (last + 1) (omega arith))
+        fit = and_from (nat_le (at + size) (last + 1)) (not (list_any (meets_iova at size) (m ∷ ms)))
+            (le-leb (at + size) (last + 1) (omega arith))
             (ap not (none_any (meets_iova at size) (m ∷ ms) (λ n has. apart_from_ends at size n.iova n.size (inr (omega (
               arith,
               elim has as (λ v. m.iova ≤ n.iova) [
@@ -119,11 +124,13 @@ walked first last size s at (m ∷ ms) some e within apart below = elim (cases_B
       }))
   | inr f ↦ (let short : m.iova - at < size = leb-false size (m.iova - at) f in
       rw f (later last size s at m ms (walk last size (page_end (m.iova + m.size)) ms) e (below m (inl refl)) some within.0.has_byte short
-      (walked first last size (m.iova + m.size) (page_end (m.iova + m.size)) ms some refl within.1 apart.1 (λ n h. let before = of_each (IsBefore m) ms n apart.0 h in before.iova))))
+      (walked first last size (m.iova + m.size) (page_end (m.iova + m.size)) ms some refl within.1 apart.1 (λ n h. let before =
+      of_each (IsBefore m) ms n apart.0 h in before.iova))))
 ]
 
 -- where the walk stops
-pub walk_stops : (last size at : ℕ) (rest : List Mapping) (m : Mapping) (ms : List Mapping) → rest ≡ m ∷ ms → size ≤ m.iova - at → walk last size at rest ≡ Some at
+pub walk_stops : (last size at : ℕ) (rest : List Mapping) (m : Mapping) (ms : List Mapping) → rest ≡ m ∷ ms → size ≤ m.iova - at
+    → walk last size at rest ≡ Some at
 walk_stops last size at rest m ms e room = rw e (rw (le-leb size (m.iova - at) room) refl)
 
 pub walk_ends : (last size at : ℕ) (rest : List Mapping) → rest ≡ [] → size ≤ last + 1 - at → walk last size at rest ≡ Some at
@@ -139,7 +146,8 @@ abbrev pub Answers : Tree → ℕ → Option ℕ → Type 0
 Answers t size None = HasNoHole t size
 Answers t size (Some x) = IsLowestHole t size x
 
-not_free : (t : Tree) (size y : ℕ) → (page_end t.first ≤ y → fits t.last size t.mappings y ≡ false) → y % 4096 ≡ 0 → is_free t size y ≡ false
+not_free : (t : Tree) (size y : ℕ) → (page_end t.first ≤ y → fits t.last size t.mappings y ≡ false) → y % 4096 ≡ 0
+    → is_free t size y ≡ false
 not_free t size y h aligned = elim (cases_lt y (page_end t.first)) [
   | inl k ↦ and_left (nat_le t.first y) (fits t.last size t.mappings y) (lt-leb t.first y (below_page_end t.first y aligned k))
   | inr k ↦ and_right (nat_le t.first y) (fits t.last size t.mappings y) (h k)
@@ -149,13 +157,15 @@ answers_from : (t : Tree) (size : ℕ) (o : Option ℕ) → Walks t.last size (p
 answers_from t size None h = λ y aligned. not_free t size y (h y aligned) aligned
 answers_from t size (Some x) h = record {
   aligned = h.aligned;
-  free = and_from (nat_le t.first x) (fits t.last size t.mappings x) (le-leb t.first x (omega (arith, h.from, page_end-above t.first))) h.fit;
+  free = and_from (nat_le t.first x) (fits t.last size t.mappings x) (le-leb t.first x (omega (arith, h.from, page_end-above t.first)))
+      h.fit;
   lowest = λ y aligned lower. not_free t size y (λ from. h.least y aligned from lower) aligned;
 }
 
 pub walk_answers : (t : Tree) (size : ℕ) → 0 < size → IsKept t → Answers t size (walk t.last size (page_end t.first) t.mappings)
 walk_answers t size some kept = answers_from t size (walk t.last size (page_end t.first) t.mappings)
-    (walked t.first t.last size t.first (page_end t.first) t.mappings some refl kept.within kept.apart (λ n h. (of_each (IsWithin t.first t.last) t.mappings n kept.within h).begins))
+    (walked t.first t.last size t.first (page_end t.first) t.mappings some refl kept.within kept.apart
+    (λ n h. (of_each (IsWithin t.first t.last) t.mappings n kept.within h).begins))
 
 -- the same where the walk is known by what is left of it
 pub answered : (t : Tree) (size at : ℕ) (rest : List Mapping) (o : Option ℕ) → 0 < size → IsKept t
@@ -184,7 +194,9 @@ hole_from t size None some none =
     ap (option_map (λ k. 4096 * k)) (least-none (λ k. is_free t size (4096 * k)) (t.last / 4096 + 1) (λ k h. none (4096 * k) (omega arith)))
 hole_from t size (Some x) some is =
     let whole : 4096 * (x / 4096) ≡ x = omega (arith, is.aligned) in
-    let ends = leb-true (x + size) (t.last + 1) (and_parts (nat_le (x + size) (t.last + 1)) (not (list_any (meets_iova x size) t.mappings)) (and_parts (nat_le t.first x) (fits t.last size t.mappings x) is.free).1).0 in
+    let ends = leb-true (x + size) (t.last + 1)
+    (and_parts (nat_le (x + size) (t.last + 1)) (not (list_any (meets_iova x size) t.mappings))
+    (and_parts (nat_le t.first x) (fits t.last size t.mappings x) is.free).1).0 in
     ap (option_map (λ k. 4096 * k)) (least-some (λ k. is_free t size (4096 * k)) (t.last / 4096 + 1) (x / 4096) (omega arith)
     (subst (λ (v : ℕ). is_free t size v ≡ true) (sym whole) is.free)
     (λ j h. is.lowest (4096 * j) (omega arith) (omega arith)))

@@ -20,7 +20,8 @@ indexed_same first last i j g h is e same =
     record {
       keyed = e ∙ is.keyed ∙ ap (map entry) (sym ks);
       kept = subst (λ (ms : List Mapping). IsKept (record { first = first; last = last; mappings = ms })) (sym ks) is.kept;
-      guest = subst (IsIndex (λ m. m.guest) (get nat_cmp h)) (sym ks) (index_same (λ m. m.guest) (get nat_cmp g) (get nat_cmp h) (values i) is.guest same);
+      guest = subst (IsIndex (λ m. m.guest) (get nat_cmp h)) (sym ks)
+          (index_same (λ m. m.guest) (get nat_cmp g) (get nat_cmp h) (values i) is.guest same);
     }
 
 -- the mappings after an insert into the index by iova
@@ -33,20 +34,25 @@ values_added first last i j g m is fresh e =
     (es, ap values_of es ∙ values-entries (placed m (values i)))
 
 -- a fresh mapping in both
-pub indexed_added : (first last : ℕ) (i j g h : BTreeMap ℕ Mapping) (m : Mapping) → IsIndexed first last i g → IsFresh (tree_of first last i) m
-    → j.entries ≡ insert_entry nat_cmp i.entries m.iova m → ((q : ℕ) → get nat_cmp h q ≡ cond (is_at (nat_cmp m.guest) q) (Some m) (get nat_cmp g q))
+pub indexed_added : (first last : ℕ) (i j g h : BTreeMap ℕ Mapping) (m : Mapping) → IsIndexed first last i g
+    → IsFresh (tree_of first last i) m
+    → j.entries ≡ insert_entry nat_cmp i.entries m.iova m
+    → ((q : ℕ) → get nat_cmp h q ≡ cond (is_at (nat_cmp m.guest) q) (Some m) (get nat_cmp g q))
     → IsIndexed first last j h
 indexed_added first last i j g h m is fresh e step =
     let both = values_added first last i j g m is fresh e in
     record {
       keyed = both.0 ∙ ap (map entry) (sym both.1);
-      kept = subst (λ (ms : List Mapping). IsKept (record { first = first; last = last; mappings = ms })) (sym both.1) (kept_added (tree_of first last i) m is.kept fresh);
+      kept = subst (λ (ms : List Mapping). IsKept (record { first = first; last = last; mappings = ms })) (sym both.1)
+          (kept_added (tree_of first last i) m is.kept fresh);
       guest = subst (IsIndex (λ m. m.guest) (get nat_cmp h)) (sym both.1)
-          (index_added (λ m. m.guest) (get nat_cmp g) (get nat_cmp h) m (values i) is.guest step (λ n has. fresh_guest (tree_of first last i) m n is.kept fresh has));
+          (index_added (λ m. m.guest) (get nat_cmp g) (get nat_cmp h) m (values i) is.guest step
+          (λ n has. fresh_guest (tree_of first last i) m n is.kept fresh has));
     }
 
 -- a fresh mapping put into the index by guest address, and taken out again
-pub indexed_undone : (first last : ℕ) (i j g put h : BTreeMap ℕ Mapping) (m : Mapping) → IsIndexed first last i g → IsFresh (tree_of first last i) m
+pub indexed_undone : (first last : ℕ) (i j g put h : BTreeMap ℕ Mapping) (m : Mapping) → IsIndexed first last i g
+    → IsFresh (tree_of first last i) m
     → j.entries ≡ i.entries → ((q : ℕ) → get nat_cmp put q ≡ cond (is_at (nat_cmp m.guest) q) (Some m) (get nat_cmp g q))
     → ((q : ℕ) → get nat_cmp h q ≡ cond (is_at (nat_cmp m.guest) q) None (get nat_cmp put q)) → IsIndexed first last j h
 indexed_undone first last i j g put h m is fresh e step back =
@@ -55,15 +61,18 @@ indexed_undone first last i j g put h m is fresh e step back =
       keyed = e ∙ is.keyed ∙ ap (map entry) (sym ks);
       kept = subst (λ (ms : List Mapping). IsKept (record { first = first; last = last; mappings = ms })) (sym ks) is.kept;
       guest = subst (IsIndex (λ m. m.guest) (get nat_cmp h)) (sym ks)
-          (index_undone (λ m. m.guest) (get nat_cmp g) (get nat_cmp put) (get nat_cmp h) m (values i) is.guest step back (λ n has. fresh_guest (tree_of first last i) m n is.kept fresh has));
+          (index_undone (λ m. m.guest) (get nat_cmp g) (get nat_cmp put) (get nat_cmp h) m (values i) is.guest step back
+          (λ n has. fresh_guest (tree_of first last i) m n is.kept fresh has));
     }
 
 -- what the index by iova finds is the mapping that starts there
-pub found_start : (first last : ℕ) (i g : BTreeMap ℕ Mapping) (k : ℕ) → IsIndexed first last i g → get nat_cmp i k ≡ find (starts k) (values i)
+pub found_start : (first last : ℕ) (i g : BTreeMap ℕ Mapping) (k : ℕ) → IsIndexed first last i g
+    → get nat_cmp i k ≡ find (starts k) (values i)
 found_start first last i g k is = ap (lookup (is_at (nat_cmp k))) is.keyed ∙ lookup-entries k (values i)
 
 -- the mappings after a removal from the index by iova
-pub values_removed : (first last : ℕ) (i j g : BTreeMap ℕ Mapping) (k : ℕ) → IsIndexed first last i g → j.entries ≡ remove_entry (is_at (nat_cmp k)) i.entries
+pub values_removed : (first last : ℕ) (i j g : BTreeMap ℕ Mapping) (k : ℕ) → IsIndexed first last i g
+    → j.entries ≡ remove_entry (is_at (nat_cmp k)) i.entries
     → (j.entries ≡ map entry (filter (elsewhere k) (values i))) × (values j ≡ filter (elsewhere k) (values i))
 values_removed first last i j g k is e =
     let es : j.entries ≡ map entry (filter (elsewhere k) (values i)) =
@@ -71,8 +80,10 @@ values_removed first last i j g k is e =
     (es, ap values_of es ∙ values-entries (filter (elsewhere k) (values i)))
 
 -- a mapping less in both
-pub indexed_removed : (first last : ℕ) (i j g h : BTreeMap ℕ Mapping) (k : ℕ) (m : Mapping) → IsIndexed first last i g → get nat_cmp i k ≡ Some m
-    → j.entries ≡ remove_entry (is_at (nat_cmp k)) i.entries → ((q : ℕ) → get nat_cmp h q ≡ cond (is_at (nat_cmp m.guest) q) None (get nat_cmp g q))
+pub indexed_removed : (first last : ℕ) (i j g h : BTreeMap ℕ Mapping) (k : ℕ) (m : Mapping) → IsIndexed first last i g
+    → get nat_cmp i k ≡ Some m
+    → j.entries ≡ remove_entry (is_at (nat_cmp k)) i.entries
+    → ((q : ℕ) → get nat_cmp h q ≡ cond (is_at (nat_cmp m.guest) q) None (get nat_cmp g q))
     → IsIndexed first last j h
 indexed_removed first last i j g h k m is was e step =
     let t : Tree = tree_of first last i in
@@ -83,7 +94,8 @@ indexed_removed first last i j g h k m is was e step =
     (λ n has same. same_start_guest t m n is.kept it.0 has same) (λ n has same. same_start_iova t m n is.kept it.0 has same) in
     record {
       keyed = both.0 ∙ ap (map entry) (sym both.1);
-      kept = subst (λ (ms : List Mapping). IsKept (record { first = first; last = last; mappings = ms })) (sym both.1) (kept_without t k is.kept);
+      kept = subst (λ (ms : List Mapping). IsKept (record { first = first; last = last; mappings = ms })) (sym both.1)
+          (kept_without t k is.kept);
       guest = subst (IsIndex (λ m. m.guest) (get nat_cmp h)) (sym both.1)
           (subst (λ (s : ℕ). IsIndex (λ m. m.guest) (get nat_cmp h) (filter (elsewhere s) (values i))) (sym at) index);
     }

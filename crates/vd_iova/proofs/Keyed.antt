@@ -34,7 +34,8 @@ keyed_sound (n ∷ ns) q m e = elim (cases_Bool (is_at (nat_cmp q) n.iova)) [
 pub keyed_whole : (first last : ℕ) (ms : List Mapping) (m : Mapping) → AllByRecursion (IsWithin first last) ms → IsApart ms → Has ms m
     → lookup (is_at (nat_cmp m.iova)) (map entry ms) ≡ Some m
 keyed_whole first last [] m within apart has = absurd has
-keyed_whole first last (n ∷ ns) m within apart (inl h) = rw (at_key m.iova n.iova ∙ eq-eqb m.iova n.iova (ap (λ (y : Mapping). y.iova) (sym h))) (ap Some h)
+keyed_whole first last (n ∷ ns) m within apart (inl h) =
+    rw (at_key m.iova n.iova ∙ eq-eqb m.iova n.iova (ap (λ (y : Mapping). y.iova) (sym h))) (ap Some h)
 keyed_whole first last (n ∷ ns) m within apart (inr h) =
     let before : IsBefore n m = of_each (IsBefore n) ns m apart.0 h in
     let byte : 0 < n.size = within.0.has_byte in
@@ -42,7 +43,8 @@ keyed_whole first last (n ∷ ns) m within apart (inr h) =
     rw other (keyed_whole first last ns m within.1 apart.1 h)
 
 -- the ordered map by iova is an index
-pub iova_index : (first last : ℕ) (by_iova : BTreeMap ℕ Mapping) → by_iova.entries ≡ map entry (values by_iova) → IsKept (tree_of first last by_iova)
+pub iova_index : (first last : ℕ) (by_iova : BTreeMap ℕ Mapping) → by_iova.entries ≡ map entry (values by_iova)
+    → IsKept (tree_of first last by_iova)
     → IsIndex (λ m. m.iova) (get nat_cmp by_iova) (values by_iova)
 iova_index first last by_iova keyed kept = record {
   sound = λ q m e. keyed_sound (values by_iova) q m (ap (lookup (is_at (nat_cmp q))) (sym keyed) ∙ e);
@@ -50,6 +52,7 @@ iova_index first last by_iova keyed kept = record {
 }
 
 -- what holds of each mapping holds of the one with the greatest key below
-pub floor_within : (P : Mapping → Type 0) (key : Mapping → ℕ) (at : ℕ) (ms : List Mapping) (o : Option Mapping) → AllByRecursion P ms → IsFloor key at ms o → IfSome o P
+pub floor_within : (P : Mapping → Type 0) (key : Mapping → ℕ) (at : ℕ) (ms : List Mapping) (o : Option Mapping) → AllByRecursion P ms
+    → IsFloor key at ms o → IfSome o P
 floor_within P key at ms None all floor = tt
 floor_within P key at ms (Some m) all floor = of_each P ms m all floor.has

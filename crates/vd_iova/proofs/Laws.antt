@@ -15,7 +15,8 @@ use Rattle.vd_iova.proofs.Translations.{IsSingle, single_guest, single_iova, onl
 pub added_all-has : (ms : List Mapping) (t : Tree) (m : Mapping) → Has ms m ⊎ Has t.mappings m → Has (added_all ms t).mappings m
 added_all-has [] t m (inl h) = absurd h
 added_all-has [] t m (inr h) = h
-added_all-has (n ∷ ns) t m (inl (inl h)) = added_all-has ns (added t n) m (inr (subst (Has (placed n t.mappings)) h (has_placed n t.mappings)))
+added_all-has (n ∷ ns) t m (inl (inl h)) =
+    added_all-has ns (added t n) m (inr (subst (Has (placed n t.mappings)) h (has_placed n t.mappings)))
 added_all-has (n ∷ ns) t m (inl (inr h)) = added_all-has ns (added t n) m (inl h)
 added_all-has (n ∷ ns) t m (inr h) = added_all-has ns (added t n) m (inr (has_still n t.mappings m h))
 
@@ -27,7 +28,8 @@ has-added_all (n ∷ ns) t m h = elim (has-added_all ns (added t n) m h) [
 ]
 
 -- a list with the mappings of a tree in another order finds the same
-same_found : (start : Mapping → ℕ) (ms ns : List Mapping) (addr len : ℕ) → IsSingle start ns → ((m : Mapping) → Has ns m → Has ms m) → ((m : Mapping) → Has ms m → Has ns m) → 0 < len
+same_found : (start : Mapping → ℕ) (ms ns : List Mapping) (addr len : ℕ) → IsSingle start ns → ((m : Mapping) → Has ns m → Has ms m)
+    → ((m : Mapping) → Has ms m → Has ns m) → 0 < len
     → find (holds start addr len) ms ≡ find (holds start addr len) ns
 same_found start ms ns addr len single into from some = by (find (holds start addr len) ns) refl
   where
@@ -42,7 +44,8 @@ same_found start ms ns addr len single into from some = by (find (holds start ad
     by (Some m) e = let is = found (holds start addr len) ns m e in only_holds start ms addr len m other some (into m is.0) is.1
 
 -- `to` over the mappings in the order in which they were added to an empty tree
-pub to-added_all : (ms : List Mapping) (t : Tree) (addr len : ℕ) → t.mappings ≡ [] → IsKept (added_all ms t) → 0 < len → to (added_all ms t).mappings addr len ≡ to ms addr len
+pub to-added_all : (ms : List Mapping) (t : Tree) (addr len : ℕ) → t.mappings ≡ [] → IsKept (added_all ms t) → 0 < len
+    → to (added_all ms t).mappings addr len ≡ to ms addr len
 to-added_all ms t addr len empty kept some =
     let all : Tree = added_all ms t in
     ap (option_map (λ (m : Mapping). m.iova + (addr - m.guest)))
@@ -50,7 +53,8 @@ to-added_all ms t addr len empty kept some =
     (λ m h. elim (has-added_all ms t m h) [ inl k ↦ k | inr k ↦ absurd (subst (λ (ns : List Mapping). Has ns m) empty k) ])
     (λ m h. added_all-has ms t m (inl h)) some))
 
-pub back-added_all : (ms : List Mapping) (t : Tree) (iova len : ℕ) → t.mappings ≡ [] → IsKept (added_all ms t) → 0 < len → back (added_all ms t).mappings iova len ≡ back ms iova len
+pub back-added_all : (ms : List Mapping) (t : Tree) (iova len : ℕ) → t.mappings ≡ [] → IsKept (added_all ms t) → 0 < len
+    → back (added_all ms t).mappings iova len ≡ back ms iova len
 back-added_all ms t iova len empty kept some =
     let all : Tree = added_all ms t in
     ap (option_map (λ (m : Mapping). m.guest + (iova - m.iova)))
@@ -69,20 +73,23 @@ pub record IsLaid (r : ℕ × ℕ) (rs : List (ℕ × ℕ)) (t : Tree) (ms : Lis
 pub laid-cons : (r : ℕ × ℕ) (rs : List (ℕ × ℕ)) (t : Tree) (ms : List Mapping) → laid (r ∷ rs) t ≡ Some ms → IsLaid r rs t ms
 laid-cons r rs t ms e = by_hole (hole t r.1) refl e
   where
-    by_rest : (x : ℕ) → hole t r.1 ≡ Some x → (o : Option (List Mapping)) → laid rs (added t (range_at r x)) ≡ o → option_map (λ ns. range_at r x ∷ ns) o ≡ Some ms → IsLaid r rs t ms
+    by_rest : (x : ℕ) → hole t r.1 ≡ Some x → (o : Option (List Mapping)) → laid rs (added t (range_at r x)) ≡ o
+        → option_map (λ ns. range_at r x ∷ ns) o ≡ Some ms → IsLaid r rs t ms
     by_rest x some None none h = cc
     by_rest x some (Some ns) is h = (let got : Some (range_at r x ∷ ns) ≡ Some ms = h in
         let whole : range_at r x ∷ ns ≡ ms = cc in
         record { at = x; others = ns; hole = some; rest = is; whole = sym whole })
 
-    by_hole : (o : Option ℕ) → hole t r.1 ≡ o → option_and_then (λ x. option_map (λ ns. range_at r x ∷ ns) (laid rs (added t (range_at r x)))) o ≡ Some ms → IsLaid r rs t ms
+    by_hole : (o : Option ℕ) → hole t r.1 ≡ o
+        → option_and_then (λ x. option_map (λ ns. range_at r x ∷ ns) (laid rs (added t (range_at r x)))) o ≡ Some ms → IsLaid r rs t ms
     by_hole None none h = cc
     by_hole (Some x) some h = by_rest x some (laid rs (added t (range_at r x))) refl h
 
 -- a map and the same guest ranges at their own addresses translate the same ranges
 pub is_some-laid : (rs : List (ℕ × ℕ)) (t : Tree) (ms : List Mapping) (addr len : ℕ) → laid rs t ≡ Some ms
     → is_some (find (holds_guest addr len) ms) ≡ is_some (find (holds_guest addr len) (map own rs))
-is_some-laid [] t ms addr len e = let got : Some [] ≡ Some ms = e in let none : [] ≡ ms = cc in subst (λ (ns : List Mapping). is_some (find (holds_guest addr len) ns) ≡ false) none refl
+is_some-laid [] t ms addr len e = let got : Some [] ≡ Some ms = e in let none : [] ≡ ms = cc in
+    subst (λ (ns : List Mapping). is_some (find (holds_guest addr len) ns) ≡ false) none refl
 is_some-laid (r ∷ rs) t ms addr len e =
     let parts = laid-cons r rs t ms e in
     let rest = is_some-laid rs (added t (range_at r parts.at)) parts.others addr len parts.rest in

@@ -63,7 +63,8 @@ pub find_only : (p : Mapping → Bool) (ms : List Mapping) (m : Mapping) → Has
 find_only p [] m has passes only = absurd has
 find_only p (n ∷ ns) m has passes only = elim (cases_Bool (p n)) [
   | inl t ↦ rw t (ap Some (only n (inl refl) t))
-  | inr f ↦ rw f (find_only p ns m (elim has [ inl h ↦ absurd (both_ways (p n) f (ap p h ∙ passes)) | inr h ↦ h ]) passes (λ o k. only o (inr k)))
+  | inr f ↦ rw f (find_only p ns m (elim has [ inl h ↦ absurd (both_ways (p n) f (ap p h ∙ passes)) | inr h ↦ h ]) passes
+      (λ o k. only o (inr k)))
 ]
 
 -- none is found where none passes

@@ -86,18 +86,24 @@ remove-entries first last k (n ∷ ns) within apart = elim (cases_Bool (nat_eq k
 
 -- an index without a mapping
 pub index_removed : (key : Mapping → ℕ) (was now : ℕ → Option Mapping) (m : Mapping) (ms : List Mapping) → IsIndex key was ms → Has ms m
-    → ((q : ℕ) → now q ≡ cond (is_at (nat_cmp (key m)) q) None (was q)) → ((n : Mapping) → Has ms n → key n ≡ key m → n ≡ m) → ((n : Mapping) → Has ms n → n.iova ≡ m.iova → n ≡ m)
+    → ((q : ℕ) → now q ≡ cond (is_at (nat_cmp (key m)) q) None (was q)) → ((n : Mapping) → Has ms n → key n ≡ key m → n ≡ m)
+    → ((n : Mapping) → Has ms n → n.iova ≡ m.iova → n ≡ m)
     → IsIndex key now (filter (elsewhere m.iova) ms)
 index_removed key was now m ms index has step same_key same_start = record {
   sound = λ q o e. elim (cases_Bool (nat_eq (key m) q)) [
     | inl t ↦ (let gone : None ≡ Some o = sym (step q ∙ (rw (at_key (key m) q ∙ t) refl)) ∙ e in cc)
     | inr f ↦ (let got : was q ≡ Some o = sym (step q ∙ (rw (at_key (key m) q ∙ f) refl)) ∙ e in
-        let rest = index.sound q o got in
-        (filter_has (elsewhere m.iova) ms o rest.0 (elsewhere_from m.iova o (λ s. both_ways (nat_eq (key m) q) f (eq-eqb (key m) q (sym (ap key (same_start o rest.0 (sym s))) ∙ rest.1)))), rest.1))
+        let rest = index.sound q o got in (
+          filter_has (elsewhere m.iova) ms o rest.0
+              (elsewhere_from m.iova o (λ s. both_ways (nat_eq (key m) q) f
+              (eq-eqb (key m) q (sym (ap key (same_start o rest.0 (sym s))) ∙ rest.1)))),
+          rest.1,
+        ))
   ];
   whole = λ o h.
       let rest = has_filter (elsewhere m.iova) ms o h in
-      step (key o) ∙ (rw (at_key (key m) (key o) ∙ ne_eqb (key m) (key o) (λ e. not_elsewhere m.iova o rest.1 (sym (ap (λ (y : Mapping). y.iova) (same_key o rest.0 (sym e))))))
+      step (key o) ∙ (rw (at_key (key m) (key o)
+      ∙ ne_eqb (key m) (key o) (λ e. not_elsewhere m.iova o rest.1 (sym (ap (λ (y : Mapping). y.iova) (same_key o rest.0 (sym e))))))
       (index.whole o rest.0));
 }
 
@@ -106,10 +112,12 @@ pub same_start_iova : (t : Tree) (m n : Mapping) → IsKept t → Has t.mappings
 same_start_iova t m n kept h k e =
     let mine = of_each (IsWithin t.first t.last) t.mappings m kept.within h in
     let theirs = of_each (IsWithin t.first t.last) t.mappings n kept.within k in
-    same_iova t.mappings n m m.iova kept.apart k h (omega arith) (omega (arith, theirs.has_byte)) (omega arith) (omega (arith, mine.has_byte))
+    same_iova t.mappings n m m.iova kept.apart k h (omega arith) (omega (arith, theirs.has_byte)) (omega arith)
+    (omega (arith, mine.has_byte))
 
 pub same_start_guest : (t : Tree) (m n : Mapping) → IsKept t → Has t.mappings m → Has t.mappings n → n.guest ≡ m.guest → n ≡ m
 same_start_guest t m n kept h k e =
     let mine = of_each (IsWithin t.first t.last) t.mappings m kept.within h in
     let theirs = of_each (IsWithin t.first t.last) t.mappings n kept.within k in
-    same_guest t.mappings n m m.guest kept.apart k h (omega arith) (omega (arith, theirs.has_byte)) (omega arith) (omega (arith, mine.has_byte))
+    same_guest t.mappings n m m.guest kept.apart k h (omega arith) (omega (arith, theirs.has_byte)) (omega arith)
+    (omega (arith, mine.has_byte))

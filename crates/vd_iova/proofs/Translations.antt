@@ -31,7 +31,8 @@ single_iova first last ms apart within = record {
   has_byte = λ m h. (of_each (IsWithin first last) ms m within h).has_byte;
 }
 
-pub ends_from_holds : (s size addr len : ℕ) → (nat_le s addr && nat_le (addr + len) (s + size)) ≡ true → (s ≤ addr) × (addr + len ≤ s + size)
+pub ends_from_holds : (s size addr len : ℕ) → (nat_le s addr && nat_le (addr + len) (s + size)) ≡ true
+    → (s ≤ addr) × (addr + len ≤ s + size)
 ends_from_holds s size addr len h = grind (arith, nat_tests)
 
 pub holds_from_ends : (s size addr len : ℕ) → s ≤ addr → addr + len ≤ s + size → (nat_le s addr && nat_le (addr + len) (s + size)) ≡ true
@@ -47,13 +48,15 @@ only_holds start ms addr len m single some has h =
     single.same n m addr k has theirs.0 (omega arith) mine.0 (omega arith))
 
 -- the mapping with the greatest start that is not above the range holds it
-pub floor_holds : (start : Mapping → ℕ) (ms : List Mapping) (addr len : ℕ) (m : Mapping) → IsSingle start ms → 0 < len → IsGreatest start addr ms m
+pub floor_holds : (start : Mapping → ℕ) (ms : List Mapping) (addr len : ℕ) (m : Mapping) → IsSingle start ms → 0 < len
+    → IsGreatest start addr ms m
     → addr + len ≤ start m + m.size → find (holds start addr len) ms ≡ Some m
 floor_holds start ms addr len m single some floor fits =
     only_holds start ms addr len m single some floor.has (holds_from_ends (start m) m.size addr len floor.below fits)
 
 -- where that one does not hold it, none does
-pub floor_fails : (start : Mapping → ℕ) (ms : List Mapping) (addr len : ℕ) (m : Mapping) → IsSingle start ms → 0 < len → IsGreatest start addr ms m
+pub floor_fails : (start : Mapping → ℕ) (ms : List Mapping) (addr len : ℕ) (m : Mapping) → IsSingle start ms → 0 < len
+    → IsGreatest start addr ms m
     → start m + m.size < addr + len → find (holds start addr len) ms ≡ None
 floor_fails start ms addr len m single some floor short = find_none (holds start addr len) ms (λ n has.
     elim (cases_Bool (holds start addr len n)) [
@@ -82,25 +85,29 @@ map_some f None y e = cc
 map_some f (Some x) y e = (x, refl, cc)
 
 -- `back` undoes `to`
-pub back_undoes : (ms : List Mapping) (addr len iova : ℕ) → IsSingle (λ m. m.iova) ms → 0 < len → to ms addr len ≡ Some iova → back ms iova len ≡ Some addr
+pub back_undoes : (ms : List Mapping) (addr len iova : ℕ) → IsSingle (λ m. m.iova) ms → 0 < len → to ms addr len ≡ Some iova
+    → back ms iova len ≡ Some addr
 back_undoes ms addr len iova single some e =
     let got = map_some (λ (m : Mapping). m.iova + (addr - m.guest)) (find (holds_guest addr len) ms) iova e in
     let m : Mapping = got.0 in
     let is = found (holds_guest addr len) ms m got.1 in
     let ends = ends_from_holds m.guest m.size addr len is.1 in
     let at : m.iova + (addr - m.guest) ≡ iova = got.2 in
-    let here = only_holds (λ m. m.iova) ms iova len m single some is.0 (holds_from_ends m.iova m.size iova len (omega arith) (omega arith)) in
+    let here = only_holds (λ m. m.iova) ms iova len m single some is.0
+    (holds_from_ends m.iova m.size iova len (omega arith) (omega arith)) in
     ap (option_map (λ (m : Mapping). m.guest + (iova - m.iova))) here ∙ ap Some (omega arith)
 
 -- `to` undoes `back`
-pub to_undoes : (ms : List Mapping) (iova len addr : ℕ) → IsSingle (λ m. m.guest) ms → 0 < len → back ms iova len ≡ Some addr → to ms addr len ≡ Some iova
+pub to_undoes : (ms : List Mapping) (iova len addr : ℕ) → IsSingle (λ m. m.guest) ms → 0 < len → back ms iova len ≡ Some addr
+    → to ms addr len ≡ Some iova
 to_undoes ms iova len addr single some e =
     let got = map_some (λ (m : Mapping). m.guest + (iova - m.iova)) (find (holds_iova iova len) ms) addr e in
     let m : Mapping = got.0 in
     let is = found (holds_iova iova len) ms m got.1 in
     let ends = ends_from_holds m.iova m.size iova len is.1 in
     let at : m.guest + (iova - m.iova) ≡ addr = got.2 in
-    let here = only_holds (λ m. m.guest) ms addr len m single some is.0 (holds_from_ends m.guest m.size addr len (omega arith) (omega arith)) in
+    let here = only_holds (λ m. m.guest) ms addr len m single some is.0
+    (holds_from_ends m.guest m.size addr len (omega arith) (omega arith)) in
     ap (option_map (λ (m : Mapping). m.iova + (addr - m.guest))) here ∙ ap Some (omega arith)
 
 -- what `to` gives where the greatest mapping that is not above the range holds it
@@ -108,14 +115,16 @@ pub to_some : (t : Tree) (addr len offset : ℕ) (m : Mapping) → IsKept t → 
     → offset ≡ addr - m.guest → offset + len ≤ m.size → to t.mappings addr len ≡ Some (m.iova + offset)
 to_some t addr len offset m kept some floor e fits =
     ap (option_map (λ (n : Mapping). n.iova + (addr - n.guest)))
-    (floor_holds (λ n. n.guest) t.mappings addr len m (single_guest t.first t.last t.mappings kept.apart kept.within) some floor (omega (arith, floor.below)))
+    (floor_holds (λ n. n.guest) t.mappings addr len m (single_guest t.first t.last t.mappings kept.apart kept.within) some floor
+    (omega (arith, floor.below)))
     ∙ ap Some (omega arith)
 
 pub to_none : (t : Tree) (addr len offset : ℕ) (m : Mapping) → IsKept t → 0 < len → IsGreatest (λ n. n.guest) addr t.mappings m
     → offset ≡ addr - m.guest → m.size < offset + len → to t.mappings addr len ≡ None
 to_none t addr len offset m kept some floor e short =
     ap (option_map (λ (n : Mapping). n.iova + (addr - n.guest)))
-    (floor_fails (λ n. n.guest) t.mappings addr len m (single_guest t.first t.last t.mappings kept.apart kept.within) some floor (omega (arith, floor.below)))
+    (floor_fails (λ n. n.guest) t.mappings addr len m (single_guest t.first t.last t.mappings kept.apart kept.within) some floor
+    (omega (arith, floor.below)))
 
 pub to_above : (t : Tree) (addr len : ℕ) → AllAbove (λ n. n.guest) addr t.mappings → to t.mappings addr len ≡ None
 to_above t addr len above =
@@ -126,22 +135,28 @@ pub back_some : (t : Tree) (iova len offset : ℕ) (m : Mapping) → IsKept t �
     → offset ≡ iova - m.iova → offset + len ≤ m.size → back t.mappings iova len ≡ Some (m.guest + offset)
 back_some t iova len offset m kept some floor e fits =
     ap (option_map (λ (n : Mapping). n.guest + (iova - n.iova)))
-    (floor_holds (λ n. n.iova) t.mappings iova len m (single_iova t.first t.last t.mappings kept.apart kept.within) some floor (omega (arith, floor.below)))
+    (floor_holds (λ n. n.iova) t.mappings iova len m (single_iova t.first t.last t.mappings kept.apart kept.within) some floor
+    (omega (arith, floor.below)))
     ∙ ap Some (omega arith)
 
 pub back_none : (t : Tree) (iova len offset : ℕ) (m : Mapping) → IsKept t → 0 < len → IsGreatest (λ n. n.iova) iova t.mappings m
     → offset ≡ iova - m.iova → m.size < offset + len → back t.mappings iova len ≡ None
 back_none t iova len offset m kept some floor e short =
     ap (option_map (λ (n : Mapping). n.guest + (iova - n.iova)))
-    (floor_fails (λ n. n.iova) t.mappings iova len m (single_iova t.first t.last t.mappings kept.apart kept.within) some floor (omega (arith, floor.below)))
+    (floor_fails (λ n. n.iova) t.mappings iova len m (single_iova t.first t.last t.mappings kept.apart kept.within) some floor
+    (omega (arith, floor.below)))
 
 pub back_above : (t : Tree) (iova len : ℕ) → AllAbove (λ n. n.iova) iova t.mappings → back t.mappings iova len ≡ None
 back_above t iova len above =
     ap (option_map (λ (n : Mapping). n.guest + (iova - n.iova))) (above_fails (λ n. n.iova) t.mappings iova len above)
 
 -- over the mappings of a tree each undoes the other
-pub back_undoes_to : (t : Tree) (addr len iova : ℕ) → IsKept t → 0 < len → to t.mappings addr len ≡ Some iova → back t.mappings iova len ≡ Some addr
-back_undoes_to t addr len iova kept some e = back_undoes t.mappings addr len iova (single_iova t.first t.last t.mappings kept.apart kept.within) some e
+pub back_undoes_to : (t : Tree) (addr len iova : ℕ) → IsKept t → 0 < len → to t.mappings addr len ≡ Some iova
+    → back t.mappings iova len ≡ Some addr
+back_undoes_to t addr len iova kept some e =
+    back_undoes t.mappings addr len iova (single_iova t.first t.last t.mappings kept.apart kept.within) some e
 
-pub to_undoes_back : (t : Tree) (iova len addr : ℕ) → IsKept t → 0 < len → back t.mappings iova len ≡ Some addr → to t.mappings addr len ≡ Some iova
-to_undoes_back t iova len addr kept some e = to_undoes t.mappings iova len addr (single_guest t.first t.last t.mappings kept.apart kept.within) some e
+pub to_undoes_back : (t : Tree) (iova len addr : ℕ) → IsKept t → 0 < len → back t.mappings iova len ≡ Some addr
+    → to t.mappings addr len ≡ Some iova
+to_undoes_back t iova len addr kept some e =
+    to_undoes t.mappings iova len addr (single_guest t.first t.last t.mappings kept.apart kept.within) some e

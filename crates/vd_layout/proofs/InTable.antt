@@ -18,7 +18,9 @@ absent k z = cc z
 some_same : (a b : Option ℕ) (j k : ℕ) → a ≡ Some j → b ≡ Some k → a ≡ b → j ≡ k
 some_same a b j k x y z = cc
 
-pub runs_in_table : (table : List (Option ℕ)) (f : Frame) (s : List DeviceDone) → ((k : ℕ) → occurs k (running s) + occurs k (numbers (gives s)) ≡ (if nat_lt k (length (takes s)) then 1 else 0)) → length (takes s) ≡ length (gives s) + length (running s) → length (heads s) ≡ length (takes s)
+pub runs_in_table : (table : List (Option ℕ)) (f : Frame) (s : List DeviceDone)
+    → ((k : ℕ) → occurs k (running s) + occurs k (numbers (gives s)) ≡ (if nat_lt k (length (takes s)) then 1 else 0))
+    → length (takes s) ≡ length (gives s) + length (running s) → length (heads s) ≡ length (takes s)
     → length table ≡ f.size → IsTable table s → Runs f s
 runs_in_table table f s each count as_many wide kept = record {
   each = each;
@@ -26,8 +28,10 @@ runs_in_table table f s each count as_many wide kept = record {
   as_many = as_many;
   inside = λ k runs. elim (cases_lt (taken_head s k) f.size) [
     | inl a ↦ a
-    | inr a ↦ absurd (absent k (sym (get_or_past table (taken_head s k) None (omega (arith, a, wide))) ∙ kept k (occurs_from k (running s) runs)))
+    | inr a ↦ absurd (absent k (sym (get_or_past table (taken_head s k) None (omega (arith, a, wide)))
+        ∙ kept k (occurs_from k (running s) runs)))
   ];
   apart = λ k runs j here e.
-      some_same (Some j) (Some k) j k refl refl (sym (kept j (occurs_from j (running s) here)) ∙ ap (λ h. slice_index_or table h None) e ∙ kept k (occurs_from k (running s) runs));
+      some_same (Some j) (Some k) j k refl refl (sym (kept j (occurs_from j (running s) here)) ∙ ap (λ h. slice_index_or table h None) e
+      ∙ kept k (occurs_from k (running s) runs));
 }

@@ -34,14 +34,16 @@ given_one f s us k n g = alone us (entry k n) g.is_entry.one g.last
 alone_of : (P : Used → Type 0) (u : Used) → P u → All P (u ∷ [])
 alone_of P u h = All-cons P u [] h (All-nil P)
 
-pub were_collected : (f : Frame) (o : List DriverDone) (k n : ℕ) → Contains (open_at o) k → (f.features.in_order ≡ true → k ≡ length (collects o)) → WereCollected f o (entry k n ∷ []) k n
+pub were_collected : (f : Frame) (o : List DriverDone) (k n : ℕ) → Contains (open_at o) k
+    → (f.features.in_order ≡ true → k ≡ length (collects o)) → WereCollected f o (entry k n ∷ []) k n
 were_collected f o k n was_open ordered = record {
   is_entry = single_entry f (chain o) (length (collects o)) (entry k n) ordered;
   last = refl;
   were_open = alone_of (λ u. Contains (open_at o) u.number) (entry k n) was_open;
 }
 
-pub were_given : (f : Frame) (s : List DeviceDone) (k n : ℕ) → Contains (running s) k → (f.features.in_order ≡ true → k ≡ length (gives s)) → WereGiven f s (entry k n ∷ []) k n
+pub were_given : (f : Frame) (s : List DeviceDone) (k n : ℕ) → Contains (running s) k
+    → (f.features.in_order ≡ true → k ≡ length (gives s)) → WereGiven f s (entry k n ∷ []) k n
 were_given f s k n runs ordered = record {
   is_entry = single_entry f (chain_at (takes s)) (length (gives s)) (entry k n) ordered;
   last = refl;
@@ -59,7 +61,8 @@ pub record CollectedOne (k n h : ℕ) (b b' : DriverOp) (f : Frame) (o o' : List
   pub is_head : h ≡ head f o k
   pub in_order : f.features.in_order ≡ true → k ≡ length (collects o)
 
-pub says_collected : (k n h : ℕ) (b b' : DriverOp) (f : Frame) (o o' : List DriverDone) → DriverSays (Collected k n h) b b' f o o' → CollectedOne k n h b b' f o o'
+pub says_collected : (k n h : ℕ) (b b' : DriverOp) (f : Frame) (o o' : List DriverDone) → DriverSays (Collected k n h) b b' f o o'
+    → CollectedOne k n h b b' f o o'
 says_collected k n h b b' f o o' s =
     let us : List Used = s.0 in
     let one = collected_one f o us k n s.4 in record {
@@ -78,7 +81,8 @@ pub record GivenOne (k n : ℕ) (b b' : DeviceOp) (f : Frame) (s s' : List Devic
   pub done : s' ≡ Give (entry k n ∷ []) ∷ s
   pub may : MayGive f s k
 
-pub says_given : (words : ControlWords) (k : ℕ) (b b' : DeviceOp) (f : Frame) (s s' : List DeviceDone) → (h : DeviceSays words (Given k) b b' f s s') → GivenOne k h.0 b b' f s s'
+pub says_given : (words : ControlWords) (k : ℕ) (b b' : DeviceOp) (f : Frame) (s s' : List DeviceDone)
+    → (h : DeviceSays words (Given k) b b' f s s') → GivenOne k h.0 b b' f s s'
 says_given words k b b' f s s' h =
     let us : List Used = h.1 in
     let one = given_one f s us k h.0 h.5 in record {
@@ -87,6 +91,7 @@ says_given words k b b' f s s' h =
       done = h.4 ∙ ap (λ (ys : List Used). Give ys ∷ s) one;
       may = record {
         runs = subst (λ (ys : List Used). All (λ u. Contains (running s) u.number) ys) one h.5.were_running 0 (entry k h.0) (lit≤ tt);
-        in_order = λ on. ap (λ (u : Used). u.number) (sym h.5.last) ∙ entry_next f (chain_at (takes s)) (length (gives s)) us h.5.is_entry on;
+        in_order = λ on. ap (λ (u : Used). u.number) (sym h.5.last)
+            ∙ entry_next f (chain_at (takes s)) (length (gives s)) us h.5.is_entry on;
       };
     }

@@ -74,8 +74,10 @@ pub record DeviceModel (E : Type 0) : Type 1 where
 abbrev pub DeviceSays : ControlWords → DeviceAct → DeviceOp → DeviceOp → Frame → List DeviceDone → List DeviceDone → Type 0
 DeviceSays words act.Moved b b' f s s' = DeviceGoesOn b b' × (s' ≡ s)
 DeviceSays words act.Nothing b b' f s s' = (b ≡ DeviceOp.take) × (b' ≡ DeviceOp.idle) × (s' ≡ s)
-DeviceSays words (act.Taken k c) b b' f s s' = (h : ℕ) × (b ≡ DeviceOp.take) × (b' ≡ DeviceOp.idle) × (k ≡ length (takes s)) × (s' ≡ Take c h ∷ s) × IsTaken words f s c h
-DeviceSays words (act.Given k) b b' f s s' = (n : ℕ) × (us : List Used) × (b ≡ DeviceOp.give k n) × DevicePublished b' × (s' ≡ Give us ∷ s) × WereGiven f s us k n
+DeviceSays words (act.Taken k c) b b' f s s' = (h : ℕ) × (b ≡ DeviceOp.take) × (b' ≡ DeviceOp.idle) × (k ≡ length (takes s))
+    × (s' ≡ Take c h ∷ s) × IsTaken words f s c h
+DeviceSays words (act.Given k) b b' f s s' = (n : ℕ) × (us : List Used) × (b ≡ DeviceOp.give k n) × DevicePublished b'
+    × (s' ≡ Give us ∷ s) × WereGiven f s us k n
 DeviceSays words act.Rested b b' f s s' = (b ≡ DeviceOp.rest) × (b' ≡ DeviceOp.idle) × (s' ≡ Rest ∷ s) × IsWhole s
 DeviceSays words act.Armed b b' f s s' = (b ≡ DeviceOp.arm) × (b' ≡ DeviceOp.idle) × (s' ≡ s)
 DeviceSays words act.Awake b b' f s s' = DeviceMayWake b × (b' ≡ DeviceOp.idle) × (s' ≡ s)
@@ -87,7 +89,8 @@ is_rested _ = false
 
 -- one access of the port was made, of the operation begun, which was next in the view; the end stands for the view after it, answers
 -- by it, is nearer the operation's end, and rests exactly where it answers so
-pub record IsDeviceStep {P E : Type 0} (port : PortModel P) (m : DeviceModel E) (p q : P) (v : DeviceView) (e e' : E) (answer : DeviceAct) : Type 0 where
+pub record IsDeviceStep {P E : Type 0} (port : PortModel P) (m : DeviceModel E) (p q : P) (v : DeviceView) (e e' : E)
+    (answer : DeviceAct) : Type 0 where
   pub op : Op
   pub access : Access
   pub got : ℕ
@@ -112,7 +115,8 @@ pub record IsLawfulDevice {E : Type 0} (m : DeviceModel E) : Type 0 where
   pub ends : (e : E) → m.left e ≡ 0 → m.begun e ≡ DeviceOp.idle
   -- a still end is idle, has given what it took, and its base is that of the chains taken
   pub still : (e : E) → IsStill m e → m.begun e ≡ DeviceOp.idle
-  pub whole : (e : E) (v : DeviceView) → m.stands e v → IsStill m e → (running v.done ≡ []) × (length (takes v.done) ≡ length (gives v.done)) × IsWhole v.done
+  pub whole : (e : E) (v : DeviceView) → m.stands e v → IsStill m e
+      → (running v.done ≡ []) × (length (takes v.done) ≡ length (gives v.done)) × IsWhole v.done
   pub based : (e : E) (v : DeviceView) → m.stands e v → IsStill m e → m.base e ≡ m.base_of v.frame (takes v.done)
   -- whether it is armed is what its side knows
   pub armed : (e : E) (v : DeviceView) → m.stands e v → m.armed e ≡ true → (t : ℕ) × (v.armed ≡ Some t)
@@ -123,7 +127,8 @@ pub record IsLawfulDevice {E : Type 0} (m : DeviceModel E) : Type 0 where
   -- from a fresh end nothing was taken
   pub unused : (e : E) (v : DeviceView) → m.stands e v → m.fresh e ≡ true → takes v.done ≡ []
   -- after a control access of its holder the end stands for the view after it
-  pub control : (e : E) (v : DeviceView) (a : Access) (r : ℕ) → m.stands e v → m.side.next v Control a → m.stands e (m.side.after v Control a r)
+  pub control : (e : E) (v : DeviceView) (a : Access) (r : ℕ) → m.stands e v → m.side.next v Control a
+      → m.stands e (m.side.after v Control a r)
   -- no access changes what the ring was made with
   pub framed : (v : DeviceView) (op : Op) (a : Access) (r : ℕ) → (m.side.after v op a r).frame ≡ v.frame
   -- only an access of an arming arms

@@ -30,7 +30,8 @@ device_told before now = now
 
 -- an operation of the device's end was made to its end: by accesses that were next it came to a view for which the end stands,
 -- its answer is one that ends the operation, and it rests exactly where it answers so
-pub record IsDeviceFinish {P E : Type 0} (port : PortModel P) (m : DeviceModel E) (p q : P) (v : DeviceView) (e e' : E) (answer : DeviceAct) : Type 0 where
+pub record IsDeviceFinish {P E : Type 0} (port : PortModel P) (m : DeviceModel E) (p q : P) (v : DeviceView) (e e' : E)
+    (answer : DeviceAct) : Type 0 where
   pub view : DeviceView
   pub made : List Made
   pub run : IsRun port m.side made p v q view
@@ -48,23 +49,38 @@ pub record IsDeviceFinish {P E : Type 0} (port : PortModel P) (m : DeviceModel E
 
 -- what was told ended the operation, or only its signal is left
 abbrev pub DeviceToldStage : DeviceAct → DeviceOp → Bool → Type 0
-DeviceToldStage answer b resting = ((b ≡ DeviceOp.idle) × (resting ≡ is_rested answer)) ⊎ ((b ≡ DeviceOp.signal) × (is_rested answer ≡ false))
+DeviceToldStage answer b resting =
+    ((b ≡ DeviceOp.idle) × (resting ≡ is_rested answer)) ⊎ ((b ≡ DeviceOp.signal) × (is_rested answer ≡ false))
 
 -- nothing told yet, or told
-pub record DeviceGoing {P E : Type 0} (port : PortModel P) (m : DeviceModel E) (b : DeviceOp) (p : P) (v : DeviceView) (q : P) (e : E) (answer : DeviceAct) : Type 0 where
+pub record DeviceGoing {P E : Type 0} (port : PortModel P) (m : DeviceModel E) (b : DeviceOp) (p : P) (v : DeviceView) (q : P) (e : E)
+    (answer : DeviceAct) : Type 0 where
   pub view : DeviceView
   pub made : List Made
   pub run : IsRun port m.side made p v q view
   pub stands : m.stands e view
   pub framed : view.frame ≡ v.frame
   pub unarmed : b ≢ DeviceOp.arm → v.armed ≡ None → view.armed ≡ None
-  pub phase : ((answer ≡ act.Moved) × (m.begun e ≡ b) × (view.done ≡ v.done)) ⊎ ((answer ≢ act.Moved) × DeviceToldStage answer (m.begun e) (m.resting e) × DeviceSays m.words answer b DeviceOp.idle v.frame v.done view.done × IsToldAt port m.side m.act (λ u. u.done ≡ v.done) p v answer)
+  pub phase : ((answer ≡ act.Moved) × (m.begun e ≡ b) × (view.done ≡ v.done)) ⊎
+      ((answer ≢ act.Moved) × DeviceToldStage answer (m.begun e) (m.resting e)
+      × DeviceSays m.words answer b DeviceOp.idle v.frame v.done view.done × IsToldAt port m.side m.act (λ u. u.done ≡ v.done) p v answer)
 
-pub device_starts : {P E : Type 0} (port : PortModel P) (m : DeviceModel E) (p : P) (v : DeviceView) (e : E) → m.stands e v → DeviceGoing port m (m.begun e) p v p e act.Moved
-device_starts port m p v e stands = record { view = v; made = []; run = (refl, refl); stands = stands; framed = refl; unarmed = λ other none. none; phase = inl (refl, refl, refl) }
+pub device_starts : {P E : Type 0} (port : PortModel P) (m : DeviceModel E) (p : P) (v : DeviceView) (e : E) → m.stands e v
+    → DeviceGoing port m (m.begun e) p v p e act.Moved
+device_starts port m p v e stands = record {
+  view = v;
+  made = [];
+  run = (refl, refl);
+  stands = stands;
+  framed = refl;
+  unarmed =
+      λ other none. none;
+  phase = inl (refl, refl, refl);
+}
 
 -- what one step's answer says, where nothing was told before it
-said : (words : ControlWords) (x : DeviceAct) (b b' : DeviceOp) (f : Frame) (s s' : List DeviceDone) (resting : Bool) → IsDeviceWork b → DeviceSays words x b b' f s s' → resting ≡ is_rested x
+said : (words : ControlWords) (x : DeviceAct) (b b' : DeviceOp) (f : Frame) (s s' : List DeviceDone) (resting : Bool) → IsDeviceWork b
+    → DeviceSays words x b b' f s s' → resting ≡ is_rested x
     → ((x ≡ act.Moved) × (b' ≡ b) × (s' ≡ s)) ⊎ ((x ≢ act.Moved) × DeviceToldStage x b' resting × DeviceSays words x b DeviceOp.idle f s s')
 said words act.Moved DeviceOp.take b' f s s' r w h e = inl (refl, h.0, h.1)
 said words act.Moved (DeviceOp.give k n) b' f s s' r w h e = inl (refl, h.0, h.1)
@@ -76,14 +92,20 @@ said words act.Moved DeviceOp.idle b' f s s' r w h e = absurd w
 said words act.Moved DeviceOp.signal b' f s s' r w h e = absurd w
 said words act.Nothing b b' f s s' r w h e = inr (λ z. cc, inl (h.1, e), (h.0, refl, h.2))
 said words (act.Taken k c) b b' f s s' r w h e = inr (λ z. cc, inl (h.2, e), (h.0, h.1, refl, h.3, h.4, h.5))
-said words (act.Given k) b b' f s s' r w h e = inr (λ z. cc, elim h.3 as (λ _. DeviceToldStage (act.Given k) b' r) [ inl i ↦ inl (i, e) | inr i ↦ inr (i, refl) ], (h.0, h.1, h.2, inl refl, h.4, h.5))
+said words (act.Given k) b b' f s s' r w h e =
+    inr (
+      λ z. cc,
+      elim h.3 as (λ _. DeviceToldStage (act.Given k) b' r) [ inl i ↦ inl (i, e) | inr i ↦ inr (i, refl) ],
+      (h.0, h.1, h.2, inl refl, h.4, h.5),
+    )
 said words act.Rested b b' f s s' r w h e = inr (λ z. cc, inl (h.1, e), (h.0, refl, h.2, h.3))
 said words act.Armed b b' f s s' r w h e = inr (λ z. cc, inl (h.1, e), (h.0, refl, h.2))
 said words act.Awake b b' f s s' r w h e = inr (λ z. cc, inl (h.1, e), (h.0, refl, h.2))
 said words act.Asleep b b' f s s' r w h e = inr (λ z. cc, inl (h.1, e), (h.0, refl, h.2))
 
 -- once it was told only a signal is made
-signalled : (words : ControlWords) (x : DeviceAct) (b b' : DeviceOp) (f : Frame) (s s' : List DeviceDone) → b ≡ DeviceOp.signal → DeviceSays words x b b' f s s' → (x ≡ act.Moved) × DevicePublished b' × (s' ≡ s)
+signalled : (words : ControlWords) (x : DeviceAct) (b b' : DeviceOp) (f : Frame) (s s' : List DeviceDone) → b ≡ DeviceOp.signal
+    → DeviceSays words x b b' f s s' → (x ≡ act.Moved) × DevicePublished b' × (s' ≡ s)
 signalled words act.Moved b b' f s s' is h = (refl, subst (λ y. DeviceGoesOn y b') is h.0, h.1)
 signalled words act.Nothing b b' f s s' is h = absurd (cc (is, h.0))
 signalled words (act.Taken k c) b b' f s s' is h = absurd (cc (is, h.1))
@@ -113,7 +135,9 @@ not_arm DeviceOp.hear o is other = λ e. cc (is, e)
 not_arm DeviceOp.disarm o is other = λ e. cc (is, e)
 not_arm DeviceOp.signal o is other = λ e. cc (is, e)
 
-pub device_goes : {P E : Type 0} (port : PortModel P) (m : DeviceModel E) (law : IsLawfulDevice m) (b : DeviceOp) (p q q' : P) (v : DeviceView) (e e' : E) (answer x : DeviceAct) → IsDeviceWork b → (g : DeviceGoing port m b p v q e answer) → (m.begun e ≡ DeviceOp.idle → ⊥)
+pub device_goes : {P E : Type 0} (port : PortModel P) (m : DeviceModel E) (law : IsLawfulDevice m) (b : DeviceOp) (p q q' : P)
+    (v : DeviceView) (e e' : E) (answer x : DeviceAct) → IsDeviceWork b → (g : DeviceGoing port m b p v q e answer)
+    → (m.begun e ≡ DeviceOp.idle → ⊥)
     → IsDeviceStep port m q q' g.view e e' x → DeviceGoing port m b p v q' e' (device_told answer x)
 device_goes {P} {E} port m law b p q q' v e e' answer x work g busy s =
     let w : DeviceView = g.view in
@@ -124,13 +148,19 @@ device_goes {P} {E} port m law b p q q' v e e' answer x work g busy s =
       run = (q, w, g.run, record { was_next = s.was_next; moved = s.moved; is_after = refl });
       stands = s.now_stands;
       framed = law.framed w s.op s.access s.got ∙ g.framed;
-      unarmed = λ other none. law.stays_unarmed w s.op s.access s.got (not_arm (m.begun e) s.op s.of_it (goes_unarmed other)) (g.unarmed other none);
+      unarmed = λ other none. law.stays_unarmed w s.op s.access s.got (not_arm (m.begun e) s.op s.of_it (goes_unarmed other))
+          (g.unarmed other none);
       phase = elim g.phase [
         | inl a ↦ elim (said m.words x b (m.begun e') v.frame v.done u.done (m.resting e') work (at a.1 a.2) s.rests) [
           | inl t ↦ inl (ap (device_told answer) t.0 ∙ a.0, t.1, t.2)
           | inr t ↦ (
               let is = told_first answer x a.0 t.0 in
-              inr (λ z. t.0 (sym is ∙ z), subst (λ y. DeviceToldStage y (m.begun e') (m.resting e')) (sym is) t.1, subst (λ y. DeviceSays m.words y b DeviceOp.idle v.frame v.done u.done) (sym is) t.2, subst (λ y. IsToldAt port m.side m.act (λ u. u.done ≡ v.done) p v y) (sym is) (here a.2))
+              inr (
+                λ z. t.0 (sym is ∙ z),
+                subst (λ y. DeviceToldStage y (m.begun e') (m.resting e')) (sym is) t.1,
+                subst (λ y. DeviceSays m.words y b DeviceOp.idle v.frame v.done u.done) (sym is) t.2,
+                subst (λ y. IsToldAt port m.side m.act (λ u. u.done ≡ v.done) p v y) (sym is) (here a.2),
+              )
               )
         ]
         | inr a ↦ (
@@ -141,7 +171,8 @@ device_goes {P} {E} port m law b p q q' v e e' answer x work g busy s =
             inr (
               λ z. a.0 (sym is ∙ z),
               subst (λ y. DeviceToldStage y (m.begun e') (m.resting e')) (sym is) (left t.1 rests only.1),
-              subst (λ y. DeviceSays m.words y b DeviceOp.idle v.frame v.done u.done) (sym is) (subst (λ (s2 : List DeviceDone). DeviceSays m.words answer b DeviceOp.idle v.frame v.done s2) (sym t.2) a.2),
+              subst (λ y. DeviceSays m.words y b DeviceOp.idle v.frame v.done u.done) (sym is)
+                  (subst (λ (s2 : List DeviceDone). DeviceSays m.words answer b DeviceOp.idle v.frame v.done s2) (sym t.2) a.2),
               subst (λ y. IsToldAt port m.side m.act (λ u. u.done ≡ v.done) p v y) (sym is) a.3,
             )
             )
@@ -149,12 +180,28 @@ device_goes {P} {E} port m law b p q q' v e e' answer x work g busy s =
     }
   where
     here : g.view.done ≡ v.done → IsToldAt port m.side m.act (λ u. u.done ≡ v.done) p v x
-    here kept = record { made = g.made; mid = q; view = g.view; run = g.run; meets = kept; next = q'; op = s.op; access = s.access; got = s.got; was_next = s.was_next; moved = s.moved; is_answer = s.is_answer }
+    here kept = record {
+      made = g.made;
+      mid = q;
+      view = g.view;
+      run = g.run;
+      meets = kept;
+      next = q';
+      op = s.op;
+      access = s.access;
+      got = s.got;
+      was_next = s.was_next;
+      moved = s.moved;
+      is_answer = s.is_answer;
+    }
 
-    at : m.begun e ≡ b → g.view.done ≡ v.done → DeviceSays m.words x b (m.begun e') v.frame v.done (m.side.after g.view s.op s.access s.got).done
+    at : m.begun e ≡ b → g.view.done ≡ v.done
+        → DeviceSays m.words x b (m.begun e') v.frame v.done (m.side.after g.view s.op s.access s.got).done
     at is same = subst (λ y. DeviceSays m.words x y (m.begun e') v.frame v.done (m.side.after g.view s.op s.access s.got).done) is
-        (subst (λ (f : Frame). DeviceSays m.words x (m.begun e) (m.begun e') f v.done (m.side.after g.view s.op s.access s.got).done) g.framed
-        (subst (λ (s2 : List DeviceDone). DeviceSays m.words x (m.begun e) (m.begun e') g.view.frame s2 (m.side.after g.view s.op s.access s.got).done) same s.says))
+        (subst (λ (f : Frame). DeviceSays m.words x (m.begun e) (m.begun e') f v.done (m.side.after g.view s.op s.access s.got).done)
+        g.framed
+        (subst (λ (s2 : List DeviceDone). DeviceSays m.words x (m.begun e) (m.begun e') g.view.frame s2
+        (m.side.after g.view s.op s.access s.got).done) same s.says))
 
     which : DeviceToldStage answer (m.begun e) (m.resting e) → (m.begun e ≡ DeviceOp.signal) × (is_rested answer ≡ false)
     which (inl i) = absurd (busy i.0)
@@ -163,14 +210,29 @@ device_goes {P} {E} port m law b p q q' v e e' answer x work g busy s =
     goes_unarmed : b ≢ DeviceOp.arm → m.begun e ≢ DeviceOp.arm
     goes_unarmed other is = elim g.phase [ inl a ↦ other (sym a.1 ∙ is) | inr a ↦ absurd (cc ((which a.1).0, is)) ]
 
-    left : DevicePublished (m.begun e') → m.resting e' ≡ is_rested answer → is_rested answer ≡ false → DeviceToldStage answer (m.begun e') (m.resting e')
+    left : DevicePublished (m.begun e') → m.resting e' ≡ is_rested answer → is_rested answer ≡ false
+        → DeviceToldStage answer (m.begun e') (m.resting e')
     left (inl i) rests none = inl (i, rests)
     left (inr i) rests none = inr (i, none)
 
-pub device_ends : {P E : Type 0} (port : PortModel P) (m : DeviceModel E) (p q : P) (v : DeviceView) (e e' : E) (answer : DeviceAct) → IsDeviceWork (m.begun e) → DeviceGoing port m (m.begun e) p v q e' answer → m.begun e' ≡ DeviceOp.idle → IsDeviceFinish port m p q v e e' answer
+pub device_ends : {P E : Type 0} (port : PortModel P) (m : DeviceModel E) (p q : P) (v : DeviceView) (e e' : E) (answer : DeviceAct)
+    → IsDeviceWork (m.begun e) → DeviceGoing port m (m.begun e) p v q e' answer → m.begun e' ≡ DeviceOp.idle
+    → IsDeviceFinish port m p q v e e' answer
 device_ends port m p q v e e' answer work g idle = elim g.phase [
   | inl a ↦ absurd (no (m.begun e) work (sym a.1 ∙ idle))
-  | inr a ↦ record { view = g.view; made = g.made; run = g.run; now_stands = g.stands; idle = idle; told = a.0; says = a.2; rests = at_end a.1; unarmed = g.unarmed; at = a.3 }
+  | inr a ↦ record {
+    view = g.view;
+    made = g.made;
+    run = g.run;
+    now_stands = g.stands;
+    idle = idle;
+    told = a.0;
+    says = a.2;
+    rests =
+        at_end a.1;
+    unarmed = g.unarmed;
+    at = a.3;
+  }
 ]
   where
     no : (b : DeviceOp) → IsDeviceWork b → b ≡ DeviceOp.idle → ⊥

@@ -35,7 +35,8 @@ pub record MayOffer (words : ControlWords) (v : DriverView) (c : List Piece) : T
   pub fits : Fits v.frame c
   pub room : HasRoom v.frame v.done c
   pub limited : length (offers v.done) < limit v.frame
-  pub control : v.frame.control ≡ true → IsControlChain (words.command v.frame (next_head v.frame v.done)) (words.ack v.frame (next_head v.frame v.done)) c
+  pub control : v.frame.control ≡ true
+      → IsControlChain (words.command v.frame (next_head v.frame v.done)) (words.ack v.frame (next_head v.frame v.done)) c
 
 -- a driver's end: what its side may do, what its steps answer, whether a word that a look loads shows a further used entry, for which
 -- views it stands, the operation that it has begun, whether it is armed, a bound of the steps that this still takes, what it was made
@@ -62,15 +63,18 @@ pub record WasOffered (f : Frame) (o : List DriverDone) (c : List Piece) : Type 
 abbrev pub DriverSays : DriverAct → DriverOp → DriverOp → Frame → List DriverDone → List DriverDone → Type 0
 DriverSays act.Moved b b' f o o' = DriverGoesOn b b' × (o' ≡ o)
 DriverSays act.Nothing b b' f o o' = (b ≡ DriverOp.collect) × (b' ≡ DriverOp.idle) × (o' ≡ o)
-DriverSays (act.Offered k) b b' f o o' = (c : List Piece) × (b ≡ DriverOp.offer c) × DriverPublished b' × (k ≡ length (offers o)) × (o' ≡ Offer c ∷ o) × WasOffered f o c
-DriverSays (act.Collected k n h) b b' f o o' = (us : List Used) × (b ≡ DriverOp.collect) × (b' ≡ DriverOp.idle) × (o' ≡ Collect us ∷ o) × WereCollected f o us k n × (h ≡ head f o k)
+DriverSays (act.Offered k) b b' f o o' = (c : List Piece) × (b ≡ DriverOp.offer c) × DriverPublished b' × (k ≡ length (offers o))
+    × (o' ≡ Offer c ∷ o) × WasOffered f o c
+DriverSays (act.Collected k n h) b b' f o o' = (us : List Used) × (b ≡ DriverOp.collect) × (b' ≡ DriverOp.idle) × (o' ≡ Collect us ∷ o)
+    × WereCollected f o us k n × (h ≡ head f o k)
 DriverSays act.Armed b b' f o o' = (b ≡ DriverOp.arm) × (b' ≡ DriverOp.idle) × (o' ≡ o)
 DriverSays act.Awake b b' f o o' = MayWake b × (b' ≡ DriverOp.idle) × (o' ≡ o)
 DriverSays act.Asleep b b' f o o' = (b ≡ DriverOp.hear) × (b' ≡ DriverOp.idle) × (o' ≡ o)
 
 -- one access of the port was made, of the operation begun, which was next in the view; the end stands for the view after it, answers
 -- by it, and is nearer the operation's end
-pub record IsDriverStep {P E : Type 0} (port : PortModel P) (m : DriverModel E) (p q : P) (v : DriverView) (e e' : E) (answer : DriverAct) : Type 0 where
+pub record IsDriverStep {P E : Type 0} (port : PortModel P) (m : DriverModel E) (p q : P) (v : DriverView) (e e' : E)
+    (answer : DriverAct) : Type 0 where
   pub op : Op
   pub access : Access
   pub got : ℕ
@@ -92,7 +96,8 @@ pub record IsLawfulDriver {E : Type 0} (m : DriverModel E) : Type 0 where
   -- an end with no step left is idle
   pub ends : (e : E) → m.left e ≡ 0 → m.begun e ≡ DriverOp.idle
   -- after a control access of its holder the end stands for the view after it
-  pub control : (e : E) (v : DriverView) (a : Access) (r : ℕ) → m.stands e v → m.side.next v Control a → m.stands e (m.side.after v Control a r)
+  pub control : (e : E) (v : DriverView) (a : Access) (r : ℕ) → m.stands e v → m.side.next v Control a
+      → m.stands e (m.side.after v Control a r)
   -- no access changes what the ring was made with
   pub framed : (v : DriverView) (op : Op) (a : Access) (r : ℕ) → (m.side.after v op a r).frame ≡ v.frame
   -- only an access of an arming arms

@@ -28,7 +28,8 @@ driver_told before now = now
 
 -- an operation of the driver's end was made to its end: by accesses that were next it came to a view for which the end stands,
 -- and its answer is one that ends the operation
-pub record IsDriverFinish {P E : Type 0} (port : PortModel P) (m : DriverModel E) (p q : P) (v : DriverView) (e e' : E) (answer : DriverAct) : Type 0 where
+pub record IsDriverFinish {P E : Type 0} (port : PortModel P) (m : DriverModel E) (p q : P) (v : DriverView) (e e' : E)
+    (answer : DriverAct) : Type 0 where
   pub view : DriverView
   pub made : List Made
   pub run : IsRun port m.side made p v q view
@@ -44,17 +45,30 @@ pub record IsDriverFinish {P E : Type 0} (port : PortModel P) (m : DriverModel E
 -- ---- on the way
 
 -- nothing told yet, or told and published
-pub record DriverGoing {P E : Type 0} (port : PortModel P) (m : DriverModel E) (b : DriverOp) (p : P) (v : DriverView) (q : P) (e : E) (answer : DriverAct) : Type 0 where
+pub record DriverGoing {P E : Type 0} (port : PortModel P) (m : DriverModel E) (b : DriverOp) (p : P) (v : DriverView) (q : P) (e : E)
+    (answer : DriverAct) : Type 0 where
   pub view : DriverView
   pub made : List Made
   pub run : IsRun port m.side made p v q view
   pub stands : m.stands e view
   pub framed : view.frame ≡ v.frame
   pub unarmed : b ≢ DriverOp.arm → v.armed ≡ None → view.armed ≡ None
-  pub phase : ((answer ≡ driver_act.Moved) × (m.begun e ≡ b) × (view.done ≡ v.done)) ⊎ ((answer ≢ driver_act.Moved) × DriverPublished (m.begun e) × DriverSays answer b DriverOp.idle v.frame v.done view.done × IsToldAt port m.side m.act (λ u. u.done ≡ v.done) p v answer)
+  pub phase : ((answer ≡ driver_act.Moved) × (m.begun e ≡ b) × (view.done ≡ v.done)) ⊎
+      ((answer ≢ driver_act.Moved) × DriverPublished (m.begun e) × DriverSays answer b DriverOp.idle v.frame v.done view.done
+      × IsToldAt port m.side m.act (λ u. u.done ≡ v.done) p v answer)
 
-pub driver_starts : {P E : Type 0} (port : PortModel P) (m : DriverModel E) (p : P) (v : DriverView) (e : E) → m.stands e v → DriverGoing port m (m.begun e) p v p e driver_act.Moved
-driver_starts port m p v e stands = record { view = v; made = []; run = (refl, refl); stands = stands; framed = refl; unarmed = λ other none. none; phase = inl (refl, refl, refl) }
+pub driver_starts : {P E : Type 0} (port : PortModel P) (m : DriverModel E) (p : P) (v : DriverView) (e : E) → m.stands e v
+    → DriverGoing port m (m.begun e) p v p e driver_act.Moved
+driver_starts port m p v e stands = record {
+  view = v;
+  made = [];
+  run = (refl, refl);
+  stands = stands;
+  framed = refl;
+  unarmed =
+      λ other none. none;
+  phase = inl (refl, refl, refl);
+}
 
 -- what one step's answer says, where nothing was told before it
 said : (x : DriverAct) (b b' : DriverOp) (f : Frame) (o o' : List DriverDone) → IsDriverWork b → DriverSays x b b' f o o'
@@ -74,7 +88,8 @@ said driver_act.Awake b b' f o o' w s = inr (λ e. cc, inl s.1, (s.0, refl, s.2)
 said driver_act.Asleep b b' f o o' w s = inr (λ e. cc, inl s.1, (s.0, refl, s.2))
 
 -- once it was told only a signal is made
-signalled : (x : DriverAct) (b b' : DriverOp) (f : Frame) (o o' : List DriverDone) → b ≡ DriverOp.signal → DriverSays x b b' f o o' → (x ≡ driver_act.Moved) × DriverPublished b' × (o' ≡ o)
+signalled : (x : DriverAct) (b b' : DriverOp) (f : Frame) (o o' : List DriverDone) → b ≡ DriverOp.signal → DriverSays x b b' f o o'
+    → (x ≡ driver_act.Moved) × DriverPublished b' × (o' ≡ o)
 signalled driver_act.Moved b b' f o o' is s = (refl, subst (λ y. DriverGoesOn y b') is s.0, s.1)
 signalled driver_act.Nothing b b' f o o' is s = absurd (cc (is, s.0))
 signalled (driver_act.Offered k) b b' f o o' is s = absurd (cc (is, s.1))
@@ -101,7 +116,9 @@ not_arm DriverOp.hear o is other = λ e. cc (is, e)
 not_arm DriverOp.disarm o is other = λ e. cc (is, e)
 not_arm DriverOp.signal o is other = λ e. cc (is, e)
 
-pub driver_goes : {P E : Type 0} (port : PortModel P) (m : DriverModel E) (law : IsLawfulDriver m) (b : DriverOp) (p q q' : P) (v : DriverView) (e e' : E) (answer x : DriverAct) → IsDriverWork b → (g : DriverGoing port m b p v q e answer) → (m.begun e ≡ DriverOp.idle → ⊥)
+pub driver_goes : {P E : Type 0} (port : PortModel P) (m : DriverModel E) (law : IsLawfulDriver m) (b : DriverOp) (p q q' : P)
+    (v : DriverView) (e e' : E) (answer x : DriverAct) → IsDriverWork b → (g : DriverGoing port m b p v q e answer)
+    → (m.begun e ≡ DriverOp.idle → ⊥)
     → IsDriverStep port m q q' g.view e e' x → DriverGoing port m b p v q' e' (driver_told answer x)
 driver_goes {P} {E} port m law b p q q' v e e' answer x work g busy s =
     let w : DriverView = g.view in
@@ -112,30 +129,56 @@ driver_goes {P} {E} port m law b p q q' v e e' answer x work g busy s =
       run = (q, w, g.run, record { was_next = s.was_next; moved = s.moved; is_after = refl });
       stands = s.now_stands;
       framed = law.framed w s.op s.access s.got ∙ g.framed;
-      unarmed = λ other none. law.stays_unarmed w s.op s.access s.got (not_arm (m.begun e) s.op s.of_it (goes_unarmed other)) (g.unarmed other none);
+      unarmed = λ other none. law.stays_unarmed w s.op s.access s.got (not_arm (m.begun e) s.op s.of_it (goes_unarmed other))
+          (g.unarmed other none);
       phase = elim g.phase [
         | inl a ↦ elim (said x b (m.begun e') v.frame v.done u.done work (at a.1 a.2)) [
           | inl t ↦ inl (ap (driver_told answer) t.0 ∙ a.0, t.1, t.2)
           | inr t ↦ (
               let is = told_first answer x a.0 t.0 in
-              inr (λ z. t.0 (sym is ∙ z), t.1, subst (λ y. DriverSays y b DriverOp.idle v.frame v.done u.done) (sym is) t.2, subst (λ y. IsToldAt port m.side m.act (λ u. u.done ≡ v.done) p v y) (sym is) (here a.2))
+              inr (
+                λ z. t.0 (sym is ∙ z),
+                t.1,
+                subst (λ y. DriverSays y b DriverOp.idle v.frame v.done u.done) (sym is) t.2,
+                subst (λ y. IsToldAt port m.side m.act (λ u. u.done ≡ v.done) p v y) (sym is) (here a.2),
+              )
               )
         ]
         | inr a ↦ (
             let t = signalled x (m.begun e) (m.begun e') w.frame w.done u.done (which a.1) s.says in
             let is : driver_told answer x ≡ answer = ap (driver_told answer) t.0 in
-            inr (λ z. a.0 (sym is ∙ z), t.1, subst (λ y. DriverSays y b DriverOp.idle v.frame v.done u.done) (sym is) (subst (λ (o : List DriverDone). DriverSays answer b DriverOp.idle v.frame v.done o) (sym t.2) a.2), subst (λ y. IsToldAt port m.side m.act (λ u. u.done ≡ v.done) p v y) (sym is) a.3)
+            inr (
+              λ z. a.0 (sym is ∙ z),
+              t.1,
+              subst (λ y. DriverSays y b DriverOp.idle v.frame v.done u.done) (sym is)
+                  (subst (λ (o : List DriverDone). DriverSays answer b DriverOp.idle v.frame v.done o) (sym t.2) a.2),
+              subst (λ y. IsToldAt port m.side m.act (λ u. u.done ≡ v.done) p v y) (sym is) a.3,
+            )
             )
       ];
     }
   where
     here : g.view.done ≡ v.done → IsToldAt port m.side m.act (λ u. u.done ≡ v.done) p v x
-    here kept = record { made = g.made; mid = q; view = g.view; run = g.run; meets = kept; next = q'; op = s.op; access = s.access; got = s.got; was_next = s.was_next; moved = s.moved; is_answer = s.is_answer }
+    here kept = record {
+      made = g.made;
+      mid = q;
+      view = g.view;
+      run = g.run;
+      meets = kept;
+      next = q';
+      op = s.op;
+      access = s.access;
+      got = s.got;
+      was_next = s.was_next;
+      moved = s.moved;
+      is_answer = s.is_answer;
+    }
 
     at : m.begun e ≡ b → g.view.done ≡ v.done → DriverSays x b (m.begun e') v.frame v.done (m.side.after g.view s.op s.access s.got).done
     at is same = subst (λ y. DriverSays x y (m.begun e') v.frame v.done (m.side.after g.view s.op s.access s.got).done) is
         (subst (λ (f : Frame). DriverSays x (m.begun e) (m.begun e') f v.done (m.side.after g.view s.op s.access s.got).done) g.framed
-        (subst (λ (o : List DriverDone). DriverSays x (m.begun e) (m.begun e') g.view.frame o (m.side.after g.view s.op s.access s.got).done) same s.says))
+        (subst (λ (o : List DriverDone). DriverSays x (m.begun e) (m.begun e') g.view.frame o
+        (m.side.after g.view s.op s.access s.got).done) same s.says))
 
     which : DriverPublished (m.begun e) → m.begun e ≡ DriverOp.signal
     which (inl is) = absurd (busy is)
@@ -144,10 +187,23 @@ driver_goes {P} {E} port m law b p q q' v e e' answer x work g busy s =
     goes_unarmed : b ≢ DriverOp.arm → m.begun e ≢ DriverOp.arm
     goes_unarmed other is = elim g.phase [ inl a ↦ other (sym a.1 ∙ is) | inr a ↦ absurd (cc (which a.1, is)) ]
 
-pub driver_ends : {P E : Type 0} (port : PortModel P) (m : DriverModel E) (p q : P) (v : DriverView) (e e' : E) (answer : DriverAct) → IsDriverWork (m.begun e) → DriverGoing port m (m.begun e) p v q e' answer → m.begun e' ≡ DriverOp.idle → IsDriverFinish port m p q v e e' answer
+pub driver_ends : {P E : Type 0} (port : PortModel P) (m : DriverModel E) (p q : P) (v : DriverView) (e e' : E) (answer : DriverAct)
+    → IsDriverWork (m.begun e) → DriverGoing port m (m.begun e) p v q e' answer → m.begun e' ≡ DriverOp.idle
+    → IsDriverFinish port m p q v e e' answer
 driver_ends port m p q v e e' answer work g idle = elim g.phase [
   | inl a ↦ absurd (no (m.begun e) work (sym a.1 ∙ idle))
-  | inr a ↦ record { view = g.view; made = g.made; run = g.run; now_stands = g.stands; idle = idle; told = a.0; says = a.2; unarmed = g.unarmed; at = a.3 }
+  | inr a ↦ record {
+    view = g.view;
+    made = g.made;
+    run = g.run;
+    now_stands = g.stands;
+    idle = idle;
+    told = a.0;
+    says = a.2;
+    unarmed =
+        g.unarmed;
+    at = a.3;
+  }
 ]
   where
     no : (b : DriverOp) → IsDriverWork b → b ≡ DriverOp.idle → ⊥

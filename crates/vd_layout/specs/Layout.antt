@@ -57,7 +57,8 @@ pub record CanMake (l : LayoutModel) (size : ℕ) (f : Features) : Type 0 where
   pub lawful : l.lawful_size size ≡ true
 
 -- both ends of a fresh ring
-pub record IsFresh {D E : Type 0} (d : DriverModel D) (e : DeviceModel E) (l : LayoutModel) (size : ℕ) (f : Features) (control : Bool) (x : D) (y : E) : Type 0 where
+pub record IsFresh {D E : Type 0} (d : DriverModel D) (e : DeviceModel E) (l : LayoutModel) (size : ℕ) (f : Features) (control : Bool)
+    (x : D) (y : E) : Type 0 where
   pub drives : (g : Frame) → IsMadeWith l size f control g → d.stands x (fresh_driver g (l.width g))
   pub serves : (g : Frame) → IsMadeWith l size f control g → e.stands y (fresh_device g (l.width g))
   pub driver_idle : d.begun x ≡ DriverOp.idle
@@ -79,10 +80,13 @@ pub record DeviceBags (in_order : Bool) (answer : DeviceAct) (o : List DriverDon
 pub record IsLawfulLayout {D E : Type 0} (d : DriverModel D) (e : DeviceModel E) (l : LayoutModel) : Type 0 where
   pub driver_end : IsLawfulDriver d
   pub device_end : IsLawfulDevice e
-  pub driver_keeps : (ws : List ℕ) (v : DriverView) (w : DeviceView) (op : Op) (a : Access) → l.ring ws v w → d.side.next v op a → Keeps d.side (λ us x. l.ring us x w) ws v op a
-  pub device_keeps : (ws : List ℕ) (v : DriverView) (w : DeviceView) (op : Op) (a : Access) → l.ring ws v w → e.side.next w op a → Keeps e.side (λ us x. l.ring us v x) ws w op a
+  pub driver_keeps : (ws : List ℕ) (v : DriverView) (w : DeviceView) (op : Op) (a : Access) → l.ring ws v w → d.side.next v op a
+      → Keeps d.side (λ us x. l.ring us x w) ws v op a
+  pub device_keeps : (ws : List ℕ) (v : DriverView) (w : DeviceView) (op : Op) (a : Access) → l.ring ws v w → e.side.next w op a
+      → Keeps e.side (λ us x. l.ring us v x) ws w op a
   -- words of 0 and the fresh views meet the invariant
-  pub opens : (size : ℕ) (f : Features) (control : Bool) (g : Frame) → CanMake l size f → IsMadeWith l size f control g → l.ring (replicate (l.width g) 0) (fresh_driver g (l.width g)) (fresh_device g (l.width g))
+  pub opens : (size : ℕ) (f : Features) (control : Bool) (g : Frame) → CanMake l size f → IsMadeWith l size f control g
+      → l.ring (replicate (l.width g) 0) (fresh_driver g (l.width g)) (fresh_device g (l.width g))
   -- the words are as many as the ring has, and both views have the ring's frame
   pub wide : (ws : List ℕ) (v : DriverView) (w : DeviceView) → l.ring ws v w → (length ws ≡ l.width v.frame) × (w.frame ≡ v.frame)
   pub frames : (ws : List ℕ) (v : DriverView) (w : DeviceView) → l.ring ws v w → l.lawful_frame v.frame
@@ -97,27 +101,40 @@ pub record IsLawfulLayout {D E : Type 0} (d : DriverModel D) (e : DeviceModel E)
   pub lists : (ws : List ℕ) (v : DriverView) (w : DeviceView) → l.ring ws v w → Lists v.frame v.done w.done
   pub rested : (ws : List ℕ) (v : DriverView) (w : DeviceView) → l.ring ws v w → Rested w.done
   -- the command and ack words that stand are those stored for each chain, and what each side loaded is what the other stored
-  pub controls : (ws : List ℕ) (v : DriverView) (w : DeviceView) → l.ring ws v w → ControlStands v.frame l.words.command l.words.ack v.done w.done ws
+  pub controls : (ws : List ℕ) (v : DriverView) (w : DeviceView) → l.ring ws v w
+      → ControlStands v.frame l.words.command l.words.ack v.done w.done ws
   -- where a look shows nothing, all that was offered is taken, and all that was given is collected
-  pub driver_nothing : (ws : List ℕ) (v : DriverView) (w : DeviceView) (op : Op) (a : Access) → l.ring ws v w → d.side.next v op a → d.act v op a (answered ws a) ≡ driver_act.Nothing → collects v.done ≡ gives w.done
-  pub device_nothing : (ws : List ℕ) (v : DriverView) (w : DeviceView) (op : Op) (a : Access) → l.ring ws v w → e.side.next w op a → e.act w op a (answered ws a) ≡ device_act.Nothing → takes w.done ≡ offers v.done
+  pub driver_nothing : (ws : List ℕ) (v : DriverView) (w : DeviceView) (op : Op) (a : Access) → l.ring ws v w → d.side.next v op a
+      → d.act v op a (answered ws a) ≡ driver_act.Nothing → collects v.done ≡ gives w.done
+  pub device_nothing : (ws : List ℕ) (v : DriverView) (w : DeviceView) (op : Op) (a : Access) → l.ring ws v w → e.side.next w op a
+      → e.act w op a (answered ws a) ≡ device_act.Nothing → takes w.done ≡ offers v.done
   -- bells: what holds between each side that publishes and the other; a sleeper that answers Asleep has no signal, and has changed
   -- nothing; a hearing that ends with Awake has heard a bell more
   pub signals : (ws : List ℕ) (v : DriverView) (w : DeviceView) → l.ring ws v w → RingSignals v w
-  pub driver_asleep : (ws : List ℕ) (v : DriverView) (w : DeviceView) (op : Op) (a : Access) → l.ring ws v w → d.side.next v op a → d.act v op a (answered ws a) ≡ driver_act.Asleep → (d.side.after v op a (answered ws a) ≡ v) × DriverWaits v w
-  pub device_asleep : (ws : List ℕ) (v : DriverView) (w : DeviceView) (op : Op) (a : Access) → l.ring ws v w → e.side.next w op a → e.act w op a (answered ws a) ≡ device_act.Asleep → (e.side.after w op a (answered ws a) ≡ w) × DeviceWaits v w
-  pub driver_hears : (ws : List ℕ) (v : DriverView) (w : DeviceView) (op : Op) (a : Access) → l.ring ws v w → d.side.next v op a → driver_hearings v + driver_woken op (d.act v op a (answered ws a)) ≤ driver_hearings (d.side.after v op a (answered ws a))
-  pub device_hears : (ws : List ℕ) (v : DriverView) (w : DeviceView) (op : Op) (a : Access) → l.ring ws v w → e.side.next w op a → device_hearings w + device_woken op (e.act w op a (answered ws a)) ≤ device_hearings (e.side.after w op a (answered ws a))
+  pub driver_asleep : (ws : List ℕ) (v : DriverView) (w : DeviceView) (op : Op) (a : Access) → l.ring ws v w → d.side.next v op a
+      → d.act v op a (answered ws a) ≡ driver_act.Asleep → (d.side.after v op a (answered ws a) ≡ v) × DriverWaits v w
+  pub device_asleep : (ws : List ℕ) (v : DriverView) (w : DeviceView) (op : Op) (a : Access) → l.ring ws v w → e.side.next w op a
+      → e.act w op a (answered ws a) ≡ device_act.Asleep → (e.side.after w op a (answered ws a) ≡ w) × DeviceWaits v w
+  pub driver_hears : (ws : List ℕ) (v : DriverView) (w : DeviceView) (op : Op) (a : Access) → l.ring ws v w → d.side.next v op a
+      → driver_hearings v + driver_woken op (d.act v op a (answered ws a)) ≤ driver_hearings (d.side.after v op a (answered ws a))
+  pub device_hears : (ws : List ℕ) (v : DriverView) (w : DeviceView) (op : Op) (a : Access) → l.ring ws v w → e.side.next w op a
+      → device_hearings w + device_woken op (e.act w op a (answered ws a)) ≤ device_hearings (e.side.after w op a (answered ws a))
   -- after an offer the words spell the chain; after a give the used entry stands
-  pub spells : (ws : List ℕ) (v : DriverView) (w : DeviceView) (op : Op) (a : Access) (k : ℕ) → l.ring ws v w → d.side.next v op a → d.act v op a (answered ws a) ≡ driver_act.Offered k → l.spells_last v.frame (written ws a) (d.side.after v op a (answered ws a)).done
+  pub spells : (ws : List ℕ) (v : DriverView) (w : DeviceView) (op : Op) (a : Access) (k : ℕ) → l.ring ws v w → d.side.next v op a
+      → d.act v op a (answered ws a) ≡ driver_act.Offered k
+      → l.spells_last v.frame (written ws a) (d.side.after v op a (answered ws a)).done
   pub uses : (ws : List ℕ) (v : DriverView) (w : DeviceView) (op : Op) (a : Access) (k : ℕ) → l.ring ws v w → e.side.next w op a → e.act w op a (answered ws a) ≡ device_act.Given k → l.has_last_used v.frame (written ws a) (e.side.after w op a (answered ws a)).done
   -- each answer is the one bag step that it names, and every other answer is none
-  pub driver_bag : (ws : List ℕ) (v : DriverView) (w : DeviceView) (op : Op) (a : Access) (b : List State) → l.ring ws v w → d.side.next v op a → StandsFor v.done w.done b
-      → (b' : List State) × DriverBagStep (d.act v op a (answered ws a)) b b' × StandsFor (d.side.after v op a (answered ws a)).done w.done b'
-  pub device_bag : (ws : List ℕ) (v : DriverView) (w : DeviceView) (op : Op) (a : Access) (b : List State) → l.ring ws v w → e.side.next w op a → StandsFor v.done w.done b
+  pub driver_bag : (ws : List ℕ) (v : DriverView) (w : DeviceView) (op : Op) (a : Access) (b : List State) → l.ring ws v w
+      → d.side.next v op a → StandsFor v.done w.done b
+      → (b' : List State) × DriverBagStep (d.act v op a (answered ws a)) b b'
+      × StandsFor (d.side.after v op a (answered ws a)).done w.done b'
+  pub device_bag : (ws : List ℕ) (v : DriverView) (w : DeviceView) (op : Op) (a : Access) (b : List State) → l.ring ws v w
+      → e.side.next w op a → StandsFor v.done w.done b
       → DeviceBags v.frame.features.in_order (e.act w op a (answered ws a)) v.done w.done (e.side.after w op a (answered ws a)).done b
   -- both ends know where commands and acks stand
-  pub worded : (g : Frame) (h : ℕ) → (d.words.command g h ≡ l.words.command g h) × (d.words.ack g h ≡ l.words.ack g h) × (e.words.command g h ≡ l.words.command g h) × (e.words.ack g h ≡ l.words.ack g h)
+  pub worded : (g : Frame) (h : ℕ) → (d.words.command g h ≡ l.words.command g h) × (d.words.ack g h ≡ l.words.ack g h)
+      × (e.words.command g h ≡ l.words.command g h) × (e.words.ack g h ≡ l.words.ack g h)
   -- a lawful size has a place, and few enough
   pub sizes : (n : ℕ) → l.lawful_size n ≡ true → (2 ≤ n) × (n ≤ 32768)
   -- the base of a fresh ring, and that of any chains, is a lawful one

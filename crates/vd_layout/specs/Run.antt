@@ -30,7 +30,8 @@ written_by [] ws = ws
 written_by (m ∷ ms) ws = written (written_by ms ws) m.access
 
 -- an answer was told by one access after such a run, at a view that meets R
-pub record IsToldAt {P V A : Type 0} (port : PortModel P) (side : SideModel V) (act : V → Op → Access → ℕ → A) (R : V → Type 0) (p : P) (v : V) (answer : A) : Type 0 where
+pub record IsToldAt {P V A : Type 0} (port : PortModel P) (side : SideModel V) (act : V → Op → Access → ℕ → A) (R : V → Type 0) (p : P)
+    (v : V) (answer : A) : Type 0 where
   pub made : List Made
   pub mid : P
   pub view : V
@@ -47,13 +48,16 @@ pub record IsToldAt {P V A : Type 0} (port : PortModel P) (side : SideModel V) (
 -- ---- lemmas
 
 -- on plain words a run keeps whatever each next access keeps
-pub record PlainRun {P V : Type 0} (port : PortModel P) (ring : List ℕ → V → Type 0) (ms : List Made) (p q : P) (ws : List ℕ) (w : V) : Type 0 where
+pub record PlainRun {P V : Type 0} (port : PortModel P) (ring : List ℕ → V → Type 0) (ms : List Made) (p q : P) (ws : List ℕ)
+    (w : V) : Type 0 where
   pub plain : port.plain q (written_by ms ws)
   pub meets : ring (written_by ms ws) w
   pub same : port.same p q
 
-pub plain_run : {P V : Type 0} (port : PortModel P) (law : IsLawfulPort port) (side : SideModel V) (ring : List ℕ → V → Type 0) → ((us : List ℕ) (x : V) (op : Op) (a : Access) → ring us x → side.next x op a → Keeps side ring us x op a)
-    → (ms : List Made) (p q : P) (ws : List ℕ) (v w : V) → port.plain p ws → ring ws v → IsRun port side ms p v q w → PlainRun port ring ms p q ws w
+pub plain_run : {P V : Type 0} (port : PortModel P) (law : IsLawfulPort port) (side : SideModel V) (ring : List ℕ → V → Type 0)
+    → ((us : List ℕ) (x : V) (op : Op) (a : Access) → ring us x → side.next x op a → Keeps side ring us x op a)
+    → (ms : List Made) (p q : P) (ws : List ℕ) (v w : V) → port.plain p ws → ring ws v → IsRun port side ms p v q w
+    → PlainRun port ring ms p q ws w
 plain_run {P} {V} port law side ring keeps [] p q ws v w plain meets run = record {
   plain = subst (λ (x : P). port.plain x ws) (sym run.0) plain;
   meets = subst (λ (x : V). ring ws x) (sym run.1) meets;
@@ -62,14 +66,18 @@ plain_run {P} {V} port law side ring keeps [] p q ws v w plain meets run = recor
 plain_run {P} {V} port law side ring keeps (m ∷ ms) p q ws v w plain meets run =
     let so_far = plain_run port law side ring keeps ms p run.0 ws v run.1 plain meets run.2 in
     let us : List ℕ = written_by ms ws in
-    let step = plain_step port law side ring run.0 q us run.1 m.op m.access m.got (keeps us run.1 m.op m.access so_far.meets run.3.was_next) so_far.plain run.3.moved in record {
+    let step = plain_step port law side ring run.0 q us run.1 m.op m.access m.got
+    (keeps us run.1 m.op m.access so_far.meets run.3.was_next) so_far.plain run.3.moved in record {
       plain = step.plain;
       meets = subst (λ (x : V). ring (written us m.access) x) (sym run.3.is_after) step.meets;
       same = law.same_trans p run.0 q so_far.same step.same;
     }
 
 -- at a run's end the port is still the side's own
-pub own_run : {P V : Type 0} (port : PortModel P) (side : SideModel V) (ms : List Made) (p q : P) (v w : V) → IsOwn port side p v → IsRun port side ms p v q w → IsOwn port side q w
-own_run {P} {V} port side [] p q v w own run = subst (λ (x : P). IsOwn port side x w) (sym run.0) (subst (λ (x : V). IsOwn port side p x) (sym run.1) own)
+pub own_run : {P V : Type 0} (port : PortModel P) (side : SideModel V) (ms : List Made) (p q : P) (v w : V) → IsOwn port side p v
+    → IsRun port side ms p v q w → IsOwn port side q w
+own_run {P} {V} port side [] p q v w own run =
+    subst (λ (x : P). IsOwn port side x w) (sym run.0) (subst (λ (x : V). IsOwn port side p x) (sym run.1) own)
 own_run {P} {V} port side (m ∷ ms) p q v w own run =
-    subst (λ (x : V). IsOwn port side q x) (sym run.3.is_after) (own_after port side run.0 q run.1 m.op m.access m.got (own_run port side ms p run.0 v run.1 own run.2) run.3.was_next run.3.moved)
+    subst (λ (x : V). IsOwn port side q x) (sym run.3.is_after)
+    (own_after port side run.0 q run.1 m.op m.access m.got (own_run port side ms p run.0 v run.1 own run.2) run.3.was_next run.3.moved)

@@ -20,8 +20,11 @@ module _ {D : Type 0} (d : DriverModel D) (law : IsLawfulDriver d) where
       at false is = is
 
   -- a step of another operation leaves it unarmed
-  pub driver_stays : {P : Type 0} (port : PortModel P) (p q : P) (v : DriverView) (x x' : D) (answer : DriverAct) → d.begun x ≢ DriverOp.arm → v.armed ≡ None → (s : IsDriverStep port d p q v x x' answer) → (d.side.after v s.op s.access s.got).armed ≡ None
-  driver_stays port p q v x x' answer other none s = law.stays_unarmed v s.op s.access s.got (driver.not_arm (d.begun x) s.op s.of_it other) none
+  pub driver_stays : {P : Type 0} (port : PortModel P) (p q : P) (v : DriverView) (x x' : D) (answer : DriverAct)
+      → d.begun x ≢ DriverOp.arm → v.armed ≡ None → (s : IsDriverStep port d p q v x x' answer)
+      → (d.side.after v s.op s.access s.got).armed ≡ None
+  driver_stays port p q v x x' answer other none s =
+      law.stays_unarmed v s.op s.access s.got (driver.not_arm (d.begun x) s.op s.of_it other) none
 
 module _ {E : Type 0} (e : DeviceModel E) (law : IsLawfulDevice e) where
   pub device_unarmed : (y : E) (w : DeviceView) → e.stands y w → w.armed ≡ None → e.armed y ≡ false
@@ -32,5 +35,8 @@ module _ {E : Type 0} (e : DeviceModel E) (law : IsLawfulDevice e) where
       at false is = is
 
   -- a step of another operation leaves it unarmed
-  pub device_stays : {P : Type 0} (port : PortModel P) (p q : P) (w : DeviceView) (y y' : E) (answer : DeviceAct) → e.begun y ≢ DeviceOp.arm → w.armed ≡ None → (s : IsDeviceStep port e p q w y y' answer) → (e.side.after w s.op s.access s.got).armed ≡ None
-  device_stays port p q w y y' answer other none s = law.stays_unarmed w s.op s.access s.got (device.not_arm (e.begun y) s.op s.of_it other) none
+  pub device_stays : {P : Type 0} (port : PortModel P) (p q : P) (w : DeviceView) (y y' : E) (answer : DeviceAct)
+      → e.begun y ≢ DeviceOp.arm → w.armed ≡ None → (s : IsDeviceStep port e p q w y y' answer)
+      → (e.side.after w s.op s.access s.got).armed ≡ None
+  device_stays port p q w y y' answer other none s =
+      law.stays_unarmed w s.op s.access s.got (device.not_arm (e.begun y) s.op s.of_it other) none

@@ -128,7 +128,8 @@ pub trait DeviceEnd: Drop {
     fn step<P: Port>(&mut self, port: &mut P) -> DeviceAct
         requires busy { ¬ (device.begun self.old ≡ DeviceOp.idle) }
         requires own { (w : DeviceView) × device.stands self.old w × IsOwn P.port device.side port.old w }
-        ensures { (w : DeviceView) → device.stands self.old w → IsOwn P.port device.side port.old w → IsDeviceStep P.port device port.old port.new w self.old self.new result };
+        ensures { (w : DeviceView) → device.stands self.old w → IsOwn P.port device.side port.old w
+            → IsDeviceStep P.port device port.old port.new w self.old self.new result };
 
     /// Where the ring stands, in the form of its layout.
     fn base(&self) -> Base

@@ -93,7 +93,8 @@ pub trait DriverEnd: Drop {
     fn step<P: Port>(&mut self, port: &mut P) -> DriverAct
         requires busy { ¬ (driver.begun self.old ≡ DriverOp.idle) }
         requires own { (v : DriverView) × driver.stands self.old v × IsOwn P.port driver.side port.old v }
-        ensures { (v : DriverView) → driver.stands self.old v → IsOwn P.port driver.side port.old v → IsDriverStep P.port driver port.old port.new v self.old self.new result };
+        ensures { (v : DriverView) → driver.stands self.old v → IsOwn P.port driver.side port.old v
+            → IsDriverStep P.port driver port.old port.new v self.old self.new result };
 
     ghost driver_lawful: { IsLawfulDriver driver };
 }

@@ -21,7 +21,8 @@ use vd_words::Port;
 pub fn finish_driver<E: DriverEnd, P: Port>(end: &mut E, port: &mut P) -> DriverAct
     requires begun { IsDriverWork (E.driver.begun end.old) }
     requires own { (v : DriverView) × E.driver.stands end.old v × IsOwn P.port E.driver.side port.old v }
-    ensures { (v : DriverView) → E.driver.stands end.old v → IsOwn P.port E.driver.side port.old v → IsDriverFinish P.port E.driver port.old port.new v end.old end.new result }
+    ensures { (v : DriverView) → E.driver.stands end.old v → IsOwn P.port E.driver.side port.old v
+        → IsDriverFinish P.port E.driver port.old port.new v end.old end.new result }
 {
     let mut answer = DriverAct::Moved;
     while !end.idle() {
@@ -35,7 +36,8 @@ pub fn finish_driver<E: DriverEnd, P: Port>(end: &mut E, port: &mut P) -> Driver
 pub fn finish_device<E: DeviceEnd, P: Port>(end: &mut E, port: &mut P) -> DeviceAct
     requires begun { IsDeviceWork (E.device.begun end.old) }
     requires own { (v : DeviceView) × E.device.stands end.old v × IsOwn P.port E.device.side port.old v }
-    ensures { (v : DeviceView) → E.device.stands end.old v → IsOwn P.port E.device.side port.old v → IsDeviceFinish P.port E.device port.old port.new v end.old end.new result }
+    ensures { (v : DeviceView) → E.device.stands end.old v → IsOwn P.port E.device.side port.old v
+        → IsDeviceFinish P.port E.device port.old port.new v end.old end.new result }
 {
     let mut answer = DeviceAct::Moved;
     while !end.idle() {
@@ -52,7 +54,9 @@ pub fn finish_device<E: DeviceEnd, P: Port>(end: &mut E, port: &mut P) -> Device
 fn step_driver<E: DriverEnd, P: Port>(end: &mut E, port: &mut P, answer: &mut DriverAct)
     requires busy { ¬ (E.driver.begun end.old ≡ DriverOp.idle) }
     requires own { (v : DriverView) × E.driver.stands end.old v × IsOwn P.port E.driver.side port.old v }
-    ensures { (v : DriverView) → E.driver.stands end.old v → IsOwn P.port E.driver.side port.old v → (act : DriverAct) × IsDriverStep P.port E.driver port.old port.new v end.old end.new act × (answer.new ≡ driver_told answer.old act) }
+    ensures { (v : DriverView) → E.driver.stands end.old v → IsOwn P.port E.driver.side port.old v
+        → (act : DriverAct) × IsDriverStep P.port E.driver port.old port.new v end.old end.new act
+        × (answer.new ≡ driver_told answer.old act) }
 {
     keep_driver(answer, end.step(port));
 }
@@ -73,7 +77,9 @@ fn keep_driver(answer: &mut DriverAct, now: DriverAct)
 fn step_device<E: DeviceEnd, P: Port>(end: &mut E, port: &mut P, answer: &mut DeviceAct)
     requires busy { ¬ (E.device.begun end.old ≡ DeviceOp.idle) }
     requires own { (v : DeviceView) × E.device.stands end.old v × IsOwn P.port E.device.side port.old v }
-    ensures { (v : DeviceView) → E.device.stands end.old v → IsOwn P.port E.device.side port.old v → (act : DeviceAct) × IsDeviceStep P.port E.device port.old port.new v end.old end.new act × (answer.new ≡ device_told answer.old act) }
+    ensures { (v : DeviceView) → E.device.stands end.old v → IsOwn P.port E.device.side port.old v
+        → (act : DeviceAct) × IsDeviceStep P.port E.device port.old port.new v end.old end.new act
+        × (answer.new ≡ device_told answer.old act) }
 {
     keep_device(answer, end.step(port));
 }

@@ -22,11 +22,18 @@ pub fn finish_driver_beside<L: Layout, P: Port>(
     port: &mut P,
 ) -> DriverAct
     requires begun { IsDriverWork (L.Driver.driver.begun driver.old) }
-    requires on { (f : Frame) × (ws : List ℕ) × P.port.plain port.old ws × AreOn L.Driver.driver L.Device.device L.layout f driver.old device.now ws × (P.port.ring port.old ≡ f.ring) }
-    ensures on { (f : Frame) (ws : List ℕ) → P.port.plain port.old ws → AreOn L.Driver.driver L.Device.device L.layout f driver.old device.now ws → Finished P.port L.Driver.driver L.Device.device L.layout f port.old port.new driver.new device.now }
+    requires on { (f : Frame) × (ws : List ℕ) × P.port.plain port.old ws
+        × AreOn L.Driver.driver L.Device.device L.layout f driver.old device.now ws × (P.port.ring port.old ≡ f.ring) }
+    ensures on { (f : Frame) (ws : List ℕ) → P.port.plain port.old ws
+        → AreOn L.Driver.driver L.Device.device L.layout f driver.old device.now ws
+        → Finished P.port L.Driver.driver L.Device.device L.layout f port.old port.new driver.new device.now }
     ensures idle { L.Driver.driver.begun driver.new ≡ DriverOp.idle }
     // the answer is about the very views of before and after, and the other side knows what it knew
-    ensures did { (f : Frame) (ws : List ℕ) → P.port.plain port.old ws → (a : AreOn L.Driver.driver L.Device.device L.layout f driver.old device.now ws) → (z : Finished P.port L.Driver.driver L.Device.device L.layout f port.old port.new driver.new device.now) × DriverSays result (L.Driver.driver.begun driver.old) DriverOp.idle a.view.frame a.view.done z.on.view.done × DriverBeside P.port L.Driver.driver L.Device.device L.layout f port.old port.new ws driver.old driver.new device.now result a z }
+    ensures did { (f : Frame) (ws : List ℕ) → P.port.plain port.old ws
+        → (a : AreOn L.Driver.driver L.Device.device L.layout f driver.old device.now ws)
+        → (z : Finished P.port L.Driver.driver L.Device.device L.layout f port.old port.new driver.new device.now)
+        × DriverSays result (L.Driver.driver.begun driver.old) DriverOp.idle a.view.frame a.view.done z.on.view.done
+        × DriverBeside P.port L.Driver.driver L.Device.device L.layout f port.old port.new ws driver.old driver.new device.now result a z }
 {
     let _ = device;
     finish_driver(driver, port)
@@ -41,12 +48,20 @@ pub fn finish_device_beside<L: Layout, P: Port>(
     port: &mut P,
 ) -> DeviceAct
     requires begun { IsDeviceWork (L.Device.device.begun device.old) }
-    requires on { (f : Frame) × (ws : List ℕ) × P.port.plain port.old ws × AreOn L.Driver.driver L.Device.device L.layout f driver.now device.old ws × (P.port.ring port.old ≡ f.ring) }
-    ensures on { (f : Frame) (ws : List ℕ) → P.port.plain port.old ws → AreOn L.Driver.driver L.Device.device L.layout f driver.now device.old ws → Finished P.port L.Driver.driver L.Device.device L.layout f port.old port.new driver.now device.new }
+    requires on { (f : Frame) × (ws : List ℕ) × P.port.plain port.old ws
+        × AreOn L.Driver.driver L.Device.device L.layout f driver.now device.old ws × (P.port.ring port.old ≡ f.ring) }
+    ensures on { (f : Frame) (ws : List ℕ) → P.port.plain port.old ws
+        → AreOn L.Driver.driver L.Device.device L.layout f driver.now device.old ws
+        → Finished P.port L.Driver.driver L.Device.device L.layout f port.old port.new driver.now device.new }
     ensures idle { L.Device.device.begun device.new ≡ DeviceOp.idle }
     ensures rests { L.Device.device.resting device.new ≡ is_rested result }
     // the answer is about the very views of before and after, and the other side knows what it knew
-    ensures did { (f : Frame) (ws : List ℕ) → P.port.plain port.old ws → (a : AreOn L.Driver.driver L.Device.device L.layout f driver.now device.old ws) → (z : Finished P.port L.Driver.driver L.Device.device L.layout f port.old port.new driver.now device.new) × DeviceSays L.Device.device.words result (L.Device.device.begun device.old) DeviceOp.idle a.device_view.frame a.device_view.done z.on.device_view.done × DeviceBeside P.port L.Driver.driver L.Device.device L.layout f port.old port.new ws driver.now device.old device.new result a z }
+    ensures did { (f : Frame) (ws : List ℕ) → P.port.plain port.old ws
+        → (a : AreOn L.Driver.driver L.Device.device L.layout f driver.now device.old ws)
+        → (z : Finished P.port L.Driver.driver L.Device.device L.layout f port.old port.new driver.now device.new)
+        × DeviceSays L.Device.device.words result (L.Device.device.begun device.old) DeviceOp.idle a.device_view.frame
+        a.device_view.done z.on.device_view.done × DeviceBeside P.port L.Driver.driver L.Device.device L.layout f port.old port.new ws
+        driver.now device.old device.new result a z }
 {
     let _ = driver;
     finish_device(device, port)

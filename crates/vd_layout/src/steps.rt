@@ -22,9 +22,12 @@ pub fn step_driver_beside<L: Layout, P: Port>(
     port: &mut P,
 ) -> DriverAct
     requires busy { ¬ (L.Driver.driver.begun driver.old ≡ DriverOp.idle) }
-    requires on { (f : Frame) × (ws : List ℕ) × P.port.plain port.old ws × AreOn L.Driver.driver L.Device.device L.layout f driver.old device.now ws × (P.port.ring port.old ≡ f.ring) }
-    ensures { (f : Frame) (ws : List ℕ) → P.port.plain port.old ws → (a : AreOn L.Driver.driver L.Device.device L.layout f driver.old device.now ws)
-        → (s : IsDriverStep P.port L.Driver.driver port.old port.new a.view driver.old driver.new result) × DriverStepped P.port L.Driver.driver L.layout port.old port.new ws a.view a.device_view driver.old driver.new result s }
+    requires on { (f : Frame) × (ws : List ℕ) × P.port.plain port.old ws
+        × AreOn L.Driver.driver L.Device.device L.layout f driver.old device.now ws × (P.port.ring port.old ≡ f.ring) }
+    ensures { (f : Frame) (ws : List ℕ) → P.port.plain port.old ws
+        → (a : AreOn L.Driver.driver L.Device.device L.layout f driver.old device.now ws)
+        → (s : IsDriverStep P.port L.Driver.driver port.old port.new a.view driver.old driver.new result)
+        × DriverStepped P.port L.Driver.driver L.layout port.old port.new ws a.view a.device_view driver.old driver.new result s }
 {
     let _ = device;
     driver.step(port)
@@ -39,9 +42,12 @@ pub fn step_device_beside<L: Layout, P: Port>(
     port: &mut P,
 ) -> DeviceAct
     requires busy { ¬ (L.Device.device.begun device.old ≡ DeviceOp.idle) }
-    requires on { (f : Frame) × (ws : List ℕ) × P.port.plain port.old ws × AreOn L.Driver.driver L.Device.device L.layout f driver.now device.old ws × (P.port.ring port.old ≡ f.ring) }
-    ensures { (f : Frame) (ws : List ℕ) → P.port.plain port.old ws → (a : AreOn L.Driver.driver L.Device.device L.layout f driver.now device.old ws)
-        → (s : IsDeviceStep P.port L.Device.device port.old port.new a.device_view device.old device.new result) × DeviceStepped P.port L.Device.device L.layout port.old port.new ws a.view a.device_view device.old device.new result s }
+    requires on { (f : Frame) × (ws : List ℕ) × P.port.plain port.old ws
+        × AreOn L.Driver.driver L.Device.device L.layout f driver.now device.old ws × (P.port.ring port.old ≡ f.ring) }
+    ensures { (f : Frame) (ws : List ℕ) → P.port.plain port.old ws
+        → (a : AreOn L.Driver.driver L.Device.device L.layout f driver.now device.old ws)
+        → (s : IsDeviceStep P.port L.Device.device port.old port.new a.device_view device.old device.new result)
+        × DeviceStepped P.port L.Device.device L.layout port.old port.new ws a.view a.device_view device.old device.new result s }
 {
     let _ = driver;
     device.step(port)

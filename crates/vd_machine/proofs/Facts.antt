@@ -58,7 +58,8 @@ window_bounds n h = let parts = and_parts (nat_le 1 n) (nat_le n 64) h in (leb-t
 
 -- the regions
 
-region_parts : (rs : List Region) → are_regions rs ≡ true → (nat_le (length rs) 64 ≡ true) × (list_all is_region rs ≡ true) × (all_apart rs ≡ true)
+region_parts : (rs : List Region) → are_regions rs ≡ true → (nat_le (length rs) 64 ≡ true) × (list_all is_region rs ≡ true)
+    × (all_apart rs ≡ true)
 region_parts rs h =
     let few_rest = and_parts (nat_le (length rs) 64) (list_all is_region rs && all_apart rs) h in
     let rest = and_parts (list_all is_region rs) (all_apart rs) few_rest.1 in
@@ -73,7 +74,8 @@ region_fits r h =
     let sized = and_parts (nat_le 1 r.size) (nat_lt r.size 0x8000_0000_0000_0000) parts.0 in
     (leb-true 1 r.size sized.0, leb-true (r.addr + r.size) 0x8000_0000_0000_0000 parts.1)
 
-pub region_bounds : (rs : List Region) (d : Region) (k : ℕ) → are_regions rs ≡ true → k < length rs → (1 ≤ (get_or rs k d).size) × ((get_or rs k d).addr + (get_or rs k d).size ≤ 2 ^ 63)
+pub region_bounds : (rs : List Region) (d : Region) (k : ℕ) → are_regions rs ≡ true → k < length rs
+    → (1 ≤ (get_or rs k d).size) × ((get_or rs k d).addr + (get_or rs k d).size ≤ 2 ^ 63)
 region_bounds rs d k h below = region_fits (get_or rs k d) (all_at is_region rs d k (region_parts rs h).1 below)
 
 -- a piece that lies in lawful regions ends at most at 2 ^ 63
@@ -83,7 +85,8 @@ end_in (r ∷ rs) p h lies =
     let all = and_parts (is_region r) (list_all is_region rs) h in
     elim (cases_Bool (holds p r)) [
       | inl here ↦
-          let ends = leb-true (p.addr + p.len) (r.addr + r.size) (and_parts (nat_le r.addr p.addr) (nat_le (p.addr + p.len) (r.addr + r.size)) here).1 in
+          let ends = leb-true (p.addr + p.len) (r.addr + r.size)
+          (and_parts (nat_le r.addr p.addr) (nat_le (p.addr + p.len) (r.addr + r.size)) here).1 in
           omega (arith, ends, (region_fits r all.0).1)
       | inr other ↦ end_in rs p all.1 (rw other at lies)
     ]
@@ -93,7 +96,8 @@ piece_end rs p h lies = end_in rs p (region_parts rs h).1 lies
 
 -- the queues
 
-few_parts : (qs : List Script) → few qs ≡ true → (nat_le 1 (length qs) ≡ true) × (nat_le (length qs) 1 ≡ true) × (list_all is_short qs ≡ true) × (nat_le (sum_by chains_of qs) 400000 ≡ true)
+few_parts : (qs : List Script) → few qs ≡ true → (nat_le 1 (length qs) ≡ true) × (nat_le (length qs) 1 ≡ true)
+    × (list_all is_short qs ≡ true) × (nat_le (sum_by chains_of qs) 400000 ≡ true)
 few_parts qs h =
     let both = and_parts (nat_le 1 (length qs) && nat_le (length qs) 1) (list_all is_short qs && nat_le (sum_by chains_of qs) 400000) h in
     let queues = and_parts (nat_le 1 (length qs)) (nat_le (length qs) 1) both.0 in
@@ -112,10 +116,12 @@ queue_is_short qs d k h below = leb-true (chains_of (get_or qs k d)) 200000 (all
 pub all_chains : (qs : List Script) → few qs ≡ true → sum_by chains_of qs ≤ 400000
 all_chains qs h = leb-true (sum_by chains_of qs) 400000 (few_parts qs h).3
 
-pub queue_has_no_commands : (most : ℕ) (qs : List Script) (d : Script) (k : ℕ) → are_scripts most qs ≡ true → k < length qs → length (get_or qs k d).commands ≡ 0
+pub queue_has_no_commands : (most : ℕ) (qs : List Script) (d : Script) (k : ℕ) → are_scripts most qs ≡ true → k < length qs
+    → length (get_or qs k d).commands ≡ 0
 queue_has_no_commands most qs d k h below =
     let q = get_or qs k d in
-    eqb-true (length q.commands) 0 (and_parts (length q.commands == 0) (list_all (is_lawful most) q.runs) (all_at (is_script most) qs d k h below)).0
+    eqb-true (length q.commands) 0
+    (and_parts (length q.commands == 0) (list_all (is_lawful most) q.runs) (all_at (is_script most) qs d k h below)).0
 
 -- one chain or more, of at most so many pieces, each in one region
 pub record IsRunIn (most : ℕ) (rs : List Region) (r : Run) : Type 0 where
@@ -141,16 +147,19 @@ run_in most rs r h lies =
       inside = lies;
     }
 
-pub run_at : (most : ℕ) (rs : List Region) (qs : List Script) (d : Script) (e : Run) (k j : ℕ) → are_scripts most qs ≡ true → all_lie rs qs ≡ true → k < length qs → j < length (get_or qs k d).runs → IsRunIn most rs (get_or (get_or qs k d).runs j e)
+pub run_at : (most : ℕ) (rs : List Region) (qs : List Script) (d : Script) (e : Run) (k j : ℕ) → are_scripts most qs ≡ true
+    → all_lie rs qs ≡ true → k < length qs → j < length (get_or qs k d).runs → IsRunIn most rs (get_or (get_or qs k d).runs j e)
 run_at most rs qs d e k j h lie below within =
     let q = get_or qs k d in
     let runs = (and_parts (length q.commands == 0) (list_all (is_lawful most) q.runs) (all_at (is_script most) qs d k h below)).1 in
-    run_in most rs (get_or q.runs j e) (all_at (is_lawful most) q.runs e j runs within) (all_at (run_lies_in rs) q.runs e j (all_at (script_lies_in rs) qs d k lie below) within)
+    run_in most rs (get_or q.runs j e) (all_at (is_lawful most) q.runs e j runs within)
+    (all_at (run_lies_in rs) q.runs e j (all_at (script_lies_in rs) qs d k lie below) within)
 
 needs_by : (b : Bool) (size : ℕ) (ps : List Piece) → 2 ≤ size → length ps ≤ cond b 16 size → cond b 1 (length ps) ≤ size
 needs_by true size ps low h = omega arith
 needs_by false size ps low h = h
 
 -- a chain takes no more descriptors than the ring has
-pub needs_within : (f : Features) (packed : Bool) (size : ℕ) (ps : List Piece) → is_lawful_size packed size ≡ true → length ps ≤ most_pieces f size → needs f ps ≤ size
+pub needs_within : (f : Features) (packed : Bool) (size : ℕ) (ps : List Piece) → is_lawful_size packed size ≡ true
+    → length ps ≤ most_pieces f size → needs f ps ≤ size
 needs_within f packed size ps lawful h = needs_by f.indirect size ps (size_bounds packed size lawful).0 h

@@ -13,7 +13,8 @@ list_of-items [] = refl
 list_of-items (v ∷ vs) = ap (λ ds. view v ∷ ds) (list_of-items vs)
 
 -- a test of each key, as the map has them
-pub all_names : (p : List ℕ → Bool) (es : List (String Global × Value)) → list_all p (names_of (members_view es)) ≡ list_all (λ k. p (string_bytes k)) (map (λ e. e.0) es)
+pub all_names : (p : List ℕ → Bool) (es : List (String Global × Value))
+    → list_all p (names_of (members_view es)) ≡ list_all (λ k. p (string_bytes k)) (map (λ e. e.0) es)
 all_names p [] = refl
 all_names p (e ∷ es) = ap (λ b. p (string_bytes e.0) && b) (all_names p es)
 

@@ -47,7 +47,8 @@ is_feature d = (is_named (codes "indirect") d || is_named (codes "event_idx") d)
 -- each is a feature's name, and none stands twice
 abbrev pub are_features : List Data → Bool
 are_features ds =
-    ((list_all is_feature ds && nat_le (times_of (codes "indirect") ds) 1) && nat_le (times_of (codes "event_idx") ds) 1) && nat_le (times_of (codes "in_order") ds) 1
+    ((list_all is_feature ds && nat_le (times_of (codes "indirect") ds) 1) && nat_le (times_of (codes "event_idx") ds) 1) && nat_le
+    (times_of (codes "in_order") ds) 1
 
 -- the features that the list names (VIRTIO 1.2, 6)
 abbrev pub features_in : List Data → Features

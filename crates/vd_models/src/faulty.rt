@@ -70,7 +70,8 @@ impl<L: Layout> Device<L> for FaultyDevice<L> {
     ghost lawful = { record {
       held = λ x w h. held_law L.Device.device x.inner.session x.inner.held x.inner.journal x.inner.counts w h;
       serves = λ x w a h is d. serves_law L.Device.device x.inner.session x.inner.held x.inner.journal x.inner.counts w a h is;
-      done = λ x w a h is d. done_law L.Device.device L.Device.device_lawful x.inner.session x.inner.held x.inner.journal x.inner.counts w a h is d;
+      done = λ x w a h is d. done_law L.Device.device L.Device.device_lawful x.inner.session x.inner.held x.inner.journal x.inner.counts
+          w a h is d;
       armed = λ x w a h is. armed_law L.Device.device x.inner.session x.inner.held x.inner.journal x.inner.counts w a h is;
       pace = λ x w a h is. pace_law L.Device.device x.inner.session x.inner.held x.inner.journal x.inner.counts w a h is;
       pace_free = λ x is. x.inner.paced is;

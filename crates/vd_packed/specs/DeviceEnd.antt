@@ -14,25 +14,26 @@ use Rattle.vd_ring.specs.Frames.{limit}
 use Rattle.vd_ring.specs.History.{takes, gives, heads, running, taken_head, chain_at, numbers, occurs, IsWhole}
 use Rattle.vd_packed_ring.specs.PackedWords.{kick_at, id_of, len_of, names_table}
 use Rattle.vd_packed_ring.specs.PackedChains.{pieces_of, pieces_in, has_table}
-use Rattle.vd_packed_ring.specs.PackedPositions.{tpos, upos, base_of}
+use Rattle.vd_packed_ring.specs.PackedPositions.{take_position, give_position, base_of}
 use Rattle.vd_packed_ring.specs.PackedDevice.{device_side, device_act, device_shows}
 use Rattle.vd_layout.specs.Begun.{DeviceOp}
 use Rattle.vd_layout.specs.Device.{DeviceModel}
 use Rattle.vd_packed.specs.declared.device.PackedDevice.{PackedDevice}
 use Rattle.vd_packed.specs.declared.device.DeviceStep.{DeviceStep}
 use Rattle.vd_packed.specs.declared.device.DeviceStep.TheVariants as step
-use Rattle.vd_packed.specs.declared.spot.Spot.{Spot}
+use Rattle.vd_packed.specs.declared.ring_position.RingPosition.{RingPosition}
 use Rattle.vd_packed.specs.DriverEnd.{IsMadeFor, packed_words}
-use Rattle.vd_packed.specs.Spots.{IsAt, base_word}
+use Rattle.vd_packed.specs.RingPositions.{IsAt, base_word}
 
 -- the counts, the two positions and where they stand; no chain has more than 16 descriptors
-pub record DeviceCounts (taken given : ℕ) (next used : Spot) (next_position used_position : ℕ) (f : Frame) (s : List DeviceDone) : Type 0 where
+pub record DeviceCounts (taken given : ℕ) (next used : RingPosition) (next_position used_position : ℕ) (f : Frame)
+    (s : List DeviceDone) : Type 0 where
   pub takes : taken ≡ length (takes s)
   pub gives : given ≡ length (gives s)
-  pub next_at : IsAt next f.size (tpos f s)
-  pub used_at : IsAt used f.size (upos f s)
-  pub next_is : next_position ≡ tpos f s
-  pub used_is : used_position ≡ upos f s
+  pub next_at : IsAt next f.size (take_position f s)
+  pub used_at : IsAt used f.size (give_position f s)
+  pub next_is : next_position ≡ take_position f s
+  pub used_is : used_position ≡ give_position f s
   pub few : (k : ℕ) → needs f.features (chain_at (Rattle.vd_ring.specs.History.takes s) k) ≤ 16
 
 -- each chain taken runs or is given, and only once
@@ -46,7 +47,8 @@ number_at table h = slice_index_or table h None
 
 -- how many descriptors chain k has: one at least, and no more than the ring's places
 abbrev pub IsCount : ℕ → Frame → List DeviceDone → ℕ → Type 0
-IsCount n f s k = (n ≡ needs f.features (chain_at (takes s) k)) × (needs f.features (chain_at (takes s) k) ≤ f.size) × (0 < needs f.features (chain_at (takes s) k))
+IsCount n f s k = (n ≡ needs f.features (chain_at (takes s) k)) × (needs f.features (chain_at (takes s) k) ≤ f.size)
+    × (0 < needs f.features (chain_at (takes s) k))
 
 -- the running chains are in the table at their heads with their counts, and nothing else is
 pub record HoldsRunning (table : List (Option ℕ)) (counts : List ℕ) (guesses : ℕ) (f : Frame) (s : List DeviceDone) : Type 0 where
@@ -66,8 +68,9 @@ pub record IsNext (f : Frame) (s : List DeviceDone) (number head len : ℕ) : Ty
   pub inside : head < f.size
   pub small : len < 4294967296
 
--- a take has loaded the words of whole descriptors and then `more`, and is at the descriptor at this spot
-pub record IsTaking (f : Frame) (s : List DeviceDone) (pieces : List Piece) (spot : Spot) (more : List ℕ) (d : DeviceNow) : Type 0 where
+-- a take has loaded the words of whole descriptors and then `more`, and is at the descriptor at this ring_position
+pub record IsTaking (f : Frame) (s : List DeviceDone) (pieces : List Piece) (ring_position : RingPosition) (more : List ℕ)
+    (d : DeviceNow) : Type 0 where
   pub word : ℕ
   pub words : List ℕ
   pub whole : List ℕ
@@ -77,11 +80,12 @@ pub record IsTaking (f : Frame) (s : List DeviceDone) (pieces : List Piece) (spo
   pub limited : length (takes s) < limit f
   pub spelled : pieces_in whole ≡ pieces
   pub even : length whole ≡ 2 * length pieces
-  pub here : IsAt spot f.size (tpos f s + length pieces)
+  pub here : IsAt ring_position f.size (take_position f s + length pieces)
 
 -- a take has loaded the two words of a descriptor that names a table, the words of whole pieces of that and then `more`; the next
--- descriptor is at this spot
-pub record IsTabling (f : Frame) (s : List DeviceDone) (pieces : List Piece) (second : ℕ) (spot : Spot) (more : List ℕ) (d : DeviceNow) : Type 0 where
+-- descriptor is at this ring_position
+pub record IsTabling (f : Frame) (s : List DeviceDone) (pieces : List Piece) (second : ℕ) (ring_position : RingPosition) (more : List ℕ)
+    (d : DeviceNow) : Type 0 where
   pub addr : ℕ
   pub words : List ℕ
   pub whole : List ℕ
@@ -91,30 +95,31 @@ pub record IsTabling (f : Frame) (s : List DeviceDone) (pieces : List Piece) (se
   pub limited : length (takes s) < limit f
   pub spelled : pieces_of whole ≡ pieces
   pub even : length whole ≡ 2 * length pieces
-  pub here : IsAt spot f.size (tpos f s + 1)
+  pub here : IsAt ring_position f.size (take_position f s + 1)
   pub inside : id_of second < f.size
   pub left : length pieces < len_of second / 16
   pub few : len_of second / 16 ≤ 16
 
-abbrev pub DeviceStepStands : DeviceStep → List Piece → ℕ → Spot → Frame → List DeviceDone → DeviceNow → Type 0
-DeviceStepStands step.Idle ps w spot f s d = d ≡ now.Idle
-DeviceStepStands step.Resting ps w spot f s d = (d ≡ now.Idle) × (running s ≡ []) × IsWhole s
-DeviceStepStands step.Look ps w spot f s d = d ≡ now.Idle
-DeviceStepStands step.Address ps w spot f s d = IsTaking f s ps spot (w ∷ []) d
-DeviceStepStands step.Second ps w spot f s d = IsTaking f s ps spot [] d
-DeviceStepStands step.TableAddress ps w spot f s d = IsTabling f s ps w spot [] d
-DeviceStepStands (step.TableSecond a) ps w spot f s d = IsTabling f s ps w spot (a ∷ []) d
-DeviceStepStands (step.Give k h n) ps w spot f s d = (d ≡ now.Idle) × IsNext f s k h n
-DeviceStepStands (step.Check n) ps w spot f s d = (old : ℕ) × (d ≡ now.Checking old (upos f s)) × (old + n ≡ upos f s) × (0 < n) × (n ≤ f.size)
-DeviceStepStands step.Ring ps w spot f s d = (old : ℕ) × (new : ℕ) × (d ≡ now.Ringing old new)
-DeviceStepStands step.Arm ps w spot f s d = d ≡ now.Idle
-DeviceStepStands step.LookAgain ps w spot f s d = d ≡ now.Arming
-DeviceStepStands step.Hear ps w spot f s d = d ≡ now.Idle
-DeviceStepStands step.WakeArming ps w spot f s d = (d ≡ now.Disarming op.Arm) × (f.features.event_idx ≡ false)
-DeviceStepStands step.WakeHearing ps w spot f s d = (d ≡ now.Disarming op.Hear) × (f.features.event_idx ≡ false)
-DeviceStepStands step.Disarm ps w spot f s d = d ≡ now.Idle
-DeviceStepStands step.Rest ps w spot f s d = (d ≡ now.Idle) × IsWhole s
-DeviceStepStands step.RestLook ps w spot f s d = (d ≡ now.Resting) × IsWhole s
+abbrev pub DeviceStepStands : DeviceStep → List Piece → ℕ → RingPosition → Frame → List DeviceDone → DeviceNow → Type 0
+DeviceStepStands step.Idle ps w ring_position f s d = d ≡ now.Idle
+DeviceStepStands step.Resting ps w ring_position f s d = (d ≡ now.Idle) × (running s ≡ []) × IsWhole s
+DeviceStepStands step.Look ps w ring_position f s d = d ≡ now.Idle
+DeviceStepStands step.Address ps w ring_position f s d = IsTaking f s ps ring_position (w ∷ []) d
+DeviceStepStands step.Second ps w ring_position f s d = IsTaking f s ps ring_position [] d
+DeviceStepStands step.TableAddress ps w ring_position f s d = IsTabling f s ps w ring_position [] d
+DeviceStepStands (step.TableSecond a) ps w ring_position f s d = IsTabling f s ps w ring_position (a ∷ []) d
+DeviceStepStands (step.Give k h n) ps w ring_position f s d = (d ≡ now.Idle) × IsNext f s k h n
+DeviceStepStands (step.Check n) ps w ring_position f s d = (old : ℕ) × (d ≡ now.Checking old (give_position f s))
+    × (old + n ≡ give_position f s) × (0 < n) × (n ≤ f.size)
+DeviceStepStands step.Ring ps w ring_position f s d = (old : ℕ) × (new : ℕ) × (d ≡ now.Ringing old new)
+DeviceStepStands step.Arm ps w ring_position f s d = d ≡ now.Idle
+DeviceStepStands step.LookAgain ps w ring_position f s d = d ≡ now.Arming
+DeviceStepStands step.Hear ps w ring_position f s d = d ≡ now.Idle
+DeviceStepStands step.WakeArming ps w ring_position f s d = (d ≡ now.Disarming op.Arm) × (f.features.event_idx ≡ false)
+DeviceStepStands step.WakeHearing ps w ring_position f s d = (d ≡ now.Disarming op.Hear) × (f.features.event_idx ≡ false)
+DeviceStepStands step.Disarm ps w ring_position f s d = d ≡ now.Idle
+DeviceStepStands step.Rest ps w ring_position f s d = (d ≡ now.Idle) × IsWhole s
+DeviceStepStands step.RestLook ps w ring_position f s d = (d ≡ now.Resting) × IsWhole s
 
 -- in which steps the end is armed
 abbrev pub DeviceStepArmed : DeviceStep → Bool → Type 0
@@ -152,7 +157,7 @@ IsSignal _ = Unit {0}
 
 -- where it is armed, what it heard, and how many bells it stored: no more than chains it gave
 pub record DeviceSignals (armed : Bool) (heard bells given : ℕ) (doing : DeviceStep) (v : DeviceView) : Type 0 where
-  pub is_armed : v.armed ≡ (if armed then Some (tpos v.frame v.done) else None)
+  pub is_armed : v.armed ≡ (if armed then Some (take_position v.frame v.done) else None)
   pub hears : heard ≡ v.heard
   pub rings : bells ≡ v.bells
   pub few : bells + device_owes doing ≤ given
@@ -168,10 +173,10 @@ pub record DeviceStands (e : PackedDevice) (v : DeviceView) : Type 0 where
 
 -- an end that is not armed stands for views that are not
 pub not_armed : (e : PackedDevice) (v : DeviceView) → DeviceStands e v → e.armed ≡ false → v.armed ≡ None
-not_armed e v st off = st.signals.is_armed ∙ ap (λ (b : Bool). if b then Some (tpos v.frame v.done) else None) off
+not_armed e v st off = st.signals.is_armed ∙ ap (λ (b : Bool). if b then Some (take_position v.frame v.done) else None) off
 
-pub is_armed : (e : PackedDevice) (v : DeviceView) → DeviceStands e v → e.armed ≡ true → v.armed ≡ Some (tpos v.frame v.done)
-is_armed e v st on = st.signals.is_armed ∙ ap (λ (b : Bool). if b then Some (tpos v.frame v.done) else None) on
+pub is_armed : (e : PackedDevice) (v : DeviceView) → DeviceStands e v → e.armed ≡ true → v.armed ≡ Some (take_position v.frame v.done)
+is_armed e v st on = st.signals.is_armed ∙ ap (λ (b : Bool). if b then Some (take_position v.frame v.done) else None) on
 
 -- ---- the operation that is begun, and the accesses that it still takes at most
 

@@ -16,7 +16,7 @@ use Rattle.vd_ring.specs.History.{offers, collects, open_at, open_size, free, ch
 use Rattle.vd_ring.specs.Places.{Places}
 use Rattle.vd_packed_ring.specs.PackedWords.{IsLawful, kick_at, command_word, ack_word}
 use Rattle.vd_packed_ring.specs.PackedChains.{is_tabled}
-use Rattle.vd_packed_ring.specs.PackedPositions.{opos, cpos}
+use Rattle.vd_packed_ring.specs.PackedPositions.{offer_position, collect_position}
 use Rattle.vd_packed_ring.specs.PackedDriver.{CanOffer, plan, driver_side, driver_act, driver_shows}
 use Rattle.vd_layout.specs.Begun.{DriverOp}
 use Rattle.vd_layout.specs.Control.{ControlWords}
@@ -25,8 +25,8 @@ use Rattle.vd_packed.specs.declared.driver.PackedDriver.{PackedDriver}
 use Rattle.vd_packed.specs.declared.driver.Slot.{Slot}
 use Rattle.vd_packed.specs.declared.driver.DriverStep.{DriverStep}
 use Rattle.vd_packed.specs.declared.driver.DriverStep.TheVariants as step
-use Rattle.vd_packed.specs.declared.spot.Spot.{Spot}
-use Rattle.vd_packed.specs.Spots.{IsAt}
+use Rattle.vd_packed.specs.declared.ring_position.RingPosition.{RingPosition}
+use Rattle.vd_packed.specs.RingPositions.{IsAt}
 
 -- where commands and acks stand in a packed ring
 abbrev pub packed_words : ControlWords
@@ -39,13 +39,14 @@ pub record IsMadeFor (size : ℕ) (features : Features) (f : Frame) : Type 0 whe
   pub lawful : IsLawful f
 
 -- the counts, the two positions and where they stand, and how many places the open chains leave
-pub record DriverCounts (offered collected : ℕ) (next used : Spot) (next_position used_position space : ℕ) (f : Frame) (o : List DriverDone) : Type 0 where
+pub record DriverCounts (offered collected : ℕ) (next used : RingPosition) (next_position used_position space : ℕ) (f : Frame)
+    (o : List DriverDone) : Type 0 where
   pub offers : offered ≡ length (offers o)
   pub collects : collected ≡ length (collects o)
-  pub next_at : IsAt next f.size (opos f o)
-  pub used_at : IsAt used f.size (cpos f o)
-  pub next_is : next_position ≡ opos f o
-  pub used_is : used_position ≡ cpos f o
+  pub next_at : IsAt next f.size (offer_position f o)
+  pub used_at : IsAt used f.size (collect_position f o)
+  pub next_is : next_position ≡ offer_position f o
+  pub used_is : used_position ≡ collect_position f o
   pub left : space + open_size f o ≡ f.size
 
 -- a slot keeps the open chain k
@@ -65,21 +66,25 @@ abbrev pub offering : ℕ → List Put → DriverNow
 offering zero ps = now.Idle
 offering (suc n) ps = now.Offering ps
 
--- an offer's next store is number `at`; `spot` is where its descriptor stands, or, of a chain by a table, the first after its one
-abbrev pub DriverStepStands : DriverStep → List Piece → Spot → Frame → List DriverDone → DriverNow → Type 0
-DriverStepStands step.Idle c spot f o d = d ≡ now.Idle
-DriverStepStands (step.Describe at) c spot f o d = CanOffer f o c × (at + 1 < 2 * length c) × IsAt spot f.size (opos f o + (at + 1) / 2) × (d ≡ offering at (take at (plan f o c))) × (is_tabled f c ≡ false)
-DriverStepStands (step.Table at) c spot f o d = CanOffer f o c × (at < 2 * length c + 1) × IsAt spot f.size (opos f o + 1) × (d ≡ offering at (take at (plan f o c))) × (is_tabled f c ≡ true)
-DriverStepStands step.Publish c spot f o d = CanOffer f o c × IsAt spot f.size (opos f o + needs f.features c) × (d ≡ now.Offering (plan f o c))
-DriverStepStands step.Look c spot f o d = d ≡ now.Idle
-DriverStepStands (step.Check n) c spot f o d = (old : ℕ) × (d ≡ now.Checking old (opos f o)) × (old + n ≡ opos f o) × (0 < n) × (n ≤ f.size)
-DriverStepStands step.Ring c spot f o d = (old : ℕ) × (new : ℕ) × (d ≡ now.Ringing old new)
-DriverStepStands step.Arm c spot f o d = d ≡ now.Idle
-DriverStepStands step.LookAgain c spot f o d = d ≡ now.Arming
-DriverStepStands step.Hear c spot f o d = d ≡ now.Idle
-DriverStepStands step.WakeArming c spot f o d = (d ≡ now.Disarming op.Arm) × (f.features.event_idx ≡ false)
-DriverStepStands step.WakeHearing c spot f o d = (d ≡ now.Disarming op.Hear) × (f.features.event_idx ≡ false)
-DriverStepStands step.Disarm c spot f o d = d ≡ now.Idle
+-- an offer's next store is number `at`; `ring_position` is where its descriptor stands, or, of a chain by a table, the first after its one
+abbrev pub DriverStepStands : DriverStep → List Piece → RingPosition → Frame → List DriverDone → DriverNow → Type 0
+DriverStepStands step.Idle c ring_position f o d = d ≡ now.Idle
+DriverStepStands (step.Describe at) c ring_position f o d = CanOffer f o c × (at + 1 < 2 * length c)
+    × IsAt ring_position f.size (offer_position f o + (at + 1) / 2) × (d ≡ offering at (take at (plan f o c))) × (is_tabled f c ≡ false)
+DriverStepStands (step.Table at) c ring_position f o d = CanOffer f o c × (at < 2 * length c + 1)
+    × IsAt ring_position f.size (offer_position f o + 1) × (d ≡ offering at (take at (plan f o c))) × (is_tabled f c ≡ true)
+DriverStepStands step.Publish c ring_position f o d =
+    CanOffer f o c × IsAt ring_position f.size (offer_position f o + needs f.features c) × (d ≡ now.Offering (plan f o c))
+DriverStepStands step.Look c ring_position f o d = d ≡ now.Idle
+DriverStepStands (step.Check n) c ring_position f o d = (old : ℕ) × (d ≡ now.Checking old (offer_position f o))
+    × (old + n ≡ offer_position f o) × (0 < n) × (n ≤ f.size)
+DriverStepStands step.Ring c ring_position f o d = (old : ℕ) × (new : ℕ) × (d ≡ now.Ringing old new)
+DriverStepStands step.Arm c ring_position f o d = d ≡ now.Idle
+DriverStepStands step.LookAgain c ring_position f o d = d ≡ now.Arming
+DriverStepStands step.Hear c ring_position f o d = d ≡ now.Idle
+DriverStepStands step.WakeArming c ring_position f o d = (d ≡ now.Disarming op.Arm) × (f.features.event_idx ≡ false)
+DriverStepStands step.WakeHearing c ring_position f o d = (d ≡ now.Disarming op.Hear) × (f.features.event_idx ≡ false)
+DriverStepStands step.Disarm c ring_position f o d = d ≡ now.Idle
 
 -- in which steps the end is armed
 abbrev pub DriverStepArmed : DriverStep → Bool → Type 0
@@ -113,7 +118,7 @@ IsSignal _ = Unit {0}
 
 -- where it is armed, what it heard, and how many bells it stored: no more than chains it offered
 pub record DriverSignals (armed : Bool) (heard bells offered : ℕ) (doing : DriverStep) (v : DriverView) : Type 0 where
-  pub is_armed : v.armed ≡ (if armed then Some (cpos v.frame v.done) else None)
+  pub is_armed : v.armed ≡ (if armed then Some (collect_position v.frame v.done) else None)
   pub hears : heard ≡ v.heard
   pub rings : bells ≡ v.bells
   pub few : bells + driver_owes doing ≤ offered
@@ -129,10 +134,10 @@ pub record DriverStands (e : PackedDriver) (v : DriverView) : Type 0 where
 
 -- an end that is not armed stands for views that are not
 pub not_armed : (e : PackedDriver) (v : DriverView) → DriverStands e v → e.armed ≡ false → v.armed ≡ None
-not_armed e v st off = st.signals.is_armed ∙ ap (λ (b : Bool). if b then Some (cpos v.frame v.done) else None) off
+not_armed e v st off = st.signals.is_armed ∙ ap (λ (b : Bool). if b then Some (collect_position v.frame v.done) else None) off
 
-pub is_armed : (e : PackedDriver) (v : DriverView) → DriverStands e v → e.armed ≡ true → v.armed ≡ Some (cpos v.frame v.done)
-is_armed e v st on = st.signals.is_armed ∙ ap (λ (b : Bool). if b then Some (cpos v.frame v.done) else None) on
+pub is_armed : (e : PackedDriver) (v : DriverView) → DriverStands e v → e.armed ≡ true → v.armed ≡ Some (collect_position v.frame v.done)
+is_armed e v st on = st.signals.is_armed ∙ ap (λ (b : Bool). if b then Some (collect_position v.frame v.done) else None) on
 
 -- ---- the operation that is begun, and the accesses that it still takes at most
 

@@ -1,4 +1,4 @@
-pub mod Spots
+pub mod RingPositions
 pub mod Seconds
 pub mod Tabled
 pub mod Bounds

@@ -6,8 +6,8 @@ use Rattle.vd_packed_ring.specs.PackedWords.{id_of, names_table}
 use Rattle.vd_packed_ring.specs.PackedChains.{piece_of}
 use Rattle.vd_packed.specs.declared.device.PackedDevice.{PackedDevice}
 use Rattle.vd_packed.specs.declared.device.DeviceStep.TheVariants as step
-use Rattle.vd_packed.specs.declared.spot.Spot.{Spot}
-use Rattle.vd_packed.specs.Spots.{forward}
+use Rattle.vd_packed.specs.declared.ring_position.RingPosition.{RingPosition}
+use Rattle.vd_packed.specs.RingPositions.{forward}
 
 -- a second word that shows a chain
 pub record HasSeen (word : ℕ) (e e' : PackedDevice) : Type 0 where
@@ -50,19 +50,19 @@ pub record HasCounted (n : ℕ) (e e' : PackedDevice) : Type 0 where
         doing = step.Idle;
       }
 
--- the same after its last piece was loaded, where its descriptors end at this spot
-pub record HasTaken (x : Piece) (spot : Spot) (n : ℕ) (e e' : PackedDevice) : Type 0 where
+-- the same after its last piece was loaded, where its descriptors end at this ring_position
+pub record HasTaken (x : Piece) (ring_position : RingPosition) (n : ℕ) (e e' : PackedDevice) : Type 0 where
   pub pushed : e'.pieces.items ≡ e.pieces.items ++ x ∷ []
   pub guesses : length e'.guesses.items ≡ length e.guesses.items
   pub kept :
       e' ≡ record e {
         taken = e.taken + 1;
-        next = spot;
+        next = ring_position;
         next_position = e.next_position + n;
         running = with_item e.running (id_of e.second) (Some e.taken);
         counts = with_item e.counts (id_of e.second) n;
         guesses = e'.guesses;
         pieces = e'.pieces;
-        at = spot;
+        at = ring_position;
         doing = step.Idle;
       }

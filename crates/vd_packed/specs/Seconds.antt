@@ -4,8 +4,8 @@ use Rattle.vd_model.specs.declared.chain.Piece.{Piece}
 use Rattle.vd_packed_ring.specs.PackedWords.{packed_word, flags_of}
 use Rattle.vd_packed.specs.declared.driver.DriverStep.{DriverStep}
 use Rattle.vd_packed.specs.declared.driver.DriverStep.TheVariants as step
-use Rattle.vd_packed.specs.declared.spot.Spot.{Spot}
-use Rattle.vd_packed.specs.Spots.{bit, forward}
+use Rattle.vd_packed.specs.declared.ring_position.RingPosition.{RingPosition}
+use Rattle.vd_packed.specs.RingPositions.{bit, forward}
 
 -- of an available descriptor with this id and piece; `more` is 1 where another follows
 abbrev pub available_word : Bool → ℕ → Piece → ℕ → ℕ
@@ -26,5 +26,5 @@ abbrev pub described_step : ℕ → ℕ → DriverStep
 described_step at n = if nat_lt (at + 2) (2 * n) then step.Describe (at + 1) else step.Publish
 
 -- where the descriptor of the store after number `at` stands, in a ring of n places
-abbrev pub spot_after : Spot → ℕ → ℕ → Spot
-spot_after s at n = if at % 2 == 0 then forward s 1 n else s
+abbrev pub ring_position_after : RingPosition → ℕ → ℕ → RingPosition
+ring_position_after s at n = if at % 2 == 0 then forward s 1 n else s

@@ -9,9 +9,9 @@ use Rattle.vd_packed_ring.specs.PackedWords.{packed_word, put}
 use Rattle.vd_packed_ring.specs.PackedChains.{standing}
 use Rattle.vd_packed.specs.declared.driver.DriverStep.{DriverStep}
 use Rattle.vd_packed.specs.declared.driver.DriverStep.TheVariants as step
-use Rattle.vd_packed.specs.declared.spot.Spot.{Spot}
+use Rattle.vd_packed.specs.declared.ring_position.RingPosition.{RingPosition}
 use Rattle.vd_packed.specs.Seconds.{available_word}
-use Rattle.vd_packed.specs.Spots.{bit, forward}
+use Rattle.vd_packed.specs.RingPositions.{bit, forward}
 
 -- whether a chain of n pieces stands in a table
 abbrev pub is_tabled : Bool → ℕ → Bool
@@ -44,5 +44,5 @@ abbrev pub tabled_step : ℕ → ℕ → DriverStep
 tabled_step at n = if nat_lt at (2 * n) then step.Table (at + 1) else step.Publish
 
 -- where the first descriptor stands, or, of a chain by a table, the first after its one
-abbrev pub first_at : Bool → ℕ → Spot → ℕ → Spot
+abbrev pub first_at : Bool → ℕ → RingPosition → ℕ → RingPosition
 first_at indirect n next size = if is_tabled indirect n then forward next 1 size else next

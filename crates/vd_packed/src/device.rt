@@ -1,5 +1,5 @@
 //! The device's end.
-use crate::spot::Spot;
+use crate::ring_position::RingPosition;
 use arrayvec::ArrayVec;
 use vd_model::{Features, Piece};
 
@@ -48,8 +48,8 @@ pub struct PackedDevice {
     pub(crate) taken: u32,
     pub(crate) given: u32,
     // where the next chain and the next used descriptor stand, and their positions
-    pub(crate) next: Spot,
-    pub(crate) used: Spot,
+    pub(crate) next: RingPosition,
+    pub(crate) used: RingPosition,
     pub(crate) next_position: u64,
     pub(crate) used_position: u64,
     // the numbers of the running chains, and how many descriptors each has, by their ids
@@ -63,11 +63,11 @@ pub struct PackedDevice {
     pub(crate) armed: bool,
     pub(crate) heard: u64,
     pub(crate) bells: u64,
-    // what a take has loaded so far: whole pieces, and the second word of the descriptor at this spot; of a table, the second word of
-    // the descriptor before this spot, which names it
+    // what a take has loaded so far: whole pieces, and the second word of the descriptor at this ring_position; of a table, the second word of
+    // the descriptor before this ring_position, which names it
     pub(crate) pieces: ArrayVec<Piece, 16>,
     pub(crate) second: u64,
-    pub(crate) at: Spot,
+    pub(crate) at: RingPosition,
     pub(crate) doing: DeviceStep,
 }
 

@@ -1,5 +1,5 @@
 //! The driver's end.
-use crate::spot::Spot;
+use crate::ring_position::RingPosition;
 use arrayvec::ArrayVec;
 use circular_buffer::HeapCircularBuffer;
 use vd_model::{Features, Piece};
@@ -46,8 +46,8 @@ pub struct PackedDriver {
     pub(crate) offered: u32,
     pub(crate) collected: u32,
     // where the next chain and the next used descriptor stand, and their positions
-    pub(crate) next: Spot,
-    pub(crate) used: Spot,
+    pub(crate) next: RingPosition,
+    pub(crate) used: RingPosition,
     pub(crate) next_position: u64,
     pub(crate) used_position: u64,
     // how many places the open chains leave
@@ -63,6 +63,6 @@ pub struct PackedDriver {
     pub(crate) bells: u64,
     // the chain of an offer in progress, and where its next descriptor stands, or the first after a table's
     pub(crate) pieces: ArrayVec<Piece, 16>,
-    pub(crate) at: Spot,
+    pub(crate) at: RingPosition,
     pub(crate) doing: DriverStep,
 }

@@ -1,7 +1,7 @@
 //! The layout of a packed ring.
 ghost use Rattle.std.specs.Prelude.{◌≡◌, ◌≤◌};
-ghost use Rattle.vd_packed.specs.PackedLayout.{packed_layout, packed_laws};
-ghost use Rattle.vd_packed.specs.Spots.{commands_area, acks_area, all_words};
+ghost use Rattle.vd_packed.specs.laws.PackedLayout.{packed_layout, packed_laws};
+ghost use Rattle.vd_packed.specs.RingPositions.{commands_area, acks_area, all_words};
 
 use crate::device::PackedDevice;
 use crate::driver::PackedDriver;

@@ -5,7 +5,7 @@ mod device;
 mod driver;
 mod event;
 mod layout;
-mod spot;
+mod ring_position;
 mod tables;
 mod words;
 

@@ -3,7 +3,7 @@ ghost use Rattle.std.specs.Prelude.{◌≡◌, ◌≤◌, ◌<◌, ◌+◌, ◌*
 ghost use Rattle.vd_packed_ring.specs.PackedWords.{len_of, names_table, put};
 ghost use Rattle.vd_packed.specs.Tabled.{is_tabled, needed, published_word, table_place, tabled};
 
-use crate::spot::bit;
+use crate::ring_position::bit;
 use crate::words::{available_word, flags, packed};
 use vd_indirect::{TableKind, table_word};
 use vd_model::Piece;

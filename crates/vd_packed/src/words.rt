@@ -3,10 +3,10 @@ ghost use Rattle.std.specs.Prelude.{◌≡◌, ◌↔◌, ◌⊎◌, IsTrue, ◌
 ghost use Rattle.vd_model.specs.Chains.{blank};
 ghost use Rattle.vd_packed_ring.specs.PackedWords.{packed_word, flags_of, goes_on, put};
 ghost use Rattle.vd_packed_ring.specs.PackedChains.{piece_of, direct, staged};
-ghost use Rattle.vd_packed.specs.Spots.{IsAt};
+ghost use Rattle.vd_packed.specs.RingPositions.{IsAt};
 ghost use Rattle.vd_packed.specs.Seconds.{available_word, used_second, shows_available, shows_used};
 
-use crate::spot::{Spot, bit};
+use crate::ring_position::{RingPosition, bit};
 use vd_model::Piece;
 
 /// A second word of its fields.
@@ -97,17 +97,24 @@ fn stores_address(at: u32) -> bool
     at == 0 || at % 2 == 1
 }
 
-/// Where store number `at` of an offer goes, and what it stores, where `spot` is that of its descriptor. The first
+/// Where store number `at` of an offer goes, and what it stores, where `ring_position` is that of its descriptor. The first
 /// descriptor's second word is none of these: it is stored last.
-pub fn descriptor_word(pieces: &[Piece], id: u32, spot: Spot, at: u32) -> (u32, u64)
-    requires { (at + 1 < 2 * length pieces.now) × (length pieces.now ≤ 16) × (id < 65536) × (spot.place < 32768) }
-    ensures place { (n q : ℕ) → IsAt spot n (q + (at + 1) / 2) → result.0 ≡ (slice_index_or (staged n q (direct id pieces.now)) at (put 0 0)).place }
-    ensures word { (n q : ℕ) → IsAt spot n (q + (at + 1) / 2) → result.1 ≡ (slice_index_or (staged n q (direct id pieces.now)) at (put 0 0)).word }
+pub fn descriptor_word(
+    pieces: &[Piece],
+    id: u32,
+    ring_position: RingPosition,
+    at: u32,
+) -> (u32, u64)
+    requires { (at + 1 < 2 * length pieces.now) × (length pieces.now ≤ 16) × (id < 65536) × (ring_position.place < 32768) }
+    ensures place { (n q : ℕ) → IsAt ring_position n (q + (at + 1) / 2)
+        → result.0 ≡ (slice_index_or (staged n q (direct id pieces.now)) at (put 0 0)).place }
+    ensures word { (n q : ℕ) → IsAt ring_position n (q + (at + 1) / 2)
+        → result.1 ≡ (slice_index_or (staged n q (direct id pieces.now)) at (put 0 0)).word }
 {
     let i = ((at + 1) / 2) as usize;
     if stores_address(at) {
-        return (2 * spot.place, pieces[i].addr);
+        return (2 * ring_position.place, pieces[i].addr);
     }
-    let word = available_word(pieces, i, id, spot.wrap);
-    (2 * spot.place + 1, word)
+    let word = available_word(pieces, i, id, ring_position.wrap);
+    (2 * ring_position.place + 1, word)
 }

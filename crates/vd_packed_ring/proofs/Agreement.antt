@@ -25,7 +25,7 @@ use Rattle.vd_ring.proofs.ListSteps.{given_below, given_within}
 use Rattle.vd_ring.proofs.DeviceLists.{running_below}
 use Rattle.vd_packed_ring.specs.PackedWords.{IsLawful, kick_at, call_at, second_word, is_used, put}
 use Rattle.vd_packed_ring.specs.PackedSignals.{StoresBell}
-use Rattle.vd_packed_ring.specs.PackedPositions.{opos, cpos}
+use Rattle.vd_packed_ring.specs.PackedPositions.{offer_position, collect_position}
 use Rattle.vd_packed_ring.specs.PackedDriver.{Begins, Publishes, DriverNextAt, DriverNext}
 use Rattle.vd_packed_ring.specs.PackedDevice.{Returns, DeviceNextAt, DeviceNext}
 use Rattle.vd_packed_ring.specs.PackedDriverLaws.{StoresAhead}
@@ -38,7 +38,8 @@ use Rattle.vd_packed_ring.proofs.Collects.{shows_none, found}
 use Rattle.vd_packed_ring.proofs.Ahead.{none_shows}
 use Rattle.vd_packed_ring.proofs.Takes.{shows_next}
 
-collected_at : (o : List DriverDone) (gs : List Used) (j : ℕ) → collects o ≡ take (length (collects o)) gs → j < length (collects o) → used_at (collects o) j ≡ used_at gs j
+collected_at : (o : List DriverDone) (gs : List Used) (j : ℕ) → collects o ≡ take (length (collects o)) gs → j < length (collects o)
+    → used_at (collects o) j ≡ used_at gs j
 collected_at o gs j is h = ap (λ (us : List Used). used_at us j) is ∙ get_or-take (length (collects o)) gs j (entry 0 0) h
 
 pub agree : (ws : List ℕ) (d : DriverView) (e : DeviceView) → Ring ws d e → Agree d.frame d.done e.done
@@ -57,12 +58,17 @@ agree ws d e r =
       room = omega (arith, ord.open_span, r.room);
       span = r.room;
       given_ordered = λ on. ordered (gives s) (l.in_order on);
-      collected_ordered = λ on. ordered (collects o) (λ j h. ap (λ (u : Used). u.number) (collected_at o (gives s) j l.collected h) ∙ l.in_order on j (omega (arith, l.fewer)));
+      collected_ordered = λ on. ordered (collects o) (λ j h. ap (λ (u : Used). u.number) (collected_at o (gives s) j l.collected h)
+          ∙ l.in_order on j (omega (arith, l.fewer)));
       device_counts = record {
         once = l.given;
         some = λ k a.
             let rb = running_below f o s k l (occurs_from k (running s) a) in
-            omega (arith, ap (needs f.features) (taken_chain f o s k l rb.0), needs_some f (chain o k) (chain_fits f o k r.places (omega (arith, rb.0, l.some))));
+            omega (
+              arith,
+              ap (needs f.features) (taken_chain f o s k l rb.0),
+              needs_some f (chain o k) (chain_fits f o k r.places (omega (arith, rb.0, l.some))),
+            );
       };
     }
 
@@ -70,9 +76,12 @@ not_both : (b : Bool) → b ≡ false → b ≡ true → ⊥
 not_both b off on = let e : false ≡ true = sym off ∙ on in absurd cc
 
 driver_shows : (ws : List ℕ) (d : DriverView) (e : DeviceView) → puts_of d.doing ≡ [] → Ring ws d e
-    → (is_used d.frame.size (cpos d.frame d.done) (slice_index ws (second_word d.frame.size (cpos d.frame d.done))) ≡ true) ↔ (length (collects d.done) < length (gives e.done))
+    → (is_used d.frame.size (collect_position d.frame d.done)
+    (slice_index ws (second_word d.frame.size (collect_position d.frame d.done))) ≡ true) ↔
+    (length (collects d.done) < length (gives e.done))
 driver_shows ws d e clear r = (
-  λ on. elim (cases_lt (length (collects d.done)) (length (gives e.done))) [ inl h ↦ h | inr h ↦ absurd (not_both _ (shows_none ws d e clear r h) on) ],
+  λ on. elim (cases_lt (length (collects d.done)) (length (gives e.done)))
+      [ inl h ↦ h | inr h ↦ absurd (not_both _ (shows_none ws d e clear r h) on) ],
   λ more. (found ws d e clear r more).shows,
 )
 
@@ -80,20 +89,25 @@ pub looks_show : (ws : List ℕ) (d : DriverView) (e : DeviceView) → Ring ws d
 looks_show ws d e r = record {
   driver = λ clear. driver_shows ws d e clear r;
   device = (
-    λ on. elim (cases_lt (length (takes e.done)) (length (offers d.done))) [ inl h ↦ h | inr h ↦ absurd (not_both _ (none_shows ws d e r h).1 on) ],
+    λ on. elim (cases_lt (length (takes e.done)) (length (offers d.done)))
+        [ inl h ↦ h | inr h ↦ absurd (not_both _ (none_shows ws d e r h).1 on) ],
     λ more. shows_next ws d e r more,
   );
 }
 
 -- ---- where each side stores, from its own view
 
-pub stored_at : (f : Frame) (o : List DriverDone) (puts : List Put) (p x : ℕ) → (n : Begins f o (puts ++ put p x ∷ [])) → IsStaged f (next_head f o) (opos f o) (needs f.features n.chain) p
+pub stored_at : (f : Frame) (o : List DriverDone) (puts : List Put) (p x : ℕ) → (n : Begins f o (puts ++ put p x ∷ []))
+    → IsStaged f (next_head f o) (offer_position f o) (needs f.features n.chain) p
 stored_at f o puts p x n =
     let all : List Put = puts ++ put p x ∷ [] in
-    let at : (slice_index_or all (length puts) (put 0 0)).place ≡ p = ap (λ (s : Put). s.place) (get_or_push puts (put p x) (put 0 0) (length puts) refl) in
-    subst (λ (i : ℕ). IsStaged f (next_head f o) (opos f o) (needs f.features n.chain) i) at (stored_all f o n.chain all n.can.fits.chain n.first (length puts) (put 0 0) (omega (arith, length_push puts (put p x))))
+    let at : (slice_index_or all (length puts) (put 0 0)).place ≡ p =
+    ap (λ (s : Put). s.place) (get_or_push puts (put p x) (put 0 0) (length puts) refl) in
+    subst (λ (i : ℕ). IsStaged f (next_head f o) (offer_position f o) (needs f.features n.chain) i) at
+    (stored_all f o n.chain all n.can.fits.chain n.first (length puts) (put 0 0) (omega (arith, length_push puts (put p x))))
 
-stored_last : (f : Frame) (o : List DriverDone) (puts : List Put) (p x : ℕ) → Begins f o (puts ++ put p x ∷ []) → p < 2 * f.size → StoresAhead f o p
+stored_last : (f : Frame) (o : List DriverDone) (puts : List Put) (p x : ℕ) → Begins f o (puts ++ put p x ∷ []) → p < 2 * f.size
+    → StoresAhead f o p
 stored_last f o puts p x n low = elim (stored_at f o puts p x n) [
   | inl t ↦ absurd (omega (arith, t.low))
   | inr w ↦ record {
@@ -106,36 +120,43 @@ stored_last f o puts p x n low = elim (stored_at f o puts p x n) [
 
 pub last_ahead : (f : Frame) (o : List DriverDone) (puts : List Put) (p x : ℕ) → Publishes f o puts p x → StoresAhead f o p
 last_ahead f o puts p x n = record {
-  position = opos f o;
+  position = offer_position f o;
   place = inr (ap (λ (s : Put). s.place) n.last);
   least = omega arith;
   most = omega (arith, n.can.room, needs_some f n.chain n.can.fits);
 }
 
-ahead_at : (d : DriverView) (now : DriverNow) (p x : ℕ) → IsLawful d.frame → DriverNextAt now (record d { doing = now }) op.Offer (Store p x) → p < 2 * d.frame.size → StoresAhead d.frame d.done p
+ahead_at : (d : DriverView) (now : DriverNow) (p x : ℕ) → IsLawful d.frame
+    → DriverNextAt now (record d { doing = now }) op.Offer (Store p x) → p < 2 * d.frame.size → StoresAhead d.frame d.done p
 ahead_at d driver.Idle p x l h low = stored_last d.frame d.done [] p x h.1 low
 ahead_at d (driver.Offering puts) p x l (inl h) low = stored_last d.frame d.done puts p x h low
 ahead_at d (driver.Offering puts) p x l (inr h) low = last_ahead d.frame d.done puts p x h
-ahead_at d (driver.Ringing old new) p x l h low = let n : StoresBell (kick_at d.frame) d.bells p x = h in absurd (omega (arith, n.place, areas d.frame))
+ahead_at d (driver.Ringing old new) p x l h low = let n : StoresBell (kick_at d.frame) d.bells p x = h in
+    absurd (omega (arith, n.place, areas d.frame))
 ahead_at d _ p x l h low = absurd h
 
 -- the driver stores descriptors at positions from its own on, below that of what it collected and the size
-pub stores_ahead : (d : DriverView) (p x : ℕ) → IsLawful d.frame → DriverNext d op.Offer (Store p x) → p < 2 * d.frame.size → StoresAhead d.frame d.done p
+pub stores_ahead : (d : DriverView) (p x : ℕ) → IsLawful d.frame → DriverNext d op.Offer (Store p x) → p < 2 * d.frame.size
+    → StoresAhead d.frame d.done p
 stores_ahead d p x l h low = ahead_at d d.doing p x l h low
 
-behind_at : (e : DeviceView) (now : DeviceNow) (p x : ℕ) → Counts e.frame e.done → DeviceNextAt now (record e { doing = now }) op.Give (Store p x) → p < 2 * e.frame.size → GivesBehind e.frame e.done p
+behind_at : (e : DeviceView) (now : DeviceNow) (p x : ℕ) → Counts e.frame e.done
+    → DeviceNextAt now (record e { doing = now }) op.Give (Store p x) → p < 2 * e.frame.size → GivesBehind e.frame e.done p
 behind_at e device.Idle p x c h low =
     let n : Returns e.frame e.done p x = h.1 in record {
       place = n.place;
-      below = gives_below e.frame e.done n.number (device_span e.frame e.done c.once) (occurs_from n.number (running e.done) n.runs) (c.some n.number n.runs);
+      below = gives_below e.frame e.done n.number (device_span e.frame e.done c.once) (occurs_from n.number (running e.done) n.runs)
+          (c.some n.number n.runs);
     }
 behind_at e (device.Taking []) p x c h low = absurd h
 behind_at e (device.Taking (w ∷ ws)) p x c h low = absurd h
-behind_at e (device.Ringing old new) p x c h low = let n : StoresBell (call_at e.frame) e.bells p x = h in absurd (omega (arith, n.place, areas e.frame))
+behind_at e (device.Ringing old new) p x c h low = let n : StoresBell (call_at e.frame) e.bells p x = h in
+    absurd (omega (arith, n.place, areas e.frame))
 behind_at e _ p x c h low = absurd h
 
 -- the device stores descriptors at its own position, which is below that of what it took
-pub gives_behind : (e : DeviceView) (p x : ℕ) → Counts e.frame e.done → DeviceNext e op.Give (Store p x) → p < 2 * e.frame.size → GivesBehind e.frame e.done p
+pub gives_behind : (e : DeviceView) (p x : ℕ) → Counts e.frame e.done → DeviceNext e op.Give (Store p x) → p < 2 * e.frame.size
+    → GivesBehind e.frame e.done p
 gives_behind e p x c h low = behind_at e e.doing p x c h low
 
 -- of the positions that the driver stores, none is past a position from what it collected on with the same place

@@ -9,7 +9,11 @@ use Rattle.vd_packed_ring.specs.PackedWords.{IsDrivers, IsDevices, width, tables
 use Rattle.vd_packed_ring.specs.PackedRing.{Words}
 
 pub areas : (f : Frame) → (tables_from f ≤ commands_from f) × (commands_from f ≤ acks_from f) × (acks_from f ≤ kick_at f)
-areas f = (up (if f.features.indirect then 32 * f.size else 0) (tables_from f), up (if f.control then 2 * f.size else 0) (commands_from f), up (if f.control then f.size else 0) (acks_from f))
+areas f = (
+  up (if f.features.indirect then 32 * f.size else 0) (tables_from f),
+  up (if f.control then 2 * f.size else 0) (commands_from f),
+  up (if f.control then f.size else 0) (acks_from f),
+)
   where
     up : (b a : ℕ) → a ≤ a + b
     up b a = omega arith
@@ -60,13 +64,16 @@ devices_second f i q pos (inr (inr a)) = λ e. omega (arith, areas f, second_low
 
 -- ---- stores
 
-same_store : (ws us : List ℕ) (p i x : ℕ) → p < length ws → p < length us → slice_index ws i ≡ slice_index us i → slice_index (slice_set ws p x) i ≡ slice_index (slice_set us p x) i
+same_store : (ws us : List ℕ) (p i x : ℕ) → p < length ws → p < length us → slice_index ws i ≡ slice_index us i
+    → slice_index (slice_set ws p x) i ≡ slice_index (slice_set us p x) i
 same_store ws us p i x a b e = elim (cases_eq i p) [
-  | inl is ↦ subst (λ (q : ℕ). slice_index (slice_set ws p x) q ≡ slice_index (slice_set us p x) q) (sym is) (get_or-set_same ws p x 0 a ∙ sym (get_or-set_same us p x 0 b))
+  | inl is ↦ subst (λ (q : ℕ). slice_index (slice_set ws p x) q ≡ slice_index (slice_set us p x) q) (sym is)
+      (get_or-set_same ws p x 0 a ∙ sym (get_or-set_same us p x 0 b))
   | inr ne ↦ get_or-set_other ws p i x 0 ne ∙ e ∙ sym (get_or-set_other us p i x 0 ne)
 ]
 
-pub driver_stores : (f : Frame) (ws driven served : List ℕ) (p x : ℕ) → Words f ws driven served → IsDrivers f p → Words f (slice_set ws p x) (slice_set driven p x) served
+pub driver_stores : (f : Frame) (ws driven served : List ℕ) (p x : ℕ) → Words f ws driven served → IsDrivers f p
+    → Words f (slice_set ws p x) (slice_set driven p x) served
 driver_stores f ws driven served p x w own =
     let inside : p < width f = drivers_inside f p own in
     let wide : length ws ≡ width f = w.wide.0 in
@@ -77,7 +84,8 @@ driver_stores f ws driven served p x w own =
       devices = λ i h. get_or-set_other ws p i x 0 (λ e. owners_apart f p i own h (sym e)) ∙ w.devices i h;
     }
 
-pub device_stores : (f : Frame) (ws driven served : List ℕ) (p x : ℕ) → Words f ws driven served → IsDevices f p → Words f (slice_set ws p x) driven (slice_set served p x)
+pub device_stores : (f : Frame) (ws driven served : List ℕ) (p x : ℕ) → Words f ws driven served → IsDevices f p
+    → Words f (slice_set ws p x) driven (slice_set served p x)
 device_stores f ws driven served p x w own =
     let inside : p < width f = devices_inside f p own in
     let wide : length ws ≡ width f = w.wide.0 in
@@ -88,18 +96,22 @@ device_stores f ws driven served p x w own =
       devices = λ i h. same_store ws served p i x (omega arith) (omega arith) (w.devices i h);
     }
 
-pub driver_second : (f : Frame) (ws driven served : List ℕ) (q x : ℕ) → 2 ≤ f.size → Words f ws driven served → Words f (slice_set ws (second_word f.size q) x) (slice_set driven (second_word f.size q) x) served
+pub driver_second : (f : Frame) (ws driven served : List ℕ) (q x : ℕ) → 2 ≤ f.size → Words f ws driven served
+    → Words f (slice_set ws (second_word f.size q) x) (slice_set driven (second_word f.size q) x) served
 driver_second f ws driven served q x pos w = record {
   wide = (length-set ws (second_word f.size q) x ∙ w.wide.0, length-set driven (second_word f.size q) x ∙ w.wide.1, w.wide.2);
-  drivers = λ i h. get_or-set_other ws (second_word f.size q) i x 0 (drivers_second f i q pos h) ∙ w.drivers i h ∙ sym (get_or-set_other driven (second_word f.size q) i x 0 (drivers_second f i q pos h));
+  drivers = λ i h. get_or-set_other ws (second_word f.size q) i x 0 (drivers_second f i q pos h) ∙ w.drivers i h
+      ∙ sym (get_or-set_other driven (second_word f.size q) i x 0 (drivers_second f i q pos h));
   devices = λ i h. get_or-set_other ws (second_word f.size q) i x 0 (devices_second f i q pos h) ∙ w.devices i h;
 }
 
-pub device_second : (f : Frame) (ws driven served : List ℕ) (q x : ℕ) → 2 ≤ f.size → Words f ws driven served → Words f (slice_set ws (second_word f.size q) x) driven (slice_set served (second_word f.size q) x)
+pub device_second : (f : Frame) (ws driven served : List ℕ) (q x : ℕ) → 2 ≤ f.size → Words f ws driven served
+    → Words f (slice_set ws (second_word f.size q) x) driven (slice_set served (second_word f.size q) x)
 device_second f ws driven served q x pos w = record {
   wide = (length-set ws (second_word f.size q) x ∙ w.wide.0, w.wide.1, length-set served (second_word f.size q) x ∙ w.wide.2);
   drivers = λ i h. get_or-set_other ws (second_word f.size q) i x 0 (drivers_second f i q pos h) ∙ w.drivers i h;
-  devices = λ i h. get_or-set_other ws (second_word f.size q) i x 0 (devices_second f i q pos h) ∙ w.devices i h ∙ sym (get_or-set_other served (second_word f.size q) i x 0 (devices_second f i q pos h));
+  devices = λ i h. get_or-set_other ws (second_word f.size q) i x 0 (devices_second f i q pos h) ∙ w.devices i h
+      ∙ sym (get_or-set_other served (second_word f.size q) i x 0 (devices_second f i q pos h));
 }
 
 -- ---- positions less than the size apart have different places
@@ -132,7 +144,10 @@ command_drivers f h i on low two = inr (inr (inl (omega (arith, areas f), omega 
     acks_follow f on = ap (λ (b : Bool). commands_from f + (if b then 2 * f.size else 0)) on
 
 pub acks_follow : (f : Frame) → f.control ≡ true → (acks_from f ≡ commands_from f + 2 * f.size) × (kick_at f ≡ acks_from f + f.size)
-acks_follow f on = (ap (λ (b : Bool). commands_from f + (if b then 2 * f.size else 0)) on, ap (λ (b : Bool). acks_from f + (if b then f.size else 0)) on)
+acks_follow f on = (
+  ap (λ (b : Bool). commands_from f + (if b then 2 * f.size else 0)) on,
+  ap (λ (b : Bool). acks_from f + (if b then f.size else 0)) on,
+)
 
 pub ack_devices : (f : Frame) (h : ℕ) → f.control ≡ true → h < f.size → IsDevices f (ack_word f h)
 ack_devices f h on low = inr (inl (omega arith, omega (arith, acks_follow f on)))

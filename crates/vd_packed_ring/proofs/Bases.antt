@@ -18,9 +18,12 @@ upper h w n a b c = omega arith
 pub lawful_base : (n q : ℕ) → 2 ≤ n → n ≤ 32768 → is_base n (base_at n q) ≡ true
 lawful_base n q least most =
     let low = half_low n q (omega arith) most in
-    let a : nat_lt (base_at n q % 32768) n ≡ true = lt-ltb (base_at n q % 32768) n (omega (arith, lower (q % n) (wrap_bit n q) n low.0 most low.1, low.0)) in
-    let b : nat_lt ((base_at n q / 65536) % 32768) n ≡ true = lt-ltb ((base_at n q / 65536) % 32768) n (omega (arith, upper (q % n) (wrap_bit n q) n low.0 most low.1, low.0)) in
+    let a : nat_lt (base_at n q % 32768) n ≡ true =
+    lt-ltb (base_at n q % 32768) n (omega (arith, lower (q % n) (wrap_bit n q) n low.0 most low.1, low.0)) in
+    let b : nat_lt ((base_at n q / 65536) % 32768) n ≡ true =
+    lt-ltb ((base_at n q / 65536) % 32768) n (omega (arith, upper (q % n) (wrap_bit n q) n low.0 most low.1, low.0)) in
     rw (a, b) refl
 
 pub fresh_base : (n : ℕ) → 2 ≤ n → base_at n 0 ≡ 2147516416
-fresh_base n least = let d : 0 / n ≡ 0 = div-eq_of_lt (let x : 0 < n = omega arith in x) in let m : 0 % n ≡ 0 = mod-eq_of_lt (let x : 0 < n = omega arith in x) in omega arith
+fresh_base n least = let d : 0 / n ≡ 0 = div-eq_of_lt (let x : 0 < n = omega arith in x) in let m : 0 % n ≡ 0 =
+    mod-eq_of_lt (let x : 0 < n = omega arith in x) in omega arith

@@ -32,18 +32,23 @@ arm_word_is n q = omega (arith, wrapped (q / n) (is_even (q / n)) refl)
 pub event_small : (n q : ℕ) → 0 < n → n ≤ 32768 → event_word n q < 4294967296
 event_small n q pos small = omega (arith, mod_below q n pos)
 
-asks_at : (f : Frame) (old new s : ℕ) (b : Bool) → IsLawful f → IsRange f old new → old ≤ s → s < new → wants (Packed f.size) old new ((if b then event_word f.size s else 0) % 4294967296) ≡ true
+asks_at : (f : Frame) (old new s : ℕ) (b : Bool) → IsLawful f → IsRange f old new → old ≤ s → s < new
+    → wants (Packed f.size) old new ((if b then event_word f.size s else 0) % 4294967296) ≡ true
 asks_at f old new s true l r low high =
-    let word : arm_word (Packed f.size) s ≡ event_word f.size s % 4294967296 = omega (arith, arm_word_is f.size s, event_small f.size s (omega (arith, l.least)) l.most) in
-    subst (λ (w : ℕ). wants (Packed f.size) old new w ≡ true) word (rings_armed (Packed f.size) old new s (omega (arith, l.least), l.most) (omega (arith, r.near)) low high)
+    let word : arm_word (Packed f.size) s ≡ event_word f.size s % 4294967296 =
+    omega (arith, arm_word_is f.size s, event_small f.size s (omega (arith, l.least)) l.most) in
+    subst (λ (w : ℕ). wants (Packed f.size) old new w ≡ true) word
+    (rings_armed (Packed f.size) old new s (omega (arith, l.least), l.most) (omega (arith, r.near)) low high)
 asks_at f old new s false l r low high = rings_on (Packed f.size) old new 0 refl
 
 -- the event word of a side that waits for a position of the range asks for a signal
-pub asks_armed : (f : Frame) (old new s word : ℕ) → IsLawful f → IsRange f old new → old ≤ s → s < new → word ≡ armed_value f s → asks f old new word ≡ true
+pub asks_armed : (f : Frame) (old new s word : ℕ) → IsLawful f → IsRange f old new → old ≤ s → s < new → word ≡ armed_value f s
+    → asks f old new word ≡ true
 asks_armed f old new s word l r low high is = ap (asks f old new) is ∙ asks_at f old new s f.features.event_idx l r low high
 
 -- where a side is armed its event word is that of its position
-pub armed_word : (f : Frame) (event_at bell_at : ℕ) (armed : Option ℕ) (bells s : ℕ) (stored : List ℕ) → SideSignals f event_at bell_at armed bells stored → armed ≡ Some s → slice_index stored event_at ≡ armed_value f s
+pub armed_word : (f : Frame) (event_at bell_at : ℕ) (armed : Option ℕ) (bells s : ℕ) (stored : List ℕ)
+    → SideSignals f event_at bell_at armed bells stored → armed ≡ Some s → slice_index stored event_at ≡ armed_value f s
 armed_word f event_at bell_at armed bells s stored g is = at f.features.event_idx refl
   where
     at : (b : Bool) → f.features.event_idx ≡ b → slice_index stored event_at ≡ (if b then event_word f.size s else 0)
@@ -58,10 +63,12 @@ both b on off = let e : true ≡ false = sym on ∙ off in cc
 some_is : (a b : ℕ) → Some a ≡ Some b → a ≡ b
 some_is a b e = cc
 
-pub signals_armed : (f : Frame) (event_at bell_at : ℕ) (armed : Option ℕ) (bells s : ℕ) (stored : List ℕ) → event_at < length stored → bell_at ≢ event_at → SideSignals f event_at bell_at armed bells stored
+pub signals_armed : (f : Frame) (event_at bell_at : ℕ) (armed : Option ℕ) (bells s : ℕ) (stored : List ℕ) → event_at < length stored
+    → bell_at ≢ event_at → SideSignals f event_at bell_at armed bells stored
     → SideSignals f event_at bell_at (Some s) bells (slice_set stored event_at (armed_value f s))
 signals_armed f event_at bell_at armed bells s stored inside apart g =
-    let word : slice_index (slice_set stored event_at (armed_value f s)) event_at ≡ armed_value f s = get_or-set_same stored event_at (armed_value f s) 0 inside in record {
+    let word : slice_index (slice_set stored event_at (armed_value f s)) event_at ≡ armed_value f s =
+    get_or-set_same stored event_at (armed_value f s) 0 inside in record {
       flags = λ off. inl (word ∙ ap (λ (b : Bool). if b then event_word f.size s else 0) off);
       names = λ on. inr (s, word ∙ ap (λ (b : Bool). if b then event_word f.size s else 0) on);
       enable = λ q is off. word ∙ ap (λ (b : Bool). if b then event_word f.size s else 0) off;
@@ -69,7 +76,8 @@ signals_armed f event_at bell_at armed bells s stored inside apart g =
       bell = get_or-set_other stored event_at bell_at (armed_value f s) 0 apart ∙ g.bell;
     }
 
-pub signals_disarmed : (f : Frame) (event_at bell_at : ℕ) (armed : Option ℕ) (bells : ℕ) (stored : List ℕ) → f.features.event_idx ≡ false → event_at < length stored → bell_at ≢ event_at → SideSignals f event_at bell_at armed bells stored
+pub signals_disarmed : (f : Frame) (event_at bell_at : ℕ) (armed : Option ℕ) (bells : ℕ) (stored : List ℕ)
+    → f.features.event_idx ≡ false → event_at < length stored → bell_at ≢ event_at → SideSignals f event_at bell_at armed bells stored
     → SideSignals f event_at bell_at None bells (slice_set stored event_at disabled)
 signals_disarmed f event_at bell_at armed bells stored off inside apart g = record {
   flags = λ e. inr (get_or-set_same stored event_at disabled 0 inside);
@@ -80,13 +88,17 @@ signals_disarmed f event_at bell_at armed bells stored off inside apart g = reco
 }
 
 -- it is no longer armed, without a store
-pub signals_awake : (f : Frame) (event_at bell_at : ℕ) (armed : Option ℕ) (bells : ℕ) (stored : List ℕ) → SideSignals f event_at bell_at armed bells stored → SideSignals f event_at bell_at None bells stored
-signals_awake f event_at bell_at armed bells stored g = record { flags = g.flags; names = g.names; enable = λ q is off. absurd cc; event = λ q is on. absurd cc; bell = g.bell }
+pub signals_awake : (f : Frame) (event_at bell_at : ℕ) (armed : Option ℕ) (bells : ℕ) (stored : List ℕ)
+    → SideSignals f event_at bell_at armed bells stored → SideSignals f event_at bell_at None bells stored
+signals_awake f event_at bell_at armed bells stored g =
+    record { flags = g.flags; names = g.names; enable = λ q is off. absurd cc; event = λ q is on. absurd cc; bell = g.bell }
 
-pub signals_rung : (f : Frame) (event_at bell_at : ℕ) (armed : Option ℕ) (bells n : ℕ) (stored : List ℕ) → bell_at < length stored → event_at ≢ bell_at → SideSignals f event_at bell_at armed bells stored
+pub signals_rung : (f : Frame) (event_at bell_at : ℕ) (armed : Option ℕ) (bells n : ℕ) (stored : List ℕ) → bell_at < length stored
+    → event_at ≢ bell_at → SideSignals f event_at bell_at armed bells stored
     → SideSignals f event_at bell_at armed n (slice_set stored bell_at (bell_word n))
 signals_rung f event_at bell_at armed bells n stored inside apart g =
-    let word : slice_index (slice_set stored bell_at (bell_word n)) event_at ≡ slice_index stored event_at = get_or-set_other stored bell_at event_at (bell_word n) 0 apart in record {
+    let word : slice_index (slice_set stored bell_at (bell_word n)) event_at ≡ slice_index stored event_at =
+    get_or-set_other stored bell_at event_at (bell_word n) 0 apart in record {
       flags = λ off. elim (g.flags off) [ inl h ↦ inl (word ∙ h) | inr h ↦ inr (word ∙ h) ];
       names = λ on. elim (g.names on) [ inl h ↦ inl (word ∙ h) | inr h ↦ inr (h.0, word ∙ h.1) ];
       enable = λ q is off. word ∙ g.enable q is off;
@@ -106,12 +118,14 @@ limit_low f = at (nat_lt f.ring 16)
 -- the bell that stands is the number of bells stored
 pub call_stands : (ws : List ℕ) (d : DriverView) (e : DeviceView) → Ring ws d e → slice_index ws (call_at d.frame) ≡ e.bells
 call_stands ws d e r =
-    let word : slice_index ws (call_at d.frame) ≡ e.bells % 18446744073709551616 = r.words.devices (call_at d.frame) (inr (inr refl)) ∙ r.device_signals.bell in
+    let word : slice_index ws (call_at d.frame) ≡ e.bells % 18446744073709551616 = r.words.devices (call_at d.frame) (inr (inr refl))
+    ∙ r.device_signals.bell in
     let few : e.bells ≤ gives_made e.done = omega (arith, r.calls.bells) in
     omega (arith, word, few, few_gives d.frame e.done r.lists.entries, r.lists.count, r.lists.some, r.places.limited, limit_low d.frame)
 
 pub kick_stands : (ws : List ℕ) (d : DriverView) (e : DeviceView) → Ring ws d e → slice_index ws (kick_at d.frame) ≡ d.bells
 kick_stands ws d e r =
-    let word : slice_index ws (kick_at d.frame) ≡ d.bells % 18446744073709551616 = r.words.drivers (kick_at d.frame) (inr (inr (inr refl))) ∙ r.driver_signals.bell in
+    let word : slice_index ws (kick_at d.frame) ≡ d.bells % 18446744073709551616 =
+    r.words.drivers (kick_at d.frame) (inr (inr (inr refl))) ∙ r.driver_signals.bell in
     let few : d.bells ≤ length (offers d.done) = omega (arith, r.kicks.bells) in
     omega (arith, word, few, r.places.limited, limit_low d.frame)

@@ -13,7 +13,7 @@ use Rattle.vd_ring.proofs.Counts.{occurs_from, Contains_from, with_head_is}
 use Rattle.vd_ring.proofs.DeviceLists.{running_below, running_open, running_head, same_taken_head, lists_commanded, lists_acked}
 use Rattle.vd_ring.proofs.DeviceAcks.{acks_commanded, acks_acked}
 use Rattle.vd_packed_ring.specs.PackedWords.{IsDevices, width, device_event, call_at, commands_from, acks_from, command_word, ack_word}
-use Rattle.vd_packed_ring.specs.PackedPositions.{opos, second_at}
+use Rattle.vd_packed_ring.specs.PackedPositions.{offer_position, second_at}
 use Rattle.vd_packed_ring.specs.PackedDevice.{device_commands, device_acks}
 use Rattle.vd_packed_ring.specs.PackedRing.{Ring, puts_of}
 use Rattle.vd_packed_ring.proofs.Areas.{areas, device_stores, command_drivers, ack_devices, acks_follow}
@@ -22,7 +22,8 @@ use Rattle.vd_packed_ring.proofs.Clear.{doing_past, doing_other, signals_elsewhe
 use Rattle.vd_packed_ring.proofs.DeviceParts.{ring_with}
 
 -- a load of a command word
-pub commands : (ws : List ℕ) (d : DriverView) (e : DeviceView) (p : ℕ) → Ring ws d (record e { frame = d.frame; doing = Idle }) → LoadsCommand d.frame (command_word d.frame) e.done p
+pub commands : (ws : List ℕ) (d : DriverView) (e : DeviceView) (p : ℕ) → Ring ws d (record e { frame = d.frame; doing = Idle })
+    → LoadsCommand d.frame (command_word d.frame) e.done p
     → Ring ws d (device_commands (record e { frame = d.frame; doing = Idle }) p (slice_index ws p)) × (p < width d.frame)
 commands ws d e p r n =
     let f : Frame = d.frame in let s : List DeviceDone = e.done in let o : List DriverDone = d.done in
@@ -35,11 +36,13 @@ commands ws d e p r n =
     let at : p ≡ commands_from f + 2 * h + i = n.place in
     let number : with_head (taken_head s) (running s) ((p - commands_from f) / 2) ≡ k =
     let half : (p - commands_from f) / 2 ≡ h = omega arith in
-    ap (with_head (taken_head s) (running s)) half ∙ with_head_is (taken_head s) (running s) h k refl runs (λ j c a. same_taken_head f o s j k r.places r.lists c runs a) in
+    ap (with_head (taken_head s) (running s)) half ∙ with_head_is (taken_head s) (running s) h k refl runs
+    (λ j c a. same_taken_head f o s j k r.places r.lists c runs a) in
     let side : (p - commands_from f) % 2 ≡ i = omega arith in
     let word : slice_index ws p ≡ command_of f o k i =
     ap (λ (q : ℕ). slice_index ws q) n.place ∙ r.words.drivers (command_word f h + i) (command_drivers f h i n.control hd.1 two)
-    ∙ ap (λ (g : ℕ). slice_index d.stored (command_word f g + i)) hd.0 ∙ r.commands.stand n.control k i (Contains_from k (open_at o) is_open) two in
+    ∙ ap (λ (g : ℕ). slice_index d.stored (command_word f g + i)) hd.0
+    ∙ r.commands.stand n.control k i (Contains_from k (open_at o) is_open) two in
     let x : ℕ = slice_index ws p in
     let below : k < length (offers o) = omega (arith, r.lists.some, running_below f o s k r.lists runs) in (
       subst (λ (j : ℕ). Ring ws d (record E { done = LoadCommand j ((p - commands_from f) % 2) x ∷ s })) (sym number)
@@ -47,7 +50,8 @@ commands ws d e p r n =
           (ring_with ws ws d E (record E { done = LoadCommand k i x ∷ s }) r record {
             same = refl;
             words = r.words;
-            seconds = row_same f.size 1 ws (opos f o) (puts_of d.doing) (second_at f o s) (second_at f o (LoadCommand k i x ∷ s)) (λ q a. refl) r.seconds;
+            seconds = row_same f.size 1 ws (offer_position f o) (puts_of d.doing) (second_at f o s)
+                (second_at f o (LoadCommand k i x ∷ s)) (λ q a. refl) r.seconds;
             lists = lists_commanded f o s k i x r.lists;
             short = r.short;
             signals = r.device_signals;
@@ -66,7 +70,8 @@ commands ws d e p r n =
     )
 
 -- a store of an ack word
-pub acks : (ws : List ℕ) (d : DriverView) (e : DeviceView) (p x : ℕ) → Ring ws d (record e { frame = d.frame; doing = Idle }) → StoresAck d.frame (ack_word d.frame) e.done p
+pub acks : (ws : List ℕ) (d : DriverView) (e : DeviceView) (p x : ℕ) → Ring ws d (record e { frame = d.frame; doing = Idle })
+    → StoresAck d.frame (ack_word d.frame) e.done p
     → Ring (slice_set ws p x) d (device_acks (record e { frame = d.frame; doing = Idle }) p x) × (p < width d.frame)
 acks ws d e p x r n =
     let f : Frame = d.frame in let s : List DeviceDone = e.done in let o : List DriverDone = d.done in
@@ -89,11 +94,15 @@ acks ws d e p x r n =
           (ring_with ws (slice_set ws q x) d E (record E { done = s2; stored = st }) r record {
             same = refl;
             words = device_stores f ws d.stored e.stored q x r.words own;
-            seconds = row_same f.size 1 (slice_set ws q x) (opos f o) (puts_of d.doing) (second_at f o s) (second_at f o s2) (λ j a. refl) (row_elsewhere f.size 1 ws (opos f o) (puts_of d.doing) (second_at f o s) q x pos (λ j a b. omega arith) r.seconds);
+            seconds = row_same f.size 1 (slice_set ws q x) (offer_position f o) (puts_of d.doing) (second_at f o s) (second_at f o s2)
+                (λ j a. refl) (row_elsewhere f.size 1 ws (offer_position f o) (puts_of d.doing) (second_at f o s) q x pos
+                (λ j a b. omega arith) r.seconds);
             lists = lists_acked f o s h x r.lists;
             short = r.short;
-            signals = signals_elsewhere f (device_event f) (call_at f) e.armed e.bells e.stored q x (λ a. omega arith) (λ a. omega (arith, areas f, acks_follow f n.control, hd.1)) r.device_signals;
-            acks = acks_acked f (ack_word f) o s e.stored k x r.places r.lists (λ g i a. let same : g ≡ i = omega arith in same) runs inside r.acks;
+            signals = signals_elsewhere f (device_event f) (call_at f) e.armed e.bells e.stored q x (λ a. omega arith)
+                (λ a. omega (arith, areas f, acks_follow f n.control, hd.1)) r.device_signals;
+            acks = acks_acked f (ack_word f) o s e.stored k x r.places r.lists (λ g i a. let same : g ≡ i = omega arith in
+                same) runs inside r.acks;
             driver_doing = doing_other d.doing f o ws q x (doing_past d.doing f o ws q r.lawful r.driver_doing own) r.driver_doing;
             device_doing = tt;
             kicks = r.kicks;

@@ -15,7 +15,7 @@ use Rattle.vd_ring.specs.Looks.{DeviceLooks}
 use Rattle.vd_packed_ring.specs.PackedWords.{len_of, id_of}
 use Rattle.vd_packed_ring.specs.PackedChains.{is_whole, chain_of}
 use Rattle.vd_packed_ring.specs.PackedSignals.{asks}
-use Rattle.vd_packed_ring.specs.PackedPositions.{tpos, later}
+use Rattle.vd_packed_ring.specs.PackedPositions.{take_position, later}
 use Rattle.vd_packed_ring.specs.PackedDevice.{device_shows, DeviceNextAt, device_after_at, device_after, device_act_at, device_act, device_side, device_gives, device_takes}
 
 -- ---- one access
@@ -45,12 +45,14 @@ abbrev goes_on : DeviceNow → Bool
 goes_on (now.Disarming k) = false
 goes_on _ = true
 
-no_wakes : (v : DeviceView) (o : Op) (r : ℕ) (more : Bool) → ((o ≡ op.Arm) × (v.doing ≡ now.Arming) → ⊥) → ((o ≡ op.Hear) × (v.doing ≡ now.Idle) → ⊥) → Wakes v o r more → ⊥
+no_wakes : (v : DeviceView) (o : Op) (r : ℕ) (more : Bool) → ((o ≡ op.Arm) × (v.doing ≡ now.Arming) → ⊥)
+    → ((o ≡ op.Hear) × (v.doing ≡ now.Idle) → ⊥) → Wakes v o r more → ⊥
 no_wakes v o r more second hears (inl a) = second (a.0, a.1)
 no_wakes v o r more second hears (inr b) = hears (b.0, b.1)
 
 -- an access that is no look, and none of a hearing or of a disarming
-quiet : (v : DeviceView) (o : Op) (r : ℕ) (more : Bool) (x : DeviceAct) (next : DeviceNow) → plain x ≡ true → goes_on next ≡ true → ((o ≡ op.Take) × (v.doing ≡ now.Idle) → ⊥) → ((o ≡ op.Arm) × (v.doing ≡ now.Arming) → ⊥)
+quiet : (v : DeviceView) (o : Op) (r : ℕ) (more : Bool) (x : DeviceAct) (next : DeviceNow) → plain x ≡ true → goes_on next ≡ true
+    → ((o ≡ op.Take) × (v.doing ≡ now.Idle) → ⊥) → ((o ≡ op.Arm) × (v.doing ≡ now.Arming) → ⊥)
     → ((o ≡ op.Hear) × (v.doing ≡ now.Idle) → ⊥) → (v.doing ≡ now.Disarming o → ⊥) → (o ≡ op.Disarm → ⊥) → At v o r more x next
 quiet v o r more x next is goes look second hears waking disarms = record {
   nothing = (λ e. absurd (cc (is, ap plain e)), λ h. absurd (look (h.0, h.1)));
@@ -65,13 +67,21 @@ quiet v o r more x next is goes look second hears waking disarms = record {
     none (inr (inl b)) = waking b
     none (inr (inr c)) = disarms c
 
-not_awake : (v : DeviceView) (r : ℕ) (more : Bool) → (Wakes (record v { doing = now.Idle }) op.Take r more × (v.frame.features.event_idx ≡ true)) ⊎ (now.Idle ≡ now.Disarming op.Take) ⊎ (op.Take ≡ op.Disarm) → ⊥
+not_awake : (v : DeviceView) (r : ℕ) (more : Bool)
+    → (Wakes (record v { doing = now.Idle }) op.Take r more × (v.frame.features.event_idx ≡ true)) ⊎
+    (now.Idle ≡ now.Disarming op.Take) ⊎ (op.Take ≡ op.Disarm) → ⊥
 not_awake v r more (inl a) = no_wakes (record v { doing = now.Idle }) op.Take r more (λ z. cc z.0) (λ z. cc z.0) a.0
 not_awake v r more (inr (inl b)) = cc b
 not_awake v r more (inr (inr c)) = cc c
 
 -- the look of a take
-looks : (v : DeviceView) (r n m : ℕ) (b : Bool) → At (record v { doing = now.Idle }) op.Take r b (if b then act.Moved else act.Nothing) (if b then record v { seen = n; shown = true; doing = now.Taking (r ∷ []) } else record v { doing = now.Idle; seen = m; shown = false }).doing
+looks : (v : DeviceView) (r n m : ℕ) (b : Bool) → At (record v { doing = now.Idle }) op.Take r b (if b then act.Moved else act.Nothing)
+    (if b then record v { seen = n; shown = true; doing = now.Taking (r ∷ []) } else record v {
+      doing = now.Idle;
+      seen = m;
+      shown =
+          false;
+    }).doing
 looks v r n m true = record {
   nothing = (λ e. absurd (cc e), λ h. absurd (cc h.2));
   armed = (λ e. absurd (cc e), λ h. absurd (cc h.0));
@@ -89,7 +99,9 @@ looks v r n m false = record {
 
 -- the second look of an arming; c is EVENT_IDX
 second : (v : DeviceView) (r n m : ℕ) (b c : Bool) → v.frame.features.event_idx ≡ c
-    → At (record v { doing = now.Arming }) op.Arm r b (if b then (if c then act.Awake else act.Moved) else act.Armed) (if b then record v { seen = n; shown = true; armed = None; doing = if c then now.Idle else now.Disarming op.Arm } else record v { seen = m; shown = false; doing = now.Idle }).doing
+    → At (record v { doing = now.Arming }) op.Arm r b (if b then (if c then act.Awake else act.Moved) else act.Armed)
+    (if b then record v { seen = n; shown = true; armed = None; doing = if c then now.Idle else now.Disarming op.Arm } else record v
+    { seen = m; shown = false; doing = now.Idle }).doing
 second v r n m false c idx = record {
   nothing = (λ e. absurd (cc e), λ h. absurd (cc h.0));
   armed = (λ e. (refl, refl, refl), λ h. refl);
@@ -102,7 +114,8 @@ second v r n m false c idx = record {
     none (inl a) = cc a.2
     none (inr b) = cc b.0
 
-    awake_not : (Wakes (record v { doing = now.Arming }) op.Arm r false × (v.frame.features.event_idx ≡ true)) ⊎ (now.Arming ≡ now.Disarming op.Arm) ⊎ (op.Arm ≡ op.Disarm) → ⊥
+    awake_not : (Wakes (record v { doing = now.Arming }) op.Arm r false × (v.frame.features.event_idx ≡ true)) ⊎
+        (now.Arming ≡ now.Disarming op.Arm) ⊎ (op.Arm ≡ op.Disarm) → ⊥
     awake_not (inl a) = none a.0
     awake_not (inr (inl b)) = cc b
     awake_not (inr (inr c)) = cc c
@@ -121,14 +134,21 @@ second v r n m true false idx = record {
   awake = (λ e. absurd (cc e), λ h. absurd (awake_not h));
 }
   where
-    awake_not : (Wakes (record v { doing = now.Arming }) op.Arm r true × (v.frame.features.event_idx ≡ true)) ⊎ (now.Arming ≡ now.Disarming op.Arm) ⊎ (op.Arm ≡ op.Disarm) → ⊥
+    awake_not : (Wakes (record v { doing = now.Arming }) op.Arm r true × (v.frame.features.event_idx ≡ true)) ⊎
+        (now.Arming ≡ now.Disarming op.Arm) ⊎ (op.Arm ≡ op.Disarm) → ⊥
     awake_not (inl a) = cc (idx, a.1)
     awake_not (inr (inl b)) = cc b
     awake_not (inr (inr c)) = cc c
 
 -- the load of the other side's bell
 hears : (v : DeviceView) (r : ℕ) (more b c : Bool) → (r == v.heard) ≡ b → v.frame.features.event_idx ≡ c
-    → At (record v { doing = now.Idle }) op.Hear r more (if b then act.Asleep else (if c then act.Awake else act.Moved)) (if b then record v { doing = now.Idle } else record v { heard = r; armed = None; doing = if c then now.Idle else now.Disarming op.Hear }).doing
+    → At (record v { doing = now.Idle }) op.Hear r more (if b then act.Asleep else (if c then act.Awake else act.Moved))
+    (if b then record v { doing = now.Idle } else record v {
+      heard = r;
+      armed = None;
+      doing =
+          if c then now.Idle else now.Disarming op.Hear;
+    }).doing
 hears v r more true c eq idx = record {
   nothing = (λ e. absurd (cc e), λ h. absurd (cc h.0));
   armed = (λ e. absurd (cc e), λ h. absurd (cc h.0));
@@ -141,7 +161,8 @@ hears v r more true c eq idx = record {
     none (inl a) = cc a.0
     none (inr b) = b.2 (eqb-true r v.heard eq)
 
-    awake_not : (Wakes (record v { doing = now.Idle }) op.Hear r more × (v.frame.features.event_idx ≡ true)) ⊎ (now.Idle ≡ now.Disarming op.Hear) ⊎ (op.Hear ≡ op.Disarm) → ⊥
+    awake_not : (Wakes (record v { doing = now.Idle }) op.Hear r more × (v.frame.features.event_idx ≡ true)) ⊎
+        (now.Idle ≡ now.Disarming op.Hear) ⊎ (op.Hear ≡ op.Disarm) → ⊥
     awake_not (inl a) = none a.0
     awake_not (inr (inl b)) = cc b
     awake_not (inr (inr c)) = cc c
@@ -160,7 +181,8 @@ hears v r more false false eq idx = record {
   awake = (λ e. absurd (cc e), λ h. absurd (awake_not h));
 }
   where
-    awake_not : (Wakes (record v { doing = now.Idle }) op.Hear r more × (v.frame.features.event_idx ≡ true)) ⊎ (now.Idle ≡ now.Disarming op.Hear) ⊎ (op.Hear ≡ op.Disarm) → ⊥
+    awake_not : (Wakes (record v { doing = now.Idle }) op.Hear r more × (v.frame.features.event_idx ≡ true)) ⊎
+        (now.Idle ≡ now.Disarming op.Hear) ⊎ (op.Hear ≡ op.Disarm) → ⊥
     awake_not (inl a) = cc (idx, a.1)
     awake_not (inr (inl b)) = cc b
     awake_not (inr (inr c)) = cc c
@@ -192,32 +214,56 @@ checked_on old new true = refl
 checked_on old new false = refl
 
 -- a load of a chain's word
-takes_at : (v : DeviceView) (w : ℕ) (ws : List ℕ) (r : ℕ) (us : List ℕ) (more b : Bool) → At (record v { doing = now.Taking (w ∷ us) }) op.Take r more (if b then act.Taken (length (takes v.done)) (chain_of v.frame ws) else act.Moved) (if b then device_takes (record v { doing = now.Taking (w ∷ us) }) ws else record v { doing = now.Taking ws }).doing
-takes_at v w ws r us more true = quiet (record v { doing = now.Taking (w ∷ us) }) op.Take r more (act.Taken (length (takes v.done)) (chain_of v.frame ws)) now.Idle refl refl (λ z. cc z.1) (λ z. cc z.0) (λ z. cc z.0) (λ z. cc z) (λ z. cc z)
-takes_at v w ws r us more false = quiet (record v { doing = now.Taking (w ∷ us) }) op.Take r more act.Moved (now.Taking ws) refl refl (λ z. cc z.1) (λ z. cc z.0) (λ z. cc z.0) (λ z. cc z) (λ z. cc z)
+takes_at : (v : DeviceView) (w : ℕ) (ws : List ℕ) (r : ℕ) (us : List ℕ) (more b : Bool)
+    → At (record v { doing = now.Taking (w ∷ us) }) op.Take r more
+    (if b then act.Taken (length (takes v.done)) (chain_of v.frame ws) else act.Moved)
+    (if b then device_takes (record v { doing = now.Taking (w ∷ us) }) ws else record v { doing = now.Taking ws }).doing
+takes_at v w ws r us more true =
+    quiet (record v { doing = now.Taking (w ∷ us) }) op.Take r more (act.Taken (length (takes v.done)) (chain_of v.frame ws)) now.Idle
+    refl refl (λ z. cc z.1) (λ z. cc z.0) (λ z. cc z.0) (λ z. cc z) (λ z. cc z)
+takes_at v w ws r us more false = quiet (record v { doing = now.Taking (w ∷ us) }) op.Take r more act.Moved (now.Taking ws) refl refl
+    (λ z. cc z.1) (λ z. cc z.0) (λ z. cc z.0) (λ z. cc z) (λ z. cc z)
 
-at : (n : DeviceNow) (v : DeviceView) (o : Op) (a : Access) (r : ℕ) → DeviceNextAt n (record v { doing = n }) o a → At (record v { doing = n }) o r (device_shows v r) (device_act_at n (record v { doing = n }) o a r) (device_after_at n (record v { doing = n }) o a r).doing
-at now.Idle v op.Take (Load p) r h = looks v r (later v.seen (tpos v.frame v.done + 1)) (later v.seen (tpos v.frame v.done)) (device_shows v r)
-at now.Arming v op.Arm (Load p) r h = second v r (later v.seen (tpos v.frame v.done + 1)) (later v.seen (tpos v.frame v.done)) (device_shows v r) v.frame.features.event_idx refl
+at : (n : DeviceNow) (v : DeviceView) (o : Op) (a : Access) (r : ℕ) → DeviceNextAt n (record v { doing = n }) o a
+    → At (record v { doing = n }) o r (device_shows v r) (device_act_at n (record v { doing = n }) o a r)
+    (device_after_at n (record v { doing = n }) o a r).doing
+at now.Idle v op.Take (Load p) r h =
+    looks v r (later v.seen (take_position v.frame v.done + 1)) (later v.seen (take_position v.frame v.done)) (device_shows v r)
+at now.Arming v op.Arm (Load p) r h =
+    second v r (later v.seen (take_position v.frame v.done + 1)) (later v.seen (take_position v.frame v.done))
+    (device_shows v r) v.frame.features.event_idx refl
 at now.Idle v op.Hear (Load p) r h = hears v r (device_shows v r) (r == v.heard) v.frame.features.event_idx refl refl
 at (now.Disarming k) v op.Arm (Store p x) r h = wakes v op.Arm k r (device_shows v r) h.0
 at (now.Disarming k) v op.Hear (Store p x) r h = wakes v op.Hear k r (device_shows v r) h.0
 at now.Idle v op.Disarm (Store p x) r h = disarms v r (device_shows v r)
 at now.Idle v op.Disarm (Load p) r h = disarms v r (device_shows v r)
-at now.Idle v op.Arm (Store p x) r h = quiet (record v { doing = now.Idle }) op.Arm r (device_shows v r) (act.Moved) (now.Arming) refl refl (λ z. cc z.0) (λ z. cc z.1) (λ z. cc z.0) (λ z. cc z) (λ z. cc z)
-at now.Idle v op.Control (Store p x) r h = quiet (record v { doing = now.Idle }) op.Control r (device_shows v r) (act.Moved) (now.Idle) refl refl (λ z. cc z.0) (λ z. cc z.0) (λ z. cc z.0) (λ z. cc z) (λ z. cc z)
-at now.Idle v op.Control (Load p) r h = quiet (record v { doing = now.Idle }) op.Control r (device_shows v r) (act.Moved) (now.Idle) refl refl (λ z. cc z.0) (λ z. cc z.0) (λ z. cc z.0) (λ z. cc z) (λ z. cc z)
-at (now.Ringing old new) v op.Give (Store p x) r h = quiet (record v { doing = now.Ringing old new }) op.Give r (device_shows v r) (act.Moved) (now.Idle) refl refl (λ z. cc z.0) (λ z. cc z.0) (λ z. cc z.0) (λ z. cc z) (λ z. cc z)
-at now.Idle v op.Rest (Store p x) r h = quiet (record v { doing = now.Idle }) op.Rest r (device_shows v r) (act.Moved) (now.Resting) refl refl (λ z. cc z.0) (λ z. cc z.0) (λ z. cc z.0) (λ z. cc z) (λ z. cc z)
-at now.Idle v op.Rest (Load p) r h = quiet (record v { doing = now.Idle }) op.Rest r (device_shows v r) (act.Moved) (now.Resting) refl refl (λ z. cc z.0) (λ z. cc z.0) (λ z. cc z.0) (λ z. cc z) (λ z. cc z)
-at now.Resting v op.Rest (Load p) r h = quiet (record v { doing = now.Resting }) op.Rest r (device_shows v r) (act.Rested) (now.Idle) refl refl (λ z. cc z.0) (λ z. cc z.0) (λ z. cc z.0) (λ z. cc z) (λ z. cc z)
+at now.Idle v op.Arm (Store p x) r h = quiet (record v { doing = now.Idle }) op.Arm r (device_shows v r) (act.Moved)
+    (now.Arming) refl refl (λ z. cc z.0) (λ z. cc z.1) (λ z. cc z.0) (λ z. cc z) (λ z. cc z)
+at now.Idle v op.Control (Store p x) r h = quiet (record v { doing = now.Idle }) op.Control r (device_shows v r) (act.Moved)
+    (now.Idle) refl refl (λ z. cc z.0) (λ z. cc z.0) (λ z. cc z.0) (λ z. cc z) (λ z. cc z)
+at now.Idle v op.Control (Load p) r h = quiet (record v { doing = now.Idle }) op.Control r (device_shows v r) (act.Moved)
+    (now.Idle) refl refl (λ z. cc z.0) (λ z. cc z.0) (λ z. cc z.0) (λ z. cc z) (λ z. cc z)
+at (now.Ringing old new) v op.Give (Store p x) r h = quiet (record v { doing = now.Ringing old new }) op.Give r (device_shows v r)
+    (act.Moved) (now.Idle) refl refl (λ z. cc z.0) (λ z. cc z.0) (λ z. cc z.0) (λ z. cc z) (λ z. cc z)
+at now.Idle v op.Rest (Store p x) r h = quiet (record v { doing = now.Idle }) op.Rest r (device_shows v r) (act.Moved)
+    (now.Resting) refl refl (λ z. cc z.0) (λ z. cc z.0) (λ z. cc z.0) (λ z. cc z) (λ z. cc z)
+at now.Idle v op.Rest (Load p) r h = quiet (record v { doing = now.Idle }) op.Rest r (device_shows v r) (act.Moved)
+    (now.Resting) refl refl (λ z. cc z.0) (λ z. cc z.0) (λ z. cc z.0) (λ z. cc z) (λ z. cc z)
+at now.Resting v op.Rest (Load p) r h = quiet (record v { doing = now.Resting }) op.Rest r (device_shows v r) (act.Rested)
+    (now.Idle) refl refl (λ z. cc z.0) (λ z. cc z.0) (λ z. cc z.0) (λ z. cc z) (λ z. cc z)
 at now.Idle v op.Give (Store p x) r h =
-    quiet (record v { doing = now.Idle }) op.Give r (device_shows v r) (act.Given (last_used (given v.frame v.done (id_of x) (len_of x))).number) (device_gives (record v { doing = now.Idle }) p x).doing refl refl (λ z. cc z.0) (λ z. cc z.0) (λ z. cc z.0) (λ z. cc z) (λ z. cc z)
-at (now.Checking old new) v op.Give (Load p) r h = quiet (record v { doing = now.Checking old new }) op.Give r (device_shows v r) (act.Moved) (if asks v.frame old new r then now.Ringing old new else now.Idle) refl (checked_on old new (asks v.frame old new r)) (λ z. cc z.0) (λ z. cc z.0) (λ z. cc z.0) (λ z. cc z) (λ z. cc z)
-at (now.Taking (w ∷ us)) v op.Take (Load p) r h = takes_at v w (w ∷ us ++ r ∷ []) r us (device_shows v r) (is_whole v.frame (w ∷ us ++ r ∷ []))
+    quiet (record v { doing = now.Idle }) op.Give r (device_shows v r)
+    (act.Given (last_used (given v.frame v.done (id_of x) (len_of x))).number)
+    (device_gives (record v { doing = now.Idle }) p x).doing refl refl (λ z. cc z.0) (λ z. cc z.0) (λ z. cc z.0) (λ z. cc z) (λ z. cc z)
+at (now.Checking old new) v op.Give (Load p) r h = quiet (record v { doing = now.Checking old new }) op.Give r (device_shows v r)
+    (act.Moved) (if asks v.frame old new r then now.Ringing old new else now.Idle) refl (checked_on old new (asks v.frame old new r))
+    (λ z. cc z.0) (λ z. cc z.0) (λ z. cc z.0) (λ z. cc z) (λ z. cc z)
+at (now.Taking (w ∷ us)) v op.Take (Load p) r h =
+    takes_at v w (w ∷ us ++ r ∷ []) r us (device_shows v r) (is_whole v.frame (w ∷ us ++ r ∷ []))
 at _ v _ _ r h = absurd h
 
-looks_are : (v : DeviceView) (o : Op) (a : Access) (r : ℕ) → DeviceNextAt v.doing v o a → At v o r (device_shows v r) (device_act v o a r) (device_after v o a r).doing
+looks_are : (v : DeviceView) (o : Op) (a : Access) (r : ℕ) → DeviceNextAt v.doing v o a
+    → At v o r (device_shows v r) (device_act v o a r) (device_after v o a r).doing
 looks_are v o a r h = at v.doing v o a r h
 
 pub device_looks : DeviceLooks device_side device_act device_shows

@@ -12,14 +12,14 @@ use Rattle.vd_ring.specs.Control.{Acks}
 use Rattle.vd_ring.specs.Lists.{Lists, Rested}
 use Rattle.vd_ring.specs.Signals.{Signals}
 use Rattle.vd_packed_ring.specs.PackedWords.{IsDevices, ack_word, device_event, call_at}
-use Rattle.vd_packed_ring.specs.PackedPositions.{opos, tpos, upos, second_at}
+use Rattle.vd_packed_ring.specs.PackedPositions.{offer_position, take_position, give_position, second_at}
 use Rattle.vd_packed_ring.specs.PackedDevice.{DeviceKnows}
 use Rattle.vd_packed_ring.specs.PackedRing.{Ring, Words, Row, SideSignals, puts_of, DriverDoing, DeviceDoing, DeviceArmed, chains_out, chains_in, entries_out, entries_in}
 
 pub record Parts (ws : List ℕ) (d : DriverView) (e : DeviceView) : Type 0 where
   pub same : e.frame ≡ d.frame
   pub words : Words d.frame ws d.stored e.stored
-  pub seconds : Row d.frame.size 1 ws (opos d.frame d.done) (puts_of d.doing) (second_at d.frame d.done e.done)
+  pub seconds : Row d.frame.size 1 ws (offer_position d.frame d.done) (puts_of d.doing) (second_at d.frame d.done e.done)
   pub lists : Lists d.frame d.done e.done
   pub short : All (λ u. u.len < 4294967296) (gives e.done)
   pub signals : SideSignals d.frame (device_event d.frame) (call_at d.frame) e.armed e.bells e.stored
@@ -28,10 +28,10 @@ pub record Parts (ws : List ℕ) (d : DriverView) (e : DeviceView) : Type 0 wher
   pub device_doing : DeviceDoing e.doing d.frame d.done e.done
   pub kicks : Signals (chains_out d) (chains_in e)
   pub calls : Signals (entries_out e) (entries_in d)
-  pub armed : DeviceArmed e.doing d.frame e.armed (tpos d.frame e.done) e.heard
-  pub driver_seen : d.seen ≤ upos d.frame e.done
-  pub device_seen : e.seen ≤ opos d.frame d.done
-  pub device_shown : e.shown ≡ true → tpos d.frame e.done < e.seen
+  pub armed : DeviceArmed e.doing d.frame e.armed (take_position d.frame e.done) e.heard
+  pub driver_seen : d.seen ≤ give_position d.frame e.done
+  pub device_seen : e.seen ≤ offer_position d.frame d.done
+  pub device_shown : e.shown ≡ true → take_position d.frame e.done < e.seen
   pub rested : Rested e.done
 
 pub ring_with : (ws us : List ℕ) (d : DriverView) (e e2 : DeviceView) → Ring ws d e → Parts us d e2 → Ring us d e2

@@ -15,7 +15,7 @@ use Rattle.vd_ring.specs.History.{offers}
 use Rattle.vd_ring.specs.Looks.{DriverLooks}
 use Rattle.vd_packed_ring.specs.PackedWords.{second_word, put}
 use Rattle.vd_packed_ring.specs.PackedSignals.{asks}
-use Rattle.vd_packed_ring.specs.PackedPositions.{opos, cpos, later}
+use Rattle.vd_packed_ring.specs.PackedPositions.{offer_position, collect_position, later}
 use Rattle.vd_packed_ring.specs.PackedDriver.{driver_shows, DriverNextAt, driver_after_at, driver_after, driver_act_at, driver_act, driver_side, driver_offers, driver_collects, stores, collect_act}
 
 -- ---- one access
@@ -45,12 +45,14 @@ abbrev goes_on : DriverNow → Bool
 goes_on (now.Disarming k) = false
 goes_on _ = true
 
-no_wakes : (v : DriverView) (o : Op) (r : ℕ) (more : Bool) → ((o ≡ op.Arm) × (v.doing ≡ now.Arming) → ⊥) → ((o ≡ op.Hear) × (v.doing ≡ now.Idle) → ⊥) → Wakes v o r more → ⊥
+no_wakes : (v : DriverView) (o : Op) (r : ℕ) (more : Bool) → ((o ≡ op.Arm) × (v.doing ≡ now.Arming) → ⊥)
+    → ((o ≡ op.Hear) × (v.doing ≡ now.Idle) → ⊥) → Wakes v o r more → ⊥
 no_wakes v o r more second hears (inl a) = second (a.0, a.1)
 no_wakes v o r more second hears (inr b) = hears (b.0, b.1)
 
 -- an access that is no look, and none of a hearing or of a disarming
-quiet : (v : DriverView) (o : Op) (r : ℕ) (more : Bool) (x : DriverAct) (next : DriverNow) → plain x ≡ true → goes_on next ≡ true → ((o ≡ op.Collect) × (v.doing ≡ now.Idle) → ⊥) → ((o ≡ op.Arm) × (v.doing ≡ now.Arming) → ⊥)
+quiet : (v : DriverView) (o : Op) (r : ℕ) (more : Bool) (x : DriverAct) (next : DriverNow) → plain x ≡ true → goes_on next ≡ true
+    → ((o ≡ op.Collect) × (v.doing ≡ now.Idle) → ⊥) → ((o ≡ op.Arm) × (v.doing ≡ now.Arming) → ⊥)
     → ((o ≡ op.Hear) × (v.doing ≡ now.Idle) → ⊥) → (v.doing ≡ now.Disarming o → ⊥) → (o ≡ op.Disarm → ⊥) → At v o r more x next
 quiet v o r more x next is goes look second hears waking disarms = record {
   nothing = (λ e. absurd (cc (is, ap plain e)), λ h. absurd (look (h.0, h.1)));
@@ -65,31 +67,43 @@ quiet v o r more x next is goes look second hears waking disarms = record {
     none (inr (inl b)) = waking b
     none (inr (inr c)) = disarms c
 
-not_awake : (v : DriverView) (r : ℕ) (more : Bool) → (Wakes (record v { doing = now.Idle }) op.Collect r more × (v.frame.features.event_idx ≡ true)) ⊎ (now.Idle ≡ now.Disarming op.Collect) ⊎ (op.Collect ≡ op.Disarm) → ⊥
+not_awake : (v : DriverView) (r : ℕ) (more : Bool)
+    → (Wakes (record v { doing = now.Idle }) op.Collect r more × (v.frame.features.event_idx ≡ true)) ⊎
+    (now.Idle ≡ now.Disarming op.Collect) ⊎ (op.Collect ≡ op.Disarm) → ⊥
 not_awake v r more (inl a) = no_wakes (record v { doing = now.Idle }) op.Collect r more (λ z. cc z.0) (λ z. cc z.0) a.0
 not_awake v r more (inr (inl b)) = cc b
 not_awake v r more (inr (inr c)) = cc c
 
 -- the look of a collect, which is the whole of it
-looks : (v : DriverView) (r n : ℕ) (b : Bool) → At (record v { doing = now.Idle }) op.Collect r b (if b then collect_act (record v { doing = now.Idle }) r else act.Nothing) (if b then driver_collects (record v { doing = now.Idle }) r else record v { doing = now.Idle; seen = n; shown = false }).doing
+looks : (v : DriverView) (r n : ℕ) (b : Bool)
+    → At (record v { doing = now.Idle }) op.Collect r b (if b then collect_act (record v { doing = now.Idle }) r else act.Nothing)
+    (if b then driver_collects (record v { doing = now.Idle }) r else record v { doing = now.Idle; seen = n; shown = false }).doing
 looks v r n true = record {
   nothing = (λ e. absurd (cc e), λ h. absurd (cc h.2));
   armed = (λ e. absurd (cc e), λ h. absurd (cc h.0));
   asleep = (λ e. absurd (cc e), λ h. absurd (cc h.0));
-  disarming = (λ e. absurd (cc e), λ h. absurd (no_wakes (record v { doing = now.Idle }) op.Collect r true (λ a. cc a.0) (λ a. cc a.0) h.0));
+  disarming = (
+    λ e. absurd (cc e),
+    λ h. absurd (no_wakes (record v { doing = now.Idle }) op.Collect r true (λ a. cc a.0) (λ a. cc a.0) h.0),
+  );
   awake = (λ e. absurd (cc e), λ h. absurd (not_awake v r true h));
 }
 looks v r n false = record {
   nothing = (λ e. (refl, refl, refl), λ h. refl);
   armed = (λ e. absurd (cc e), λ h. absurd (cc h.0));
   asleep = (λ e. absurd (cc e), λ h. absurd (cc h.0));
-  disarming = (λ e. absurd (cc e), λ h. absurd (no_wakes (record v { doing = now.Idle }) op.Collect r false (λ a. cc a.0) (λ a. cc a.0) h.0));
+  disarming = (
+    λ e. absurd (cc e),
+    λ h. absurd (no_wakes (record v { doing = now.Idle }) op.Collect r false (λ a. cc a.0) (λ a. cc a.0) h.0),
+  );
   awake = (λ e. absurd (cc e), λ h. absurd (not_awake v r false h));
 }
 
 -- the second look of an arming; c is EVENT_IDX
 second : (v : DriverView) (r n m : ℕ) (b c : Bool) → v.frame.features.event_idx ≡ c
-    → At (record v { doing = now.Arming }) op.Arm r b (if b then (if c then act.Awake else act.Moved) else act.Armed) (if b then record v { seen = n; shown = true; armed = None; doing = if c then now.Idle else now.Disarming op.Arm } else record v { seen = m; shown = false; doing = now.Idle }).doing
+    → At (record v { doing = now.Arming }) op.Arm r b (if b then (if c then act.Awake else act.Moved) else act.Armed)
+    (if b then record v { seen = n; shown = true; armed = None; doing = if c then now.Idle else now.Disarming op.Arm } else record v
+    { seen = m; shown = false; doing = now.Idle }).doing
 second v r n m false c idx = record {
   nothing = (λ e. absurd (cc e), λ h. absurd (cc h.0));
   armed = (λ e. (refl, refl, refl), λ h. refl);
@@ -102,7 +116,8 @@ second v r n m false c idx = record {
     none (inl a) = cc a.2
     none (inr b) = cc b.0
 
-    awake_not : (Wakes (record v { doing = now.Arming }) op.Arm r false × (v.frame.features.event_idx ≡ true)) ⊎ (now.Arming ≡ now.Disarming op.Arm) ⊎ (op.Arm ≡ op.Disarm) → ⊥
+    awake_not : (Wakes (record v { doing = now.Arming }) op.Arm r false × (v.frame.features.event_idx ≡ true)) ⊎
+        (now.Arming ≡ now.Disarming op.Arm) ⊎ (op.Arm ≡ op.Disarm) → ⊥
     awake_not (inl a) = none a.0
     awake_not (inr (inl b)) = cc b
     awake_not (inr (inr c)) = cc c
@@ -121,14 +136,21 @@ second v r n m true false idx = record {
   awake = (λ e. absurd (cc e), λ h. absurd (awake_not h));
 }
   where
-    awake_not : (Wakes (record v { doing = now.Arming }) op.Arm r true × (v.frame.features.event_idx ≡ true)) ⊎ (now.Arming ≡ now.Disarming op.Arm) ⊎ (op.Arm ≡ op.Disarm) → ⊥
+    awake_not : (Wakes (record v { doing = now.Arming }) op.Arm r true × (v.frame.features.event_idx ≡ true)) ⊎
+        (now.Arming ≡ now.Disarming op.Arm) ⊎ (op.Arm ≡ op.Disarm) → ⊥
     awake_not (inl a) = cc (idx, a.1)
     awake_not (inr (inl b)) = cc b
     awake_not (inr (inr c)) = cc c
 
 -- the load of the other side's bell
 hears : (v : DriverView) (r : ℕ) (more b c : Bool) → (r == v.heard) ≡ b → v.frame.features.event_idx ≡ c
-    → At (record v { doing = now.Idle }) op.Hear r more (if b then act.Asleep else (if c then act.Awake else act.Moved)) (if b then record v { doing = now.Idle } else record v { heard = r; armed = None; doing = if c then now.Idle else now.Disarming op.Hear }).doing
+    → At (record v { doing = now.Idle }) op.Hear r more (if b then act.Asleep else (if c then act.Awake else act.Moved))
+    (if b then record v { doing = now.Idle } else record v {
+      heard = r;
+      armed = None;
+      doing =
+          if c then now.Idle else now.Disarming op.Hear;
+    }).doing
 hears v r more true c eq idx = record {
   nothing = (λ e. absurd (cc e), λ h. absurd (cc h.0));
   armed = (λ e. absurd (cc e), λ h. absurd (cc h.0));
@@ -141,7 +163,8 @@ hears v r more true c eq idx = record {
     none (inl a) = cc a.0
     none (inr b) = b.2 (eqb-true r v.heard eq)
 
-    awake_not : (Wakes (record v { doing = now.Idle }) op.Hear r more × (v.frame.features.event_idx ≡ true)) ⊎ (now.Idle ≡ now.Disarming op.Hear) ⊎ (op.Hear ≡ op.Disarm) → ⊥
+    awake_not : (Wakes (record v { doing = now.Idle }) op.Hear r more × (v.frame.features.event_idx ≡ true)) ⊎
+        (now.Idle ≡ now.Disarming op.Hear) ⊎ (op.Hear ≡ op.Disarm) → ⊥
     awake_not (inl a) = none a.0
     awake_not (inr (inl b)) = cc b
     awake_not (inr (inr c)) = cc c
@@ -160,7 +183,8 @@ hears v r more false false eq idx = record {
   awake = (λ e. absurd (cc e), λ h. absurd (awake_not h));
 }
   where
-    awake_not : (Wakes (record v { doing = now.Idle }) op.Hear r more × (v.frame.features.event_idx ≡ true)) ⊎ (now.Idle ≡ now.Disarming op.Hear) ⊎ (op.Hear ≡ op.Disarm) → ⊥
+    awake_not : (Wakes (record v { doing = now.Idle }) op.Hear r more × (v.frame.features.event_idx ≡ true)) ⊎
+        (now.Idle ≡ now.Disarming op.Hear) ⊎ (op.Hear ≡ op.Disarm) → ⊥
     awake_not (inl a) = cc (idx, a.1)
     awake_not (inr (inl b)) = cc b
     awake_not (inr (inr c)) = cc c
@@ -192,29 +216,49 @@ checked_on old new true = refl
 checked_on old new false = refl
 
 -- a store of an offer, by whether it is the last
-stores_at : (v : DriverView) (puts : List Put) (p x r : ℕ) (more b : Bool) → At (record v { doing = now.Offering puts }) op.Offer r more (if b then act.Offered (length (offers v.done)) else act.Moved) (if b then driver_offers (record v { doing = now.Offering puts }) puts p x else stores (record v { doing = now.Offering puts }) p x (now.Offering (puts ++ put p x ∷ []))).doing
+stores_at : (v : DriverView) (puts : List Put) (p x r : ℕ) (more b : Bool)
+    → At (record v { doing = now.Offering puts }) op.Offer r more (if b then act.Offered (length (offers v.done)) else act.Moved)
+    (if b then driver_offers (record v { doing = now.Offering puts }) puts p x else stores (record v { doing = now.Offering puts }) p x
+    (now.Offering (puts ++ put p x ∷ []))).doing
 stores_at v puts p x r more true =
-    quiet (record v { doing = now.Offering puts }) op.Offer r more (act.Offered (length (offers v.done))) (driver_offers (record v { doing = now.Offering puts }) puts p x).doing refl refl (λ z. cc z.0) (λ z. cc z.0) (λ z. cc z.0) (λ z. cc z) (λ z. cc z)
-stores_at v puts p x r more false = quiet (record v { doing = now.Offering puts }) op.Offer r more act.Moved (now.Offering (puts ++ put p x ∷ [])) refl refl (λ z. cc z.0) (λ z. cc z.0) (λ z. cc z.0) (λ z. cc z) (λ z. cc z)
+    quiet (record v { doing = now.Offering puts }) op.Offer r more (act.Offered (length (offers v.done)))
+    (driver_offers (record v { doing = now.Offering puts }) puts p x).doing refl refl (λ z. cc z.0) (λ z. cc z.0) (λ z. cc z.0)
+    (λ z. cc z) (λ z. cc z)
+stores_at v puts p x r more false =
+    quiet (record v { doing = now.Offering puts }) op.Offer r more act.Moved (now.Offering (puts ++ put p x ∷ [])) refl refl
+    (λ z. cc z.0) (λ z. cc z.0) (λ z. cc z.0) (λ z. cc z) (λ z. cc z)
 
-at : (n : DriverNow) (v : DriverView) (o : Op) (a : Access) (r : ℕ) → DriverNextAt n (record v { doing = n }) o a → At (record v { doing = n }) o r (driver_shows v r) (driver_act_at n (record v { doing = n }) o a r) (driver_after_at n (record v { doing = n }) o a r).doing
-at now.Idle v op.Collect (Load p) r h = looks v r (later v.seen (cpos v.frame v.done)) (driver_shows v r)
-at now.Arming v op.Arm (Load p) r h = second v r (later v.seen (cpos v.frame v.done + 1)) (later v.seen (cpos v.frame v.done)) (driver_shows v r) v.frame.features.event_idx refl
+at : (n : DriverNow) (v : DriverView) (o : Op) (a : Access) (r : ℕ) → DriverNextAt n (record v { doing = n }) o a
+    → At (record v { doing = n }) o r (driver_shows v r) (driver_act_at n (record v { doing = n }) o a r)
+    (driver_after_at n (record v { doing = n }) o a r).doing
+at now.Idle v op.Collect (Load p) r h = looks v r (later v.seen (collect_position v.frame v.done)) (driver_shows v r)
+at now.Arming v op.Arm (Load p) r h =
+    second v r (later v.seen (collect_position v.frame v.done + 1)) (later v.seen (collect_position v.frame v.done))
+    (driver_shows v r) v.frame.features.event_idx refl
 at now.Idle v op.Hear (Load p) r h = hears v r (driver_shows v r) (r == v.heard) v.frame.features.event_idx refl refl
 at (now.Disarming k) v op.Arm (Store p x) r h = wakes v op.Arm k r (driver_shows v r) h.0
 at (now.Disarming k) v op.Hear (Store p x) r h = wakes v op.Hear k r (driver_shows v r) h.0
 at now.Idle v op.Disarm (Store p x) r h = disarms v r (driver_shows v r)
 at now.Idle v op.Disarm (Load p) r h = disarms v r (driver_shows v r)
-at now.Idle v op.Arm (Store p x) r h = quiet (record v { doing = now.Idle }) op.Arm r (driver_shows v r) (act.Moved) (now.Arming) refl refl (λ z. cc z.0) (λ z. cc z.1) (λ z. cc z.0) (λ z. cc z) (λ z. cc z)
-at now.Idle v op.Control (Store p x) r h = quiet (record v { doing = now.Idle }) op.Control r (driver_shows v r) (act.Moved) (now.Idle) refl refl (λ z. cc z.0) (λ z. cc z.0) (λ z. cc z.0) (λ z. cc z) (λ z. cc z)
-at now.Idle v op.Control (Load p) r h = quiet (record v { doing = now.Idle }) op.Control r (driver_shows v r) (act.Moved) (now.Idle) refl refl (λ z. cc z.0) (λ z. cc z.0) (λ z. cc z.0) (λ z. cc z) (λ z. cc z)
-at now.Idle v op.Offer (Store p x) r h = quiet (record v { doing = now.Idle }) op.Offer r (driver_shows v r) (act.Moved) (now.Offering (put p x ∷ [])) refl refl (λ z. cc z.0) (λ z. cc z.0) (λ z. cc z.0) (λ z. cc z) (λ z. cc z)
-at (now.Ringing old new) v op.Offer (Store p x) r h = quiet (record v { doing = now.Ringing old new }) op.Offer r (driver_shows v r) (act.Moved) (now.Idle) refl refl (λ z. cc z.0) (λ z. cc z.0) (λ z. cc z.0) (λ z. cc z) (λ z. cc z)
-at (now.Offering puts) v op.Offer (Store p x) r h = stores_at v puts p x r (driver_shows v r) (p == second_word v.frame.size (opos v.frame v.done))
-at (now.Checking old new) v op.Offer (Load p) r h = quiet (record v { doing = now.Checking old new }) op.Offer r (driver_shows v r) (act.Moved) (if asks v.frame old new r then now.Ringing old new else now.Idle) refl (checked_on old new (asks v.frame old new r)) (λ z. cc z.0) (λ z. cc z.0) (λ z. cc z.0) (λ z. cc z) (λ z. cc z)
+at now.Idle v op.Arm (Store p x) r h = quiet (record v { doing = now.Idle }) op.Arm r (driver_shows v r) (act.Moved)
+    (now.Arming) refl refl (λ z. cc z.0) (λ z. cc z.1) (λ z. cc z.0) (λ z. cc z) (λ z. cc z)
+at now.Idle v op.Control (Store p x) r h = quiet (record v { doing = now.Idle }) op.Control r (driver_shows v r) (act.Moved)
+    (now.Idle) refl refl (λ z. cc z.0) (λ z. cc z.0) (λ z. cc z.0) (λ z. cc z) (λ z. cc z)
+at now.Idle v op.Control (Load p) r h = quiet (record v { doing = now.Idle }) op.Control r (driver_shows v r) (act.Moved)
+    (now.Idle) refl refl (λ z. cc z.0) (λ z. cc z.0) (λ z. cc z.0) (λ z. cc z) (λ z. cc z)
+at now.Idle v op.Offer (Store p x) r h = quiet (record v { doing = now.Idle }) op.Offer r (driver_shows v r) (act.Moved)
+    (now.Offering (put p x ∷ [])) refl refl (λ z. cc z.0) (λ z. cc z.0) (λ z. cc z.0) (λ z. cc z) (λ z. cc z)
+at (now.Ringing old new) v op.Offer (Store p x) r h = quiet (record v { doing = now.Ringing old new }) op.Offer r (driver_shows v r)
+    (act.Moved) (now.Idle) refl refl (λ z. cc z.0) (λ z. cc z.0) (λ z. cc z.0) (λ z. cc z) (λ z. cc z)
+at (now.Offering puts) v op.Offer (Store p x) r h =
+    stores_at v puts p x r (driver_shows v r) (p == second_word v.frame.size (offer_position v.frame v.done))
+at (now.Checking old new) v op.Offer (Load p) r h = quiet (record v { doing = now.Checking old new }) op.Offer r (driver_shows v r)
+    (act.Moved) (if asks v.frame old new r then now.Ringing old new else now.Idle) refl (checked_on old new (asks v.frame old new r))
+    (λ z. cc z.0) (λ z. cc z.0) (λ z. cc z.0) (λ z. cc z) (λ z. cc z)
 at _ v _ _ r h = absurd h
 
-looks_are : (v : DriverView) (o : Op) (a : Access) (r : ℕ) → DriverNextAt v.doing v o a → At v o r (driver_shows v r) (driver_act v o a r) (driver_after v o a r).doing
+looks_are : (v : DriverView) (o : Op) (a : Access) (r : ℕ) → DriverNextAt v.doing v o a
+    → At v o r (driver_shows v r) (driver_act v o a r) (driver_after v o a r).doing
 looks_are v o a r h = at v.doing v o a r h
 
 pub driver_looks : DriverLooks driver_side driver_act driver_shows

@@ -11,10 +11,18 @@ use Rattle.vd_ring.specs.History.{entry, head, given, collected}
 use Rattle.vd_packed_ring.specs.PackedWords.{width, table_of, put, words_of, used_word, event_word, base_at, is_base, is_used, is_available, id_of, len_of}
 use Rattle.vd_packed_ring.specs.PackedChains.{descriptors, described, spelling, publishing, reading, is_whole, chain_of, cursor, loaded_head, staged_chain}
 use Rattle.vd_packed_ring.specs.PackedSignals.{disabled, asks}
-use Rattle.vd_packed_ring.specs.PackedPositions.{opos, upos}
+use Rattle.vd_packed_ring.specs.PackedPositions.{offer_position, give_position}
 
 abbrev ring : ℕ → Bool → Frame
-ring n indirect = record { ring = 0; packed = true; size = n; features = record { indirect = indirect; event_idx = false; in_order = false }; control = false; bounds = None }
+ring n indirect = record {
+  ring = 0;
+  packed = true;
+  size = n;
+  features =
+      record { indirect = indirect; event_idx = false; in_order = false };
+  control = false;
+  bounds = None;
+}
 
 abbrev r : ℕ → ℕ → Piece
 r a l = record { addr = a; len = l; write = false }
@@ -35,7 +43,8 @@ four_with_tables = refl
 
 -- ---- a ring of three places: 0x1000, 0x008100000000000a, 0x2000, 0x0082000000000040
 
-first_chain : described 3 0 (descriptors (ring 3 false) 0 two) ≡ put 0 4096 ∷ put 1 36310271995674634 ∷ put 2 8192 ∷ put 3 36591746972385344 ∷ []
+first_chain : described 3 0 (descriptors (ring 3 false) 0 two) ≡ put 0 4096 ∷ put 1 36310271995674634 ∷ put 2 8192
+    ∷ put 3 36591746972385344 ∷ []
 first_chain = refl
 
 -- the first second word is stored last
@@ -50,7 +59,8 @@ first_given : used_word 3 0 0 10 ≡ 9259963783827161098
 first_given = refl
 
 -- the second chain has id 1 and goes round the end: 0x1000, 0x008100010000000a, 0x2000, 0x8002000100000040
-second_chain : described 3 2 (descriptors (ring 3 false) 1 two) ≡ put 4 4096 ∷ put 5 36310276290641930 ∷ put 0 8192 ∷ put 1 9223934991103164480 ∷ []
+second_chain : described 3 2 (descriptors (ring 3 false) 1 two) ≡ put 4 4096 ∷ put 5 36310276290641930 ∷ put 0 8192
+    ∷ put 1 9223934991103164480 ∷ []
 second_chain = refl
 
 -- given: 0x808200010000000a
@@ -60,7 +70,7 @@ second_given = refl
 second_head : head (ring 3 false) (Offer two ∷ Collect (entry 0 10 ∷ []) ∷ Offer two ∷ []) 1 ≡ 1
 second_head = refl
 
-positions : opos (ring 3 false) (Offer two ∷ Collect (entry 0 10 ∷ []) ∷ Offer two ∷ []) ≡ 4
+positions : offer_position (ring 3 false) (Offer two ∷ Collect (entry 0 10 ∷ []) ∷ Offer two ∷ []) ≡ 4
 positions = refl
 
 -- ---- a chain of one piece, offered first: 0x008000000000000a; given with length 0: 0x8080000000000000
@@ -144,7 +154,7 @@ gives_first = refl
 collects_first : collected (ring 3 false) (Offer two ∷ []) (id_of 9259963783827161098) (len_of 9259963783827161098) ≡ entry 0 10 ∷ []
 collects_first = refl
 
-gives_past : upos (ring 3 false) (Give (entry 0 10 ∷ []) ∷ Take two 0 ∷ []) ≡ 2
+gives_past : give_position (ring 3 false) (Give (entry 0 10 ∷ []) ∷ Take two 0 ∷ []) ≡ 2
 gives_past = refl
 
 -- ---- a table of a ring of four, head 3: its descriptor names word 106 by the address 848, 32 bytes, INDIRECT

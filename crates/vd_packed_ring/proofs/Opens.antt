@@ -50,11 +50,26 @@ opens f l =
         in_order = λ on j a. absurd (omega arith);
       };
       short = All-nil (λ u. u.len < 4294967296);
-      driver_signals = record { flags = λ off. inl (zeros n (driver_event f) (omega (arith, areas f))); names = λ on. inl (zeros n (driver_event f) (omega (arith, areas f))); enable = λ s a off. absurd cc; event = λ s a on. absurd cc; bell = zeros n (kick_at f) (omega arith) };
-      device_signals = record { flags = λ off. inl (zeros n (device_event f) (omega (arith, areas f))); names = λ on. inl (zeros n (device_event f) (omega (arith, areas f))); enable = λ s a off. absurd cc; event = λ s a on. absurd cc; bell = zeros n (call_at f) (omega arith) };
+      driver_signals = record {
+        flags = λ off. inl (zeros n (driver_event f) (omega (arith, areas f)));
+        names =
+            λ on. inl (zeros n (driver_event f) (omega (arith, areas f)));
+        enable = λ s a off. absurd cc;
+        event = λ s a on. absurd cc;
+        bell = zeros n (kick_at f) (omega arith);
+      };
+      device_signals = record {
+        flags = λ off. inl (zeros n (device_event f) (omega (arith, areas f)));
+        names =
+            λ on. inl (zeros n (device_event f) (omega (arith, areas f)));
+        enable = λ s a off. absurd cc;
+        event = λ s a on. absurd cc;
+        bell = zeros n (call_at f) (omega arith);
+      };
       commands = record {
         chains = λ on k a. absurd (omega arith);
-        last = λ on h i low two. zeros n (command_word f h + i) (drivers_inside f (command_word f h + i) (command_drivers f h i on low two));
+        last = λ on h i low two. zeros n (command_word f h + i)
+            (drivers_inside f (command_word f h + i) (command_drivers f h i on low two));
         stand = λ on k i a two. absurd (omega arith);
       };
       acks = record {

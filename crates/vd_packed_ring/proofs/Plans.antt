@@ -42,9 +42,14 @@ is_next ps s pl e =
     record {
       left = elim (cases_lt k (length pl)) [
         | inl h ↦ h
-        | inr h ↦ absurd (omega (arith, ap (λ (l : List Put). length l) both, ap (λ (l : List Put). length l) (take_all (k + 1) pl (omega arith))))
+        | inr h ↦ absurd (omega (
+          arith,
+          ap (λ (l : List Put). length l) both,
+          ap (λ (l : List Put). length l) (take_all (k + 1) pl (omega arith)),
+        ))
       ];
-      before = sym (take-append-le k ps (s ∷ []) (omega arith) ∙ take_all k ps (omega arith)) ∙ ap (take k) both ∙ take-take k (k + 1) pl (omega arith);
+      before = sym (take-append-le k ps (s ∷ []) (omega arith) ∙ take_all k ps (omega arith)) ∙ ap (take k) both
+          ∙ take-take k (k + 1) pl (omega arith);
       is = sym (get_or_push ps s (put 0 0) k refl) ∙ ap (λ (l : List Put). at l k) both ∙ get_or-take (k + 1) pl k (put 0 0) (omega arith);
     }
 
@@ -71,9 +76,21 @@ pub described_within : (n q : ℕ) (ds : List Descriptor) → All (λ s. IsWithi
 described_within n q [] = All-nil (λ s. IsWithin n q 0 s.place)
 described_within n q (d ∷ ds) =
     let P : Put → Type 0 = λ s. IsWithin n q (suc (length ds)) s.place in
-    All-cons P (put (addr_word n q) d.addr) (put (second_word n q) (avail_word n q d) ∷ described n (q + 1) ds) record { position = q; least = omega arith; most = omega arith; place = inl refl }
-    (All-cons P (put (second_word n q) (avail_word n q d)) (described n (q + 1) ds) record { position = q; least = omega arith; most = omega arith; place = inr refl }
-    (all_are (λ s. IsWithin n (q + 1) (length ds) s.place) P (described n (q + 1) ds) (λ s w. within_next n q (length ds) s.place w) (described_within n (q + 1) ds)))
+    All-cons P (put (addr_word n q) d.addr) (put (second_word n q) (avail_word n q d) ∷ described n (q + 1) ds) record {
+      position = q;
+      least = omega arith;
+      most = omega arith;
+      place = inl refl;
+    }
+    (All-cons P (put (second_word n q) (avail_word n q d)) (described n (q + 1) ds) record {
+      position = q;
+      least = omega arith;
+      most =
+          omega arith;
+      place = inr refl;
+    }
+    (all_are (λ s. IsWithin n (q + 1) (length ds) s.place) P (described n (q + 1) ds) (λ s w. within_next n q (length ds) s.place w)
+    (described_within n (q + 1) ds)))
 
 stored_from : (n q d p : ℕ) → IsWithin n (q + 1) d p → IsStored n q (suc d) p
 stored_from n q d p w = record {
@@ -87,43 +104,68 @@ pub staged_stored : (n q : ℕ) (ds : List Descriptor) → All (λ s. IsStored n
 staged_stored n q [] = All-nil (λ s. IsStored n q 0 s.place)
 staged_stored n q (d ∷ ds) =
     let P : Put → Type 0 = λ s. IsStored n q (suc (length ds)) s.place in
-    All-cons P (put (addr_word n q) d.addr) (described n (q + 1) ds) record { position = q; least = omega arith; most = omega arith; place = inl refl }
-    (all_are (λ s. IsWithin n (q + 1) (length ds) s.place) P (described n (q + 1) ds) (λ s w. stored_from n q (length ds) s.place w) (described_within n (q + 1) ds))
+    All-cons P (put (addr_word n q) d.addr) (described n (q + 1) ds) record {
+      position = q;
+      least = omega arith;
+      most = omega arith;
+      place = inl refl;
+    }
+    (all_are (λ s. IsWithin n (q + 1) (length ds) s.place) P (described n (q + 1) ds) (λ s w. stored_from n q (length ds) s.place w)
+    (described_within n (q + 1) ds))
 
 pub within_from : (n q d p : ℕ) → IsStored n q d p → IsWithin n q d p
-within_from n q d p s = record { position = s.position; least = s.least; most = s.most; place = elim s.place [ inl a ↦ inl a | inr a ↦ inr a.0 ] }
+within_from n q d p s = record {
+  position = s.position;
+  least = s.least;
+  most = s.most;
+  place =
+      elim s.place [ inl a ↦ inl a | inr a ↦ inr a.0 ];
+}
 
 -- such a word is apart from those of another position of a window
-pub within_apart : (n low q d p r half : ℕ) → 0 < n → half < 2 → low ≤ q → q + d ≤ low + n → low ≤ r → r < low + n → ((r < q) ⊎ (q + d ≤ r)) → IsWithin n q d p → p ≢ 2 * (r % n) + half
+pub within_apart : (n low q d p r half : ℕ) → 0 < n → half < 2 → low ≤ q → q + d ≤ low + n → low ≤ r → r < low + n
+    → ((r < q) ⊎ (q + d ≤ r)) → IsWithin n q d p → p ≢ 2 * (r % n) + half
 within_apart n low q d p r half pos two a b c e out w = λ is.
-    let ne : w.position ≢ r = elim out [ inl h ↦ (λ (x : w.position ≡ r). omega (arith, w.least)) | inr h ↦ (λ (x : w.position ≡ r). omega (arith, w.most)) ] in
-    window_differ n low w.position r pos (omega (arith, w.least)) (omega (arith, w.most)) c e ne (elim w.place [ inl h ↦ omega (arith, h) | inr h ↦ omega (arith, h) ])
+    let ne : w.position ≢ r = elim out [
+      | inl h ↦ (λ (x : w.position ≡ r). omega (arith, w.least))
+      | inr h ↦
+          (λ (x : w.position ≡ r). omega (arith, w.most))
+    ] in
+    window_differ n low w.position r pos (omega (arith, w.least)) (omega (arith, w.most)) c e ne
+    (elim w.place [ inl h ↦ omega (arith, h) | inr h ↦ omega (arith, h) ])
 
 -- ---- each word of a chain has a place of its own
 
 abbrev IsApart : ℕ → Put → Type 0
 IsApart q s = s.place ≢ q
 
-pub described_before : (n q : ℕ) (ds : List Descriptor) (k : ℕ) → 0 < n → length ds ≤ n → k < length (described n q ds) → All (λ s. s.place ≢ (at (described n q ds) k).place) (take k (described n q ds))
+pub described_before : (n q : ℕ) (ds : List Descriptor) (k : ℕ) → 0 < n → length ds ≤ n → k < length (described n q ds)
+    → All (λ s. s.place ≢ (at (described n q ds) k).place) (take k (described n q ds))
 described_before n q [] k pos few h = absurd (omega arith)
 described_before n q (d ∷ ds) zero pos few h = All-nil (IsApart (addr_word n q))
-described_before n q (d ∷ ds) (suc zero) pos few h = All-cons (IsApart (second_word n q)) (put (addr_word n q) d.addr) [] (λ e. let a : 2 * (q % n) ≡ 2 * (q % n) + 1 = e in omega arith) (All-nil (IsApart (second_word n q)))
+described_before n q (d ∷ ds) (suc zero) pos few h =
+    All-cons (IsApart (second_word n q)) (put (addr_word n q) d.addr) [] (λ e. let a : 2 * (q % n) ≡ 2 * (q % n) + 1 = e in omega arith)
+    (All-nil (IsApart (second_word n q)))
 described_before n q (d ∷ ds) (suc (suc k)) pos few h =
     let p : ℕ = (at (described n (q + 1) ds) k).place in
     let w : IsWithin n (q + 1) (length ds) p = described_within n (q + 1) ds k (put 0 0) (omega arith) in
-    let first = λ (half : ℕ) (two : half < 2). within_apart n q (q + 1) (length ds) p q half pos two (omega arith) (omega arith) (omega arith) (omega arith) (inl (omega arith)) w in
-    All-cons (IsApart p) (put (addr_word n q) d.addr) (put (second_word n q) (avail_word n q d) ∷ take k (described n (q + 1) ds)) (λ e. first 0 (omega arith) (sym e ∙ omega arith))
+    let first = λ (half : ℕ) (two : half < 2). within_apart n q (q + 1) (length ds) p q half pos two (omega arith) (omega arith)
+    (omega arith) (omega arith) (inl (omega arith)) w in
+    All-cons (IsApart p) (put (addr_word n q) d.addr) (put (second_word n q) (avail_word n q d) ∷ take k (described n (q + 1) ds))
+    (λ e. first 0 (omega arith) (sym e ∙ omega arith))
     (All-cons (IsApart p) (put (second_word n q) (avail_word n q d)) (take k (described n (q + 1) ds)) (λ e. first 1 (omega arith) (sym e))
     (described_before n (q + 1) ds k pos (omega arith) (omega arith)))
 
-pub staged_before : (n q : ℕ) (ds : List Descriptor) (k : ℕ) → 0 < n → length ds ≤ n → k < length (staged n q ds) → All (λ s. s.place ≢ (at (staged n q ds) k).place) (take k (staged n q ds))
+pub staged_before : (n q : ℕ) (ds : List Descriptor) (k : ℕ) → 0 < n → length ds ≤ n → k < length (staged n q ds)
+    → All (λ s. s.place ≢ (at (staged n q ds) k).place) (take k (staged n q ds))
 staged_before n q [] k pos few h = absurd (omega arith)
 staged_before n q (d ∷ ds) zero pos few h = All-nil (IsApart (addr_word n q))
 staged_before n q (d ∷ ds) (suc k) pos few h =
     let p : ℕ = (at (described n (q + 1) ds) k).place in
     let w : IsWithin n (q + 1) (length ds) p = described_within n (q + 1) ds k (put 0 0) (omega arith) in
     All-cons (IsApart p) (put (addr_word n q) d.addr) (take k (described n (q + 1) ds))
-    (λ e. within_apart n q (q + 1) (length ds) p q 0 pos (omega arith) (omega arith) (omega arith) (omega arith) (omega arith) (inl (omega arith)) w (sym e ∙ omega arith))
+    (λ e. within_apart n q (q + 1) (length ds) p q 0 pos (omega arith) (omega arith) (omega arith) (omega arith) (omega arith)
+    (inl (omega arith)) w (sym e ∙ omega arith))
     (described_before n (q + 1) ds k pos (omega arith) (omega arith))
 
 -- ---- words that stand
@@ -135,32 +177,44 @@ pub stand_other : (ws : List ℕ) (ss : List Put) (q x : ℕ) → Stand ws ss �
 stand_other ws ss q x stand apart = λ k d h. get_or-set_other ws q (slice_index_or ss k d).place x 0 (apart k d h) ∙ stand k d h
 
 pub described_stand : (ws : List ℕ) (n q : ℕ) (ds : List Descriptor) (j : ℕ) → j < length ds → Stand ws (described n q ds)
-    → (slice_index ws (addr_word n (q + j)) ≡ (slice_index_or ds j blank).addr) × (slice_index ws (second_word n (q + j)) ≡ avail_word n (q + j) (slice_index_or ds j blank))
+    → (slice_index ws (addr_word n (q + j)) ≡ (slice_index_or ds j blank).addr)
+    × (slice_index ws (second_word n (q + j)) ≡ avail_word n (q + j) (slice_index_or ds j blank))
 described_stand ws n q [] j h stand = absurd (omega arith)
 described_stand ws n q (d ∷ ds) zero h stand =
-    let rest = All-tail (Stands ws) (put (addr_word n q) d.addr) (put (second_word n q) (avail_word n q d) ∷ described n (q + 1) ds) stand in
+    let rest = All-tail (Stands ws) (put (addr_word n q) d.addr) (put (second_word n q) (avail_word n q d) ∷ described n (q + 1) ds)
+    stand in
     let e : q ≡ q + 0 = omega arith in
-    subst (λ (r : ℕ). (slice_index ws (addr_word n r) ≡ d.addr) × (slice_index ws (second_word n r) ≡ avail_word n r d)) e
-    (All-head (Stands ws) (put (addr_word n q) d.addr) (put (second_word n q) (avail_word n q d) ∷ described n (q + 1) ds) stand, All-head (Stands ws) (put (second_word n q) (avail_word n q d)) (described n (q + 1) ds) rest)
+    subst (λ (r : ℕ). (slice_index ws (addr_word n r) ≡ d.addr) × (slice_index ws (second_word n r) ≡ avail_word n r d)) e (
+      All-head (Stands ws) (put (addr_word n q) d.addr) (put (second_word n q) (avail_word n q d) ∷ described n (q + 1) ds) stand,
+      All-head (Stands ws) (put (second_word n q) (avail_word n q d)) (described n (q + 1) ds) rest,
+    )
 described_stand ws n q (d ∷ ds) (suc j) h stand =
-    let rest = All-tail (Stands ws) (put (addr_word n q) d.addr) (put (second_word n q) (avail_word n q d) ∷ described n (q + 1) ds) stand in
+    let rest = All-tail (Stands ws) (put (addr_word n q) d.addr) (put (second_word n q) (avail_word n q d) ∷ described n (q + 1) ds)
+    stand in
     let rest2 = All-tail (Stands ws) (put (second_word n q) (avail_word n q d)) (described n (q + 1) ds) rest in
     let e : q + 1 + j ≡ q + suc j = omega arith in
-    subst (λ (r : ℕ). (slice_index ws (addr_word n r) ≡ (slice_index_or ds j blank).addr) × (slice_index ws (second_word n r) ≡ avail_word n r (slice_index_or ds j blank))) e
+    subst (λ (r : ℕ). (slice_index ws (addr_word n r) ≡ (slice_index_or ds j blank).addr)
+    × (slice_index ws (second_word n r) ≡ avail_word n r (slice_index_or ds j blank))) e
     (described_stand ws n (q + 1) ds j (omega arith) rest2)
 
 pub described_from : (ws : List ℕ) (n q : ℕ) (ds : List Descriptor)
-    → ((j : ℕ) → j < length ds → (slice_index ws (addr_word n (q + j)) ≡ (slice_index_or ds j blank).addr) × (slice_index ws (second_word n (q + j)) ≡ avail_word n (q + j) (slice_index_or ds j blank)))
+    → ((j : ℕ) → j < length ds → (slice_index ws (addr_word n (q + j)) ≡ (slice_index_or ds j blank).addr)
+    × (slice_index ws (second_word n (q + j)) ≡ avail_word n (q + j) (slice_index_or ds j blank)))
     → Stand ws (described n q ds)
 described_from ws n q [] at_each = All-nil (Stands ws)
 described_from ws n q (d ∷ ds) at_each =
-    let first = subst (λ (r : ℕ). (slice_index ws (addr_word n r) ≡ d.addr) × (slice_index ws (second_word n r) ≡ avail_word n r d)) (let e : q + 0 ≡ q = omega arith in e) (at_each 0 (omega arith)) in
+    let first = subst (λ (r : ℕ). (slice_index ws (addr_word n r) ≡ d.addr) × (slice_index ws (second_word n r) ≡ avail_word n r d))
+    (let e : q + 0 ≡ q = omega arith in e) (at_each 0 (omega arith)) in
     All-cons (Stands ws) (put (addr_word n q) d.addr) (put (second_word n q) (avail_word n q d) ∷ described n (q + 1) ds) first.0
     (All-cons (Stands ws) (put (second_word n q) (avail_word n q d)) (described n (q + 1) ds) first.1
-    (described_from ws n (q + 1) ds (λ j h. subst (λ (r : ℕ). (slice_index ws (addr_word n r) ≡ (slice_index_or ds j blank).addr) × (slice_index ws (second_word n r) ≡ avail_word n r (slice_index_or ds j blank))) (let e : q + suc j ≡ q + 1 + j = omega arith in e) (at_each (suc j) (omega arith)))))
+    (described_from ws n (q + 1) ds
+    (λ j h. subst (λ (r : ℕ). (slice_index ws (addr_word n r) ≡ (slice_index_or ds j blank).addr)
+    × (slice_index ws (second_word n r) ≡ avail_word n r (slice_index_or ds j blank))) (let e : q + suc j ≡ q + 1 + j =
+    omega arith in e) (at_each (suc j) (omega arith)))))
 
 -- all stores of an offer, the last included, are the chain's descriptors
-pub staged_all : (ws : List ℕ) (n q : ℕ) (ds : List Descriptor) → Stand ws (staged n q ds ++ publishing n q ds ∷ []) → Stand ws (described n q ds)
+pub staged_all : (ws : List ℕ) (n q : ℕ) (ds : List Descriptor) → Stand ws (staged n q ds ++ publishing n q ds ∷ [])
+    → Stand ws (described n q ds)
 staged_all ws n q [] stand = All-nil (Stands ws)
 staged_all ws n q (d ∷ ds) stand =
     let rest = All-tail (Stands ws) (put (addr_word n q) d.addr) (described n (q + 1) ds ++ publishing n q (d ∷ ds) ∷ []) stand in
@@ -176,10 +230,13 @@ publishing_within n q ds some = record { position = q; least = omega arith; most
 
 -- and at no place of the others
 pub publishing_apart : (n q : ℕ) (ds : List Descriptor) → 0 < n → length ds ≤ n → IsClear (staged n q ds) (second_word n q)
-publishing_apart n q ds pos few = all_are (λ s. IsStored n q (length ds) s.place) (IsApart (second_word n q)) (staged n q ds) (λ s w. differs s.place w) (staged_stored n q ds)
+publishing_apart n q ds pos few = all_are (λ s. IsStored n q (length ds) s.place) (IsApart (second_word n q)) (staged n q ds)
+    (λ s w. differs s.place w) (staged_stored n q ds)
   where
     differs : (p : ℕ) → IsStored n q (length ds) p → p ≢ second_word n q
     differs p w = elim w.place [
       | inl a ↦ (λ (e : p ≡ second_word n q). let b : p ≡ 2 * (w.position % n) = a in let c : p ≡ 2 * (q % n) + 1 = e in omega arith)
-      | inr a ↦ (λ (e : p ≡ second_word n q). window_differ n q w.position q pos w.least (omega (arith, w.most)) (omega arith) (omega arith) (λ (x : w.position ≡ q). omega (arith, a.1)) (let b : p ≡ 2 * (w.position % n) + 1 = a.0 in let c : p ≡ 2 * (q % n) + 1 = e in omega arith))
+      | inr a ↦ (λ (e : p ≡ second_word n q). window_differ n q w.position q pos w.least (omega (arith, w.most)) (omega arith)
+          (omega arith) (λ (x : w.position ≡ q). omega (arith, a.1)) (let b : p ≡ 2 * (w.position % n) + 1 = a.0 in
+          let c : p ≡ 2 * (q % n) + 1 = e in omega arith))
     ]

@@ -31,25 +31,30 @@ standing_word at (w ∷ ws) (suc k) h = standing_word (at + 1) ws k (omega arith
 
 -- the same where past the last word stands another
 pub standing_place : (at : ℕ) (ws : List ℕ) (k : ℕ) (d : Put) → k < length ws → (slice_index_or (standing at ws) k d).place ≡ at + k
-standing_place at ws k d h = ap (λ (s : Put). s.place) (sym (get_or_default (standing at ws) k (put 0 0) d (omega (arith, length_standing at ws)))) ∙ standing_at at ws k h
+standing_place at ws k d h = ap (λ (s : Put). s.place)
+    (sym (get_or_default (standing at ws) k (put 0 0) d (omega (arith, length_standing at ws)))) ∙ standing_at at ws k h
 
 pub words_standing : (at : ℕ) (ws : List ℕ) → words_of (standing at ws) ≡ ws
 words_standing at [] = refl
 words_standing at (w ∷ ws) = ap (λ (us : List ℕ). w ∷ us) (words_standing (at + 1) ws)
 
 -- they stand at different places
-pub standing_differs : (at : ℕ) (ws : List ℕ) (k : ℕ) → k < length (standing at ws) → IsClear (take k (standing at ws)) (slice_index_or (standing at ws) k (put 0 0)).place
+pub standing_differs : (at : ℕ) (ws : List ℕ) (k : ℕ) → k < length (standing at ws)
+    → IsClear (take k (standing at ws)) (slice_index_or (standing at ws) k (put 0 0)).place
 standing_differs at ws k below = λ j d h e.
     let long = length_standing at ws in
     let low : j < k = omega (arith, h, length-take-le k (standing at ws) (omega arith)) in
-    let here : (slice_index_or (take k (standing at ws)) j d).place ≡ at + j = ap (λ (s : Put). s.place) (get_or-take k (standing at ws) j d low) ∙ standing_place at ws j d (omega arith) in
+    let here : (slice_index_or (take k (standing at ws)) j d).place ≡ at + j =
+    ap (λ (s : Put). s.place) (get_or-take k (standing at ws) j d low) ∙ standing_place at ws j d (omega arith) in
     omega (arith, here, e, standing_at at ws k (omega arith))
 
 -- where they stand among the words, those words are they
-pub standing_stands : (all : List ℕ) (at : ℕ) (ws : List ℕ) → at + length ws ≤ length all → Stand all (standing at ws) → take (length ws) (drop at all) ≡ ws
+pub standing_stands : (all : List ℕ) (at : ℕ) (ws : List ℕ) → at + length ws ≤ length all → Stand all (standing at ws)
+    → take (length ws) (drop at all) ≡ ws
 standing_stands all at [] inside stand = refl
 standing_stands all at (w ∷ ws) inside stand =
-    let rest : take (length ws) (drop (at + 1) all) ≡ ws = standing_stands all (at + 1) ws (omega arith) (λ k d h. stand (suc k) d (omega arith)) in
+    let rest : take (length ws) (drop (at + 1) all) ≡ ws =
+    standing_stands all (at + 1) ws (omega arith) (λ k d h. stand (suc k) d (omega arith)) in
     let next : suc at ≡ at + 1 = omega arith in
     ap (λ (us : List ℕ). take (suc (length ws)) us) (drop-cons all at 0 (omega arith))
     ∙ ap (λ (us : List ℕ). slice_index all at ∷ take (length ws) us) (ap (λ n. drop n all) next)
@@ -61,7 +66,8 @@ standing_stands all at (w ∷ ws) inside stand =
 pub length_tabled : (t : ℕ) (c : List Piece) → length (standing t (table_words Packed c)) ≡ 2 * length c
 length_tabled t c = length_standing t (table_words Packed c) ∙ length-words_from Packed 0 c
 
-pub tabled_place : (t : ℕ) (c : List Piece) (k : ℕ) → k < length (standing t (table_words Packed c)) → (slice_index_or (standing t (table_words Packed c)) k (put 0 0)).place ≡ t + k
+pub tabled_place : (t : ℕ) (c : List Piece) (k : ℕ) → k < length (standing t (table_words Packed c))
+    → (slice_index_or (standing t (table_words Packed c)) k (put 0 0)).place ≡ t + k
 tabled_place t c k h = standing_at t (table_words Packed c) k (omega (arith, length_standing t (table_words Packed c)))
 
 abbrev piece : ℕ → ℕ → Bool → Piece
@@ -90,7 +96,8 @@ table_piece x more place is =
 back_from : (place : ℕ) (c : List Piece) → All IsPiece c → pieces_of (words_from Packed place c) ≡ c
 back_from place [] ok = refl
 back_from place (x ∷ c) ok =
-    ap₂ (λ (y : Piece) (l : List Piece). y ∷ l) (table_piece x (is_more c) place (All-head IsPiece x c ok)) (back_from (place + 1) c (All-tail IsPiece x c ok))
+    ap₂ (λ (y : Piece) (l : List Piece). y ∷ l) (table_piece x (is_more c) place (All-head IsPiece x c ok))
+    (back_from (place + 1) c (All-tail IsPiece x c ok))
 
 -- they spell the chain
 pub tabled_back : (t : ℕ) (c : List Piece) → All IsPiece c → pieces_of (words_of (standing t (table_words Packed c))) ≡ c

@@ -48,7 +48,8 @@ write_low l = either (nat_lt 0 l)
     either false = omega arith
 
 -- AVAIL and USED in a word
-pub avail_bits : (n q : ℕ) (d : Descriptor) → Fits d → ((flags_of (avail_word n q d) / 128) % 2 ≡ wrap_bit n q) × ((flags_of (avail_word n q d) / 32768) % 2 ≡ other_bit n q)
+pub avail_bits : (n q : ℕ) (d : Descriptor) → Fits d → ((flags_of (avail_word n q d) / 128) % 2 ≡ wrap_bit n q)
+    × ((flags_of (avail_word n q d) / 32768) % 2 ≡ other_bit n q)
 avail_bits n q d ok =
     let g = flags_back d.len d.id (d.flags + 128 * wrap_bit n q + 32768 * other_bit n q) ok.len ok.id in
     let b = low_bits d.flags (wrap_bit n q) (other_bit n q) ok.flags (omega arith) (omega arith) in
@@ -82,13 +83,24 @@ pub avail_shows : (n q : ℕ) (d : Descriptor) → Fits d → is_available n q (
 avail_shows n q d ok = let b = avail_bits n q d ok in both _ _ _ _ b.0 b.1
 
 pub avail_next : (n q : ℕ) (d : Descriptor) → 0 < n → Fits d → is_available n (q + n) (avail_word n q d) ≡ false
-avail_next n q d pos ok = let b = avail_bits n q d ok in off_first _ _ _ _ (apart _ _ (wrap_bit n q) b.0 (λ (e : wrap_bit n q ≡ wrap_bit n (q + n)). omega (arith, next_wrap n q pos, both_bits n q)))
+avail_next n q d pos ok = let b = avail_bits n q d ok in
+    off_first _ _ _ _ (apart _ _ (wrap_bit n q) b.0 (λ (e : wrap_bit n q ≡ wrap_bit n (q + n)). omega (
+      arith,
+      next_wrap n q pos,
+      both_bits n q,
+    )))
 
 pub avail_unused : (n q : ℕ) (d : Descriptor) → Fits d → is_used n q (avail_word n q d) ≡ false
-avail_unused n q d ok = let b = avail_bits n q d ok in off_last _ _ _ _ (apart _ _ (other_bit n q) b.1 (λ (e : other_bit n q ≡ wrap_bit n q). omega (arith, both_bits n q)))
+avail_unused n q d ok = let b = avail_bits n q d ok in
+    off_last _ _ _ _ (apart _ _ (other_bit n q) b.1 (λ (e : other_bit n q ≡ wrap_bit n q). omega (arith, both_bits n q)))
 
 pub avail_unused_next : (n q : ℕ) (d : Descriptor) → 0 < n → Fits d → is_used n (q + n) (avail_word n q d) ≡ false
-avail_unused_next n q d pos ok = let b = avail_bits n q d ok in off_first _ _ _ _ (apart _ _ (wrap_bit n q) b.0 (λ (e : wrap_bit n q ≡ wrap_bit n (q + n)). omega (arith, next_wrap n q pos, both_bits n q)))
+avail_unused_next n q d pos ok = let b = avail_bits n q d ok in
+    off_first _ _ _ _ (apart _ _ (wrap_bit n q) b.0 (λ (e : wrap_bit n q ≡ wrap_bit n (q + n)). omega (
+      arith,
+      next_wrap n q pos,
+      both_bits n q,
+    )))
 
 -- ---- what is given shows as used in its turn and not in the next, and as available in neither
 
@@ -96,10 +108,20 @@ pub used_shows : (n q i l : ℕ) → i < 65536 → l < 4294967296 → is_used n 
 used_shows n q i l hi hl = let b = used_bits n q i l hi hl in both _ _ _ _ b.0 b.1
 
 pub used_next : (n q i l : ℕ) → 0 < n → i < 65536 → l < 4294967296 → is_used n (q + n) (used_word n q i l) ≡ false
-used_next n q i l pos hi hl = let b = used_bits n q i l hi hl in off_first _ _ _ _ (apart _ _ (wrap_bit n q) b.0 (λ (e : wrap_bit n q ≡ wrap_bit n (q + n)). omega (arith, next_wrap n q pos, both_bits n q)))
+used_next n q i l pos hi hl = let b = used_bits n q i l hi hl in
+    off_first _ _ _ _ (apart _ _ (wrap_bit n q) b.0 (λ (e : wrap_bit n q ≡ wrap_bit n (q + n)). omega (
+      arith,
+      next_wrap n q pos,
+      both_bits n q,
+    )))
 
 pub used_unavailable : (n q i l : ℕ) → 0 < n → i < 65536 → l < 4294967296 → is_available n (q + n) (used_word n q i l) ≡ false
-used_unavailable n q i l pos hi hl = let b = used_bits n q i l hi hl in off_first _ _ _ _ (apart _ _ (wrap_bit n q) b.0 (λ (e : wrap_bit n q ≡ wrap_bit n (q + n)). omega (arith, next_wrap n q pos, both_bits n q)))
+used_unavailable n q i l pos hi hl = let b = used_bits n q i l hi hl in
+    off_first _ _ _ _ (apart _ _ (wrap_bit n q) b.0 (λ (e : wrap_bit n q ≡ wrap_bit n (q + n)). omega (
+      arith,
+      next_wrap n q pos,
+      both_bits n q,
+    )))
 
 -- ---- a word of 0 is never available, and not used in the first turn
 
@@ -149,9 +171,11 @@ half : (g a b : ℕ) → a ≤ 1 → g ≡ a + 2 * b → g / 2 ≡ b
 half g a b h e = omega arith
 
 -- NEXT and WRITE of a piece
-pub avail_flags : (n q : ℕ) (d : Descriptor) (more write : Bool) → Fits d → d.flags ≡ bit more + write_bit write → (goes_on (avail_word n q d) ≡ more) × (is_write (avail_word n q d) ≡ write)
+pub avail_flags : (n q : ℕ) (d : Descriptor) (more write : Bool) → Fits d → d.flags ≡ bit more + write_bit write
+    → (goes_on (avail_word n q d) ≡ more) × (is_write (avail_word n q d) ≡ write)
 avail_flags n q d more write ok e =
-    let g : flags_of (avail_word n q d) ≡ d.flags + 128 * wrap_bit n q + 32768 * other_bit n q = flags_back d.len d.id (d.flags + 128 * wrap_bit n q + 32768 * other_bit n q) ok.len ok.id in
+    let g : flags_of (avail_word n q d) ≡ d.flags + 128 * wrap_bit n q + 32768 * other_bit n q =
+    flags_back d.len d.id (d.flags + 128 * wrap_bit n q + 32768 * other_bit n q) ok.len ok.id in
     let k : ℕ = bit write + 64 * wrap_bit n q + 16384 * other_bit n q in
     let whole : flags_of (avail_word n q d) ≡ bit more + 2 * k = omega (arith, write_twice write) in (
       odd_bit more _ k whole,

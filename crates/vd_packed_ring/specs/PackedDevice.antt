@@ -24,7 +24,7 @@ use Rattle.vd_ring.specs.Control.{IsControlChain, LoadsCommand, StoresAck}
 use Rattle.vd_packed_ring.specs.PackedWords.{IsDevices, IsDescriptors, driver_event, device_event, commands_from, acks_from, kick_at, call_at, command_word, ack_word, second_word, len_of, id_of, is_available, used_word, words_of}
 use Rattle.vd_packed_ring.specs.PackedChains.{reading, loaded_head, is_whole, chain_of, cursor}
 use Rattle.vd_packed_ring.specs.PackedSignals.{asks, IsArmed, StoresEvent, StoresDisable, StoresBell, LoadsBell}
-use Rattle.vd_packed_ring.specs.PackedPositions.{tpos, upos, later}
+use Rattle.vd_packed_ring.specs.PackedPositions.{take_position, give_position, later}
 
 -- ---- the conditions
 
@@ -40,19 +40,19 @@ pub record Returns (f : Frame) (s : List DeviceDone) (p x : ℕ) : Type 0 where
   pub next : MayReturn f (chain_at (takes s)) (length (gives s)) number
   pub len : ℕ
   pub small : len < 4294967296
-  pub place : p ≡ second_word f.size (upos f s)
-  pub word : x ≡ used_word f.size (upos f s) (taken_head s number) len
+  pub place : p ≡ second_word f.size (give_position f s)
+  pub word : x ≡ used_word f.size (give_position f s) (taken_head s number) len
 
 -- ---- next
 
 abbrev pub DeviceNextAt : DeviceNow → DeviceView → Op → Access → Type 0
-DeviceNextAt Idle v op.Take (Load p) = (v.armed ≡ None) × (p ≡ second_word v.frame.size (tpos v.frame v.done))
-DeviceNextAt (Taking (w ∷ ws)) v op.Take (Load p) = LoadsChain v.frame (tpos v.frame v.done) (w ∷ ws) p
+DeviceNextAt Idle v op.Take (Load p) = (v.armed ≡ None) × (p ≡ second_word v.frame.size (take_position v.frame v.done))
+DeviceNextAt (Taking (w ∷ ws)) v op.Take (Load p) = LoadsChain v.frame (take_position v.frame v.done) (w ∷ ws) p
 DeviceNextAt Idle v op.Give (Store p x) = (v.armed ≡ None) × Returns v.frame v.done p x
 DeviceNextAt (Checking old new) v op.Give (Load p) = p ≡ driver_event v.frame
 DeviceNextAt (Ringing old new) v op.Give (Store p x) = StoresBell (call_at v.frame) v.bells p x
-DeviceNextAt Idle v op.Arm (Store p x) = (v.armed ≡ None) × StoresEvent v.frame (device_event v.frame) (tpos v.frame v.done) p x
-DeviceNextAt Arming v op.Arm (Load p) = p ≡ second_word v.frame.size (tpos v.frame v.done)
+DeviceNextAt Idle v op.Arm (Store p x) = (v.armed ≡ None) × StoresEvent v.frame (device_event v.frame) (take_position v.frame v.done) p x
+DeviceNextAt Arming v op.Arm (Load p) = p ≡ second_word v.frame.size (take_position v.frame v.done)
 DeviceNextAt (Disarming o) v op.Arm (Store p x) = (o ≡ op.Arm) × StoresDisable v.frame (device_event v.frame) p x
 DeviceNextAt Idle v op.Hear (Load p) = IsArmed v.armed × (p ≡ kick_at v.frame)
 DeviceNextAt (Disarming o) v op.Hear (Store p x) = (o ≡ op.Hear) × StoresDisable v.frame (device_event v.frame) p x
@@ -60,7 +60,7 @@ DeviceNextAt Idle v op.Disarm (Store p x) = IsArmed v.armed × StoresDisable v.f
 DeviceNextAt Idle v op.Disarm (Load p) = IsArmed v.armed × LoadsBell v.frame (kick_at v.frame) p
 DeviceNextAt Idle v op.Rest (Store p x) = IsWhole v.done × StoresDisable v.frame (device_event v.frame) p x
 DeviceNextAt Idle v op.Rest (Load p) = IsWhole v.done × LoadsBell v.frame (kick_at v.frame) p
-DeviceNextAt Resting v op.Rest (Load p) = p ≡ second_word v.frame.size (tpos v.frame v.done)
+DeviceNextAt Resting v op.Rest (Load p) = p ≡ second_word v.frame.size (take_position v.frame v.done)
 DeviceNextAt Idle v op.Control (Load p) = LoadsCommand v.frame (command_word v.frame) v.done p
 DeviceNextAt Idle v op.Control (Store p x) = StoresAck v.frame (ack_word v.frame) v.done p
 DeviceNextAt _ _ _ _ = ⊥
@@ -78,9 +78,9 @@ device_published old new = Checking old new
 -- a chain that is seen has a descriptor at least. A position seen never goes back: after a rest a look is at an earlier one
 abbrev pub device_looks : DeviceView → ℕ → DeviceView
 device_looks v r =
-    if is_available v.frame.size (tpos v.frame v.done) r
-    then record v { seen = later v.seen (tpos v.frame v.done + 1); shown = true; doing = Taking (r ∷ []) }
-    else record v { seen = later v.seen (tpos v.frame v.done); shown = false }
+    if is_available v.frame.size (take_position v.frame v.done) r
+    then record v { seen = later v.seen (take_position v.frame v.done + 1); shown = true; doing = Taking (r ∷ []) }
+    else record v { seen = later v.seen (take_position v.frame v.done); shown = false }
 
 abbrev pub device_takes : DeviceView → List ℕ → DeviceView
 device_takes v ws = record v { done = Take (chain_of v.frame ws) (loaded_head v.frame ws) ∷ v.done; shown = false; doing = Idle }
@@ -92,7 +92,12 @@ device_loads v ws = if is_whole v.frame ws then device_takes v ws else record v 
 abbrev pub device_gives : DeviceView → ℕ → ℕ → DeviceView
 device_gives v p x =
     let s : List DeviceDone = Give (given v.frame v.done (id_of x) (len_of x)) ∷ v.done in
-    record v { done = s; stored = slice_set v.stored p x; doing = device_published (upos v.frame v.done) (upos v.frame s) }
+    record v {
+      done = s;
+      stored = slice_set v.stored p x;
+      doing =
+          device_published (give_position v.frame v.done) (give_position v.frame s);
+    }
 
 -- r is the word with the driver's event word
 abbrev pub device_checks : DeviceView → ℕ → ℕ → ℕ → DeviceView
@@ -105,7 +110,7 @@ abbrev pub device_rings : DeviceView → ℕ → ℕ → DeviceView
 device_rings v p x = record v { stored = slice_set v.stored p x; bells = v.bells + 1; doing = Idle }
 
 abbrev pub device_arms : DeviceView → ℕ → ℕ → DeviceView
-device_arms v p x = record v { stored = slice_set v.stored p x; armed = Some (tpos v.frame v.done); doing = Arming }
+device_arms v p x = record v { stored = slice_set v.stored p x; armed = Some (take_position v.frame v.done); doing = Arming }
 
 -- the operation of a side that is no longer armed: without EVENT_IDX the disarming store is next
 abbrev pub device_wakes : Frame → Op → DeviceNow
@@ -114,9 +119,15 @@ device_wakes f o = if f.features.event_idx then Idle else Disarming o
 -- the second look of an arming
 abbrev pub device_looks_again : DeviceView → ℕ → DeviceView
 device_looks_again v r =
-    if is_available v.frame.size (tpos v.frame v.done) r
-    then record v { seen = later v.seen (tpos v.frame v.done + 1); shown = true; armed = None; doing = device_wakes v.frame op.Arm }
-    else record v { seen = later v.seen (tpos v.frame v.done); shown = false; doing = Idle }
+    if is_available v.frame.size (take_position v.frame v.done) r
+    then record v {
+      seen = later v.seen (take_position v.frame v.done + 1);
+      shown = true;
+      armed = None;
+      doing =
+          device_wakes v.frame op.Arm;
+    }
+    else record v { seen = later v.seen (take_position v.frame v.done); shown = false; doing = Idle }
 
 -- r is the bell loaded
 abbrev pub device_hears : DeviceView → ℕ → DeviceView
@@ -124,7 +135,8 @@ device_hears v r = if r == v.heard then v else record v { heard = r; armed = Non
 
 -- up to which position a look shows chains
 abbrev pub seen_to : DeviceView → ℕ → ℕ
-seen_to v r = if is_available v.frame.size (tpos v.frame v.done) r then tpos v.frame v.done + 1 else tpos v.frame v.done
+seen_to v r = if is_available v.frame.size (take_position v.frame v.done) r then take_position v.frame v.done
+    + 1 else take_position v.frame v.done
 
 -- its look is no look for a chain: what the last one showed stays, but no later look is before this one
 abbrev pub device_rests : DeviceView → ℕ → DeviceView
@@ -132,7 +144,10 @@ device_rests v r = record v { done = Rest ∷ v.done; seen = later v.seen (seen_
 
 abbrev pub device_commands : DeviceView → ℕ → ℕ → DeviceView
 device_commands v p r =
-    record v { done = LoadCommand (with_head (taken_head v.done) (running v.done) ((p - commands_from v.frame) / 2)) ((p - commands_from v.frame) % 2) r ∷ v.done }
+    record v {
+      done = LoadCommand (with_head (taken_head v.done) (running v.done) ((p - commands_from v.frame) / 2))
+          ((p - commands_from v.frame) % 2) r ∷ v.done;
+    }
 
 abbrev pub device_acks : DeviceView → ℕ → ℕ → DeviceView
 device_acks v p x = record v { done = StoreAck (p - acks_from v.frame) x ∷ v.done; stored = slice_set v.stored p x }
@@ -177,23 +192,25 @@ pub record BeginsChain (f : Frame) (s : List DeviceDone) (ws : List ℕ) : Type 
   pub fits : Fits f chain
   -- on a control ring it is a control chain of its head
   pub control : f.control ≡ true → IsControlChain (command_word f head) (ack_word f head) chain
-  pub words : ws ≡ words_of (take (length ws) (reading f (tpos f s) head chain))
+  pub words : ws ≡ words_of (take (length ws) (reading f (take_position f s) head chain))
   -- the last load completes it, and no other does; then the last descriptor loaded has the id
-  pub left : is_whole f ws ≡ false → length ws < length (reading f (tpos f s) head chain)
-  pub complete : is_whole f ws ≡ true → (length ws ≡ length (reading f (tpos f s) head chain)) × (chain_of f ws ≡ chain) × (loaded_head f ws ≡ head)
+  pub left : is_whole f ws ≡ false → length ws < length (reading f (take_position f s) head chain)
+  pub complete : is_whole f ws ≡ true → (length ws ≡ length (reading f (take_position f s) head chain)) × (chain_of f ws ≡ chain)
+      × (loaded_head f ws ≡ head)
   -- it and the chains taken and not given are no more descriptors than places
   pub room : running_size f s + needs f.features chain ≤ f.size
 
 -- a look shows a chain where the last one did and it is not taken since, and at each position before that seen
 abbrev pub ShowsSeen : DeviceView → ℕ → Type 0
 ShowsSeen v r =
-    (v.shown ≡ true → is_available v.frame.size (tpos v.frame v.done) r ≡ true)
-    × (tpos v.frame v.done < v.seen → is_available v.frame.size (tpos v.frame v.done) r ≡ true)
+    (v.shown ≡ true → is_available v.frame.size (take_position v.frame v.done) r ≡ true)
+    × (take_position v.frame v.done < v.seen → is_available v.frame.size (take_position v.frame v.done) r ≡ true)
 
 -- a chain that a look shows may be taken
 abbrev pub ShowsChains : DeviceView → ℕ → Type 0
 ShowsChains v r =
-    (is_available v.frame.size (tpos v.frame v.done) r ≡ true → (length (takes v.done) < limit v.frame) × BeginsChain v.frame v.done (r ∷ []))
+    (is_available v.frame.size (take_position v.frame v.done) r ≡ true → (length (takes v.done) < limit v.frame)
+    × BeginsChain v.frame v.done (r ∷ []))
     × ShowsSeen v r
 
 abbrev pub DeviceTellsAt : DeviceNow → DeviceView → Op → Access → ℕ → Type 0
@@ -216,7 +233,7 @@ DeviceTells v op a r = DeviceKnows v a r × DeviceTellsAt v.doing v op a r
 
 -- the word that a look loads shows a chain that is not taken
 abbrev pub device_shows : DeviceView → ℕ → Bool
-device_shows v r = is_available v.frame.size (tpos v.frame v.done) r
+device_shows v r = is_available v.frame.size (take_position v.frame v.done) r
 
 abbrev pub take_act : DeviceView → List ℕ → DeviceAct
 take_act v ws = if is_whole v.frame ws then act.Taken (length (takes v.done)) (chain_of v.frame ws) else act.Moved
@@ -226,10 +243,11 @@ abbrev pub woken_act : Frame → DeviceAct
 woken_act f = if f.features.event_idx then act.Awake else act.Moved
 
 abbrev pub device_act_at : DeviceNow → DeviceView → Op → Access → ℕ → DeviceAct
-device_act_at Idle v op.Take (Load p) r = if is_available v.frame.size (tpos v.frame v.done) r then act.Moved else act.Nothing
+device_act_at Idle v op.Take (Load p) r = if is_available v.frame.size (take_position v.frame v.done) r then act.Moved else act.Nothing
 device_act_at (Taking (w ∷ ws)) v op.Take (Load p) r = take_act v (w ∷ ws ++ r ∷ [])
 device_act_at Idle v op.Give (Store p x) r = act.Given (last_used (given v.frame v.done (id_of x) (len_of x))).number
-device_act_at Arming v op.Arm (Load p) r = if is_available v.frame.size (tpos v.frame v.done) r then woken_act v.frame else act.Armed
+device_act_at Arming v op.Arm (Load p) r =
+    if is_available v.frame.size (take_position v.frame v.done) r then woken_act v.frame else act.Armed
 device_act_at (Disarming o) v op.Arm (Store p x) r = act.Awake
 device_act_at Idle v op.Hear (Load p) r = if r == v.heard then act.Asleep else woken_act v.frame
 device_act_at (Disarming o) v op.Hear (Store p x) r = act.Awake

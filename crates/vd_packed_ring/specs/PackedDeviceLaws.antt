@@ -20,7 +20,7 @@ use Rattle.vd_ring.specs.Batches.{IsEntry}
 use Rattle.vd_ring.specs.History.{offers, takes, gives, running, taken_head, head, chain, last_used, IsWhole, chain_at}
 use Rattle.vd_ring.specs.Steps.{Keeps, StandsFor, DeviceBagStep}
 use Rattle.vd_packed_ring.specs.PackedWords.{second_word, used_word, is_available}
-use Rattle.vd_packed_ring.specs.PackedPositions.{tpos, upos}
+use Rattle.vd_packed_ring.specs.PackedPositions.{take_position, give_position}
 use Rattle.vd_packed_ring.specs.PackedDevice.{device_side, device_after, device_act}
 use Rattle.vd_packed_ring.specs.PackedRing.{Ring}
 
@@ -54,7 +54,8 @@ pub record IsTaken (ws : List ℕ) (d : DriverView) (e : DeviceView) (o : Op) (a
 -- the used descriptor of these pairs, given after the acts, stands (VIRTIO 1.2, 2.8.8): at the position of what was given before, with
 -- the head of the last pair's chain and the last pair's length
 abbrev pub EntryStands : Frame → List ℕ → List DeviceDone → List Used → Type 0
-EntryStands f ws before us = slice_index ws (second_word f.size (upos f before)) ≡ used_word f.size (upos f before) (taken_head before (last_used us).number) (last_used us).len
+EntryStands f ws before us = slice_index ws (second_word f.size (give_position f before)) ≡ used_word f.size (give_position f before)
+    (taken_head before (last_used us).number) (last_used us).len
 
 -- the last act is a give, and its used descriptor stands
 abbrev pub HasLastUsed : Frame → List ℕ → List DeviceDone → Type 0
@@ -74,8 +75,9 @@ pub record IsGiven (ws : List ℕ) (d : DriverView) (e : DeviceView) (o : Op) (a
 -- chains offered are taken
 pub record LooksNothing (ws : List ℕ) (d : DriverView) (e : DeviceView) (o : Op) (a : Access) : Type 0 where
   pub only : device_answer ws e o a ≡ act.Nothing → (e.doing ≡ Idle) × (o ≡ op.Take)
-  pub says : device_answer ws e o a ≡ act.Nothing → is_available e.frame.size (tpos e.frame e.done) (answered ws a) ≡ false
-  pub shown : e.doing ≡ Idle → o ≡ op.Take → is_available e.frame.size (tpos e.frame e.done) (answered ws a) ≡ false → device_answer ws e o a ≡ act.Nothing
+  pub says : device_answer ws e o a ≡ act.Nothing → is_available e.frame.size (take_position e.frame e.done) (answered ws a) ≡ false
+  pub shown : e.doing ≡ Idle → o ≡ op.Take → is_available e.frame.size (take_position e.frame e.done) (answered ws a) ≡ false
+      → device_answer ws e o a ≡ act.Nothing
   pub all : device_answer ws e o a ≡ act.Nothing → takes e.done ≡ offers d.done
 
 -- nothing runs: as many chains are taken as given, and those given are the ones below that number

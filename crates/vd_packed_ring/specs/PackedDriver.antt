@@ -26,7 +26,7 @@ use Rattle.vd_ring.specs.Control.{IsControlChain, StoresCommand, LoadsAck, last_
 use Rattle.vd_packed_ring.specs.PackedWords.{IsDrivers, driver_event, device_event, commands_from, kick_at, call_at, command_word, ack_word, second_word, len_of, id_of, is_used, put, words_of}
 use Rattle.vd_packed_ring.specs.PackedChains.{descriptors, spelling, publishing, staged_chain}
 use Rattle.vd_packed_ring.specs.PackedSignals.{asks, IsArmed, StoresEvent, StoresDisable, StoresBell, LoadsBell}
-use Rattle.vd_packed_ring.specs.PackedPositions.{opos, cpos, later}
+use Rattle.vd_packed_ring.specs.PackedPositions.{offer_position, collect_position, later}
 
 -- ---- the conditions
 
@@ -34,18 +34,18 @@ use Rattle.vd_packed_ring.specs.PackedPositions.{opos, cpos, later}
 pub record CanOffer (f : Frame) (o : List DriverDone) (c : List Piece) : Type 0 where
   pub fits : Fits f c
   -- its descriptors and those of the chains offered and not collected are no more than the ring's places
-  pub room : opos f o + needs f.features c ≤ cpos f o + f.size
+  pub room : offer_position f o + needs f.features c ≤ collect_position f o + f.size
   pub limited : length (offers o) < limit f
   -- on a control ring it is a control chain of the next head
   pub control : f.control ≡ true → IsControlChain (command_word f (next_head f o)) (ack_word f (next_head f o)) c
 
 -- the stores that offer the chain, up to the last: its table's, then its descriptors'
 abbrev pub plan : Frame → List DriverDone → List Piece → List Put
-plan f o c = spelling f (opos f o) (next_head f o) c
+plan f o c = spelling f (offer_position f o) (next_head f o) c
 
 -- the last one, with which it is available
 abbrev pub last_put : Frame → List DriverDone → List Piece → Put
-last_put f o c = publishing f.size (opos f o) (descriptors f (next_head f o) c)
+last_put f o c = publishing f.size (offer_position f o) (descriptors f (next_head f o) c)
 
 -- these are the first stores of a chain that may be offered
 pub record Begins (f : Frame) (o : List DriverDone) (puts : List Put) : Type 0 where
@@ -67,9 +67,9 @@ DriverNextAt Idle v op.Offer (Store p x) = (v.armed ≡ None) × Begins v.frame 
 DriverNextAt (Offering puts) v op.Offer (Store p x) = Begins v.frame v.done (puts ++ put p x ∷ []) ⊎ Publishes v.frame v.done puts p x
 DriverNextAt (Checking old new) v op.Offer (Load p) = p ≡ device_event v.frame
 DriverNextAt (Ringing old new) v op.Offer (Store p x) = StoresBell (kick_at v.frame) v.bells p x
-DriverNextAt Idle v op.Collect (Load p) = (v.armed ≡ None) × (p ≡ second_word v.frame.size (cpos v.frame v.done))
-DriverNextAt Idle v op.Arm (Store p x) = (v.armed ≡ None) × StoresEvent v.frame (driver_event v.frame) (cpos v.frame v.done) p x
-DriverNextAt Arming v op.Arm (Load p) = p ≡ second_word v.frame.size (cpos v.frame v.done)
+DriverNextAt Idle v op.Collect (Load p) = (v.armed ≡ None) × (p ≡ second_word v.frame.size (collect_position v.frame v.done))
+DriverNextAt Idle v op.Arm (Store p x) = (v.armed ≡ None) × StoresEvent v.frame (driver_event v.frame) (collect_position v.frame v.done) p x
+DriverNextAt Arming v op.Arm (Load p) = p ≡ second_word v.frame.size (collect_position v.frame v.done)
 DriverNextAt (Disarming o) v op.Arm (Store p x) = (o ≡ op.Arm) × StoresDisable v.frame (driver_event v.frame) p x
 DriverNextAt Idle v op.Hear (Load p) = IsArmed v.armed × (p ≡ call_at v.frame)
 DriverNextAt (Disarming o) v op.Hear (Store p x) = (o ≡ op.Hear) × StoresDisable v.frame (driver_event v.frame) p x
@@ -96,11 +96,17 @@ stores v p x doing = record v { stored = slice_set v.stored p x; doing = doing }
 abbrev pub driver_offers : DriverView → List Put → ℕ → ℕ → DriverView
 driver_offers v puts p x =
     let o : List DriverDone = Offer (staged_chain v.frame (words_of puts) x) ∷ v.done in
-    record v { done = o; stored = slice_set v.stored p x; doing = driver_published (opos v.frame v.done) (opos v.frame o) }
+    record v {
+      done = o;
+      stored = slice_set v.stored p x;
+      doing =
+          driver_published (offer_position v.frame v.done) (offer_position v.frame o);
+    }
 
 -- no store of an offer before the last is in the second word at the position where the chain begins
 abbrev pub driver_stores : DriverView → List Put → ℕ → ℕ → DriverView
-driver_stores v puts p x = if p == second_word v.frame.size (opos v.frame v.done) then driver_offers v puts p x else stores v p x (Offering (puts ++ put p x ∷ []))
+driver_stores v puts p x = if p == second_word v.frame.size (offer_position v.frame v.done) then driver_offers v puts p x else stores v
+    p x (Offering (puts ++ put p x ∷ []))
 
 -- r is the word with the device's event word
 abbrev pub driver_checks : DriverView → ℕ → ℕ → ℕ → DriverView
@@ -111,14 +117,19 @@ driver_rings v p x = record v { stored = slice_set v.stored p x; bells = v.bells
 
 abbrev pub driver_collects : DriverView → ℕ → DriverView
 driver_collects v r =
-    let o : List DriverDone = Collect (collected v.frame v.done (id_of r) (len_of r)) ∷ v.done in record v { done = o; seen = later v.seen (cpos v.frame o); shown = false }
+    let o : List DriverDone = Collect (collected v.frame v.done (id_of r) (len_of r)) ∷ v.done in
+    record v { done = o; seen = later v.seen (collect_position v.frame o); shown = false }
 
 -- the look is the collect's only load
 abbrev pub driver_looks : DriverView → ℕ → DriverView
-driver_looks v r = if is_used v.frame.size (cpos v.frame v.done) r then driver_collects v r else record v { seen = later v.seen (cpos v.frame v.done); shown = false }
+driver_looks v r = if is_used v.frame.size (collect_position v.frame v.done) r then driver_collects v r else record v {
+  seen =
+      later v.seen (collect_position v.frame v.done);
+  shown = false;
+}
 
 abbrev pub driver_arms : DriverView → ℕ → ℕ → DriverView
-driver_arms v p x = record v { stored = slice_set v.stored p x; armed = Some (cpos v.frame v.done); doing = Arming }
+driver_arms v p x = record v { stored = slice_set v.stored p x; armed = Some (collect_position v.frame v.done); doing = Arming }
 
 -- the operation of a side that is no longer armed: without EVENT_IDX the disarming store is next
 abbrev pub driver_wakes : Frame → Op → DriverNow
@@ -127,9 +138,15 @@ driver_wakes f o = if f.features.event_idx then Idle else Disarming o
 -- the second look of an arming. A used descriptor is of a chain that has a descriptor at least
 abbrev pub driver_looks_again : DriverView → ℕ → DriverView
 driver_looks_again v r =
-    if is_used v.frame.size (cpos v.frame v.done) r
-    then record v { seen = later v.seen (cpos v.frame v.done + 1); shown = true; armed = None; doing = driver_wakes v.frame op.Arm }
-    else record v { seen = later v.seen (cpos v.frame v.done); shown = false; doing = Idle }
+    if is_used v.frame.size (collect_position v.frame v.done) r
+    then record v {
+      seen = later v.seen (collect_position v.frame v.done + 1);
+      shown = true;
+      armed = None;
+      doing =
+          driver_wakes v.frame op.Arm;
+    }
+    else record v { seen = later v.seen (collect_position v.frame v.done); shown = false; doing = Idle }
 
 -- r is the bell loaded
 abbrev pub driver_hears : DriverView → ℕ → DriverView
@@ -137,7 +154,11 @@ driver_hears v r = if r == v.heard then v else record v { heard = r; armed = Non
 
 abbrev pub driver_commands : DriverView → ℕ → ℕ → DriverView
 driver_commands v p x =
-    record v { done = StoreCommand ((p - commands_from v.frame) / 2) ((p - commands_from v.frame) % 2) x ∷ v.done; stored = slice_set v.stored p x }
+    record v {
+      done = StoreCommand ((p - commands_from v.frame) / 2) ((p - commands_from v.frame) % 2) x ∷ v.done;
+      stored =
+          slice_set v.stored p x;
+    }
 
 abbrev pub driver_acks : DriverView → ℕ → DriverView
 driver_acks v r = record v { done = LoadAck (unwrap_or (last_collected v.done) 0) r ∷ v.done }
@@ -176,9 +197,9 @@ pub record NamesOpen (f : Frame) (o : List DriverDone) (id : ℕ) : Type 0 where
 -- position before that seen
 abbrev pub ShowsGives : DriverView → ℕ → Type 0
 ShowsGives v r =
-    (is_used v.frame.size (cpos v.frame v.done) r ≡ true → NamesOpen v.frame v.done (id_of r))
-    × (v.shown ≡ true → is_used v.frame.size (cpos v.frame v.done) r ≡ true)
-    × (cpos v.frame v.done < v.seen → is_used v.frame.size (cpos v.frame v.done) r ≡ true)
+    (is_used v.frame.size (collect_position v.frame v.done) r ≡ true → NamesOpen v.frame v.done (id_of r))
+    × (v.shown ≡ true → is_used v.frame.size (collect_position v.frame v.done) r ≡ true)
+    × (collect_position v.frame v.done < v.seen → is_used v.frame.size (collect_position v.frame v.done) r ≡ true)
 
 abbrev pub DriverTellsAt : DriverNow → DriverView → Op → Access → ℕ → Type 0
 DriverTellsAt Idle v op.Collect (Load p) r = ShowsGives v r
@@ -198,10 +219,10 @@ DriverTells v op a r = DriverKnows v a r × DriverTellsAt v.doing v op a r
 
 -- the word that a look loads shows a used entry that is not collected
 abbrev pub driver_shows : DriverView → ℕ → Bool
-driver_shows v r = is_used v.frame.size (cpos v.frame v.done) r
+driver_shows v r = is_used v.frame.size (collect_position v.frame v.done) r
 
 abbrev pub offer_act : DriverView → ℕ → DriverAct
-offer_act v p = if p == second_word v.frame.size (opos v.frame v.done) then act.Offered (length (offers v.done)) else act.Moved
+offer_act v p = if p == second_word v.frame.size (offer_position v.frame v.done) then act.Offered (length (offers v.done)) else act.Moved
 
 abbrev pub collect_act : DriverView → ℕ → DriverAct
 collect_act v r = let u : Used = last_used (collected v.frame v.done (id_of r) (len_of r)) in act.Collected u.number u.len (id_of r)
@@ -212,8 +233,9 @@ woken_act f = if f.features.event_idx then act.Awake else act.Moved
 
 abbrev pub driver_act_at : DriverNow → DriverView → Op → Access → ℕ → DriverAct
 driver_act_at (Offering puts) v op.Offer (Store p x) r = offer_act v p
-driver_act_at Idle v op.Collect (Load p) r = if is_used v.frame.size (cpos v.frame v.done) r then collect_act v r else act.Nothing
-driver_act_at Arming v op.Arm (Load p) r = if is_used v.frame.size (cpos v.frame v.done) r then woken_act v.frame else act.Armed
+driver_act_at Idle v op.Collect (Load p) r =
+    if is_used v.frame.size (collect_position v.frame v.done) r then collect_act v r else act.Nothing
+driver_act_at Arming v op.Arm (Load p) r = if is_used v.frame.size (collect_position v.frame v.done) r then woken_act v.frame else act.Armed
 driver_act_at (Disarming o) v op.Arm (Store p x) r = act.Awake
 driver_act_at Idle v op.Hear (Load p) r = if r == v.heard then act.Asleep else woken_act v.frame
 driver_act_at (Disarming o) v op.Hear (Store p x) r = act.Awake

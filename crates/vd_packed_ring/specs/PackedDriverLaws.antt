@@ -17,7 +17,7 @@ use Rattle.vd_ring.specs.Bag.{State}
 use Rattle.vd_ring.specs.Steps.{Keeps, StandsFor, DriverBagStep}
 use Rattle.vd_packed_ring.specs.PackedWords.{width, addr_word, second_word, is_used}
 use Rattle.vd_packed_ring.specs.PackedChains.{Spells}
-use Rattle.vd_packed_ring.specs.PackedPositions.{opos, cpos}
+use Rattle.vd_packed_ring.specs.PackedPositions.{offer_position, collect_position}
 use Rattle.vd_packed_ring.specs.PackedDriver.{CanOffer, driver_side, driver_after, driver_act}
 use Rattle.vd_packed_ring.specs.PackedRing.{Ring}
 
@@ -44,7 +44,7 @@ pub record IsOffered (ws : List ℕ) (d : DriverView) (op : Op) (a : Access) (k 
   pub can : CanOffer d.frame d.done chain
   pub offered : offers (driver_after d op a (answered ws a)).done ≡ offers d.done ++ chain ∷ []
   pub is_head : head d.frame (driver_after d op a (answered ws a)).done k ≡ next_head d.frame d.done
-  pub spelled : Spells d.frame (written ws a) (opos d.frame d.done) (next_head d.frame d.done) chain
+  pub spelled : Spells d.frame (written ws a) (offer_position d.frame d.done) (next_head d.frame d.done) chain
 
 -- `Collected` has the number and length of the next used entry given, all of whose pairs were collected, and the head of its chain
 pub record IsCollected (ws : List ℕ) (d : DriverView) (e : DeviceView) (op : Op) (a : Access) (number len at_head : ℕ) : Type 0 where
@@ -55,13 +55,14 @@ pub record IsCollected (ws : List ℕ) (d : DriverView) (e : DeviceView) (op : O
 pub record StoresAhead (f : Frame) (o : List DriverDone) (p : ℕ) : Type 0 where
   pub position : ℕ
   pub place : (p ≡ addr_word f.size position) ⊎ (p ≡ second_word f.size position)
-  pub least : opos f o ≤ position
-  pub most : position < cpos f o + f.size
+  pub least : offer_position f o ≤ position
+  pub most : position < collect_position f o + f.size
 
 -- Nothing is the answer of a collect alone, exactly where the loaded word isn't used for the position's wrap; then all entries given are
 -- collected
 pub record CollectsNothing (ws : List ℕ) (d : DriverView) (e : DeviceView) (o : Op) (a : Access) : Type 0 where
   pub only : driver_act d o a (answered ws a) ≡ act.Nothing → (d.doing ≡ Idle) × (o ≡ op.Collect)
-  pub says : driver_act d o a (answered ws a) ≡ act.Nothing → is_used d.frame.size (cpos d.frame d.done) (answered ws a) ≡ false
-  pub shown : d.doing ≡ Idle → o ≡ op.Collect → is_used d.frame.size (cpos d.frame d.done) (answered ws a) ≡ false → driver_act d o a (answered ws a) ≡ act.Nothing
+  pub says : driver_act d o a (answered ws a) ≡ act.Nothing → is_used d.frame.size (collect_position d.frame d.done) (answered ws a) ≡ false
+  pub shown : d.doing ≡ Idle → o ≡ op.Collect → is_used d.frame.size (collect_position d.frame d.done) (answered ws a) ≡ false
+      → driver_act d o a (answered ws a) ≡ act.Nothing
   pub all : driver_act d o a (answered ws a) ≡ act.Nothing → collects d.done ≡ gives e.done

@@ -11,7 +11,7 @@ use Rattle.vd_ring.specs.Account.{Ordered}
 use Rattle.vd_ring.specs.Fresh.{fresh_driver, fresh_device}
 use Rattle.vd_ring.specs.History.{offers, collects, takes, gives, running, open_size, chain_at, numbers, occurs, used_at}
 use Rattle.vd_packed_ring.specs.PackedWords.{width, second_word, is_available, is_used}
-use Rattle.vd_packed_ring.specs.PackedPositions.{opos, cpos, tpos, upos}
+use Rattle.vd_packed_ring.specs.PackedPositions.{offer_position, collect_position, take_position, give_position}
 use Rattle.vd_packed_ring.specs.PackedRing.{Ring, puts_of}
 
 -- words of 0 and the views of a fresh ring meet the invariant
@@ -33,11 +33,12 @@ pub record Agree (f : Frame) (o : List DriverDone) (s : List DeviceDone) : Type 
   pub below : (j : ℕ) → j < length (gives s) → (used_at (gives s) j).number < length (takes s)
   -- collected, given, taken, offered: each count is at most the next one, and so is each position
   pub counts : (length (collects o) ≤ length (gives s)) × (length (gives s) ≤ length (takes s)) × (length (takes s) ≤ length (offers o))
-  pub positions : (cpos f o ≤ upos f s) × (upos f s ≤ tpos f s) × (tpos f s ≤ opos f o)
+  pub positions : (collect_position f o ≤ give_position f s) × (give_position f s ≤ take_position f s)
+      × (take_position f s ≤ offer_position f o)
   -- the chains offered and not collected, and their descriptors, are no more than the ring's places
   pub few : length (offers o) ≤ length (collects o) + f.size
   pub room : open_size f o ≤ f.size
-  pub span : opos f o ≤ cpos f o + f.size
+  pub span : offer_position f o ≤ collect_position f o + f.size
   -- under IN_ORDER the entries given, and so those collected, are in the order in which the chains were offered
   pub given_ordered : f.features.in_order ≡ true → Ordered (gives s)
   pub collected_ordered : f.features.in_order ≡ true → Ordered (collects o)
@@ -46,10 +47,14 @@ pub record Agree (f : Frame) (o : List DriverDone) (s : List DeviceDone) : Type 
 -- the word that a look loads, and what it shows: a further entry exactly where one given is not collected, a further chain exactly
 -- where one offered is not taken. A driver looks while it has staged nothing
 pub record LooksShow (ws : List ℕ) (d : DriverView) (e : DeviceView) : Type 0 where
-  pub driver : puts_of d.doing ≡ [] → (is_used d.frame.size (cpos d.frame d.done) (slice_index ws (second_word d.frame.size (cpos d.frame d.done))) ≡ true) ↔ (length (collects d.done) < length (gives e.done))
-  pub device : (is_available d.frame.size (tpos d.frame e.done) (slice_index ws (second_word d.frame.size (tpos d.frame e.done))) ≡ true) ↔ (length (takes e.done) < length (offers d.done))
+  pub driver : puts_of d.doing ≡ []
+      → (is_used d.frame.size (collect_position d.frame d.done)
+      (slice_index ws (second_word d.frame.size (collect_position d.frame d.done))) ≡ true) ↔
+      (length (collects d.done) < length (gives e.done))
+  pub device : (is_available d.frame.size (take_position d.frame e.done)
+      (slice_index ws (second_word d.frame.size (take_position d.frame e.done))) ≡ true) ↔ (length (takes e.done) < length (offers d.done))
 
 -- a descriptor's word that the device stores is at the position of what was given before, which is below that of what was taken
 pub record GivesBehind (f : Frame) (s : List DeviceDone) (p : ℕ) : Type 0 where
-  pub place : p ≡ second_word f.size (upos f s)
-  pub below : upos f s < tpos f s
+  pub place : p ≡ second_word f.size (give_position f s)
+  pub below : give_position f s < take_position f s

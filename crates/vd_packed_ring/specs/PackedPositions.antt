@@ -15,17 +15,17 @@ use Rattle.vd_packed_ring.specs.PackedChains.{Descriptor, blank, descriptors, av
 
 -- ---- the positions at which each side goes on: sums of descriptors of the chains offered, collected, taken and given
 
-abbrev pub opos : Frame → List DriverDone → ℕ
-opos f o = sum_by (needs f.features) (offers o)
+abbrev pub offer_position : Frame → List DriverDone → ℕ
+offer_position f o = sum_by (needs f.features) (offers o)
 
-abbrev pub cpos : Frame → List DriverDone → ℕ
-cpos f o = sum_by (λ u. needs f.features (chain o u.number)) (collects o)
+abbrev pub collect_position : Frame → List DriverDone → ℕ
+collect_position f o = sum_by (λ u. needs f.features (chain o u.number)) (collects o)
 
-abbrev pub tpos : Frame → List DeviceDone → ℕ
-tpos f s = sum_by (needs f.features) (takes s)
+abbrev pub take_position : Frame → List DeviceDone → ℕ
+take_position f s = sum_by (needs f.features) (takes s)
 
-abbrev pub upos : Frame → List DeviceDone → ℕ
-upos f s = sum_by (λ u. needs f.features (chain_at (takes s) u.number)) (gives s)
+abbrev pub give_position : Frame → List DeviceDone → ℕ
+give_position f s = sum_by (λ u. needs f.features (chain_at (takes s) u.number)) (gives s)
 
 -- the position at which chain number k begins
 abbrev pub start : Frame → List DriverDone → ℕ → ℕ

@@ -22,7 +22,7 @@ use Rattle.vd_ring.specs.Sleep.{driver_owed, device_owed, driver_idle, device_id
 use Rattle.vd_packed_ring.specs.PackedWords.{IsLawful, IsDrivers, IsDevices, width, command_word, ack_word, driver_event, device_event, kick_at, call_at, event_word, words_of, Stand}
 use Rattle.vd_packed_ring.specs.PackedChains.{table, reading}
 use Rattle.vd_packed_ring.specs.PackedSignals.{disabled, bell_word, IsRange}
-use Rattle.vd_packed_ring.specs.PackedPositions.{opos, cpos, tpos, upos, made_at, second_at}
+use Rattle.vd_packed_ring.specs.PackedPositions.{offer_position, collect_position, take_position, give_position, made_at, second_at}
 use Rattle.vd_packed_ring.specs.PackedDriver.{Begins}
 
 -- ---- the words
@@ -47,7 +47,8 @@ pub record Row (n half : ℕ) (ws : List ℕ) (top : ℕ) (puts : List Put) (cur
 -- position; where the side is armed, it enables or names that position (VIRTIO 1.2, 2.8.10)
 pub record SideSignals (f : Frame) (event_at bell_at : ℕ) (armed : Option ℕ) (bells : ℕ) (stored : List ℕ) : Type 0 where
   pub flags : f.features.event_idx ≡ false → (slice_index stored event_at ≡ 0) ⊎ (slice_index stored event_at ≡ disabled)
-  pub names : f.features.event_idx ≡ true → (slice_index stored event_at ≡ 0) ⊎ ((q : ℕ) × (slice_index stored event_at ≡ event_word f.size q))
+  pub names : f.features.event_idx ≡ true
+      → (slice_index stored event_at ≡ 0) ⊎ ((q : ℕ) × (slice_index stored event_at ≡ event_word f.size q))
   pub enable : (q : ℕ) → armed ≡ Some q → f.features.event_idx ≡ false → slice_index stored event_at ≡ 0
   pub event : (q : ℕ) → armed ≡ Some q → f.features.event_idx ≡ true → slice_index stored event_at ≡ event_word f.size q
   -- the bell is the number of bells stored
@@ -80,7 +81,7 @@ pub record Loads (f : Frame) (o : List DriverDone) (k q : ℕ) (ws : List ℕ) :
 
 abbrev pub DeviceDoing : DeviceNow → Frame → List DriverDone → List DeviceDone → Type 0
 DeviceDoing device.Idle f o s = Unit {0}
-DeviceDoing (device.Taking (w ∷ ws)) f o s = Loads f o (length (takes s)) (tpos f s) (w ∷ ws)
+DeviceDoing (device.Taking (w ∷ ws)) f o s = Loads f o (length (takes s)) (take_position f s) (w ∷ ws)
 DeviceDoing (device.Taking _) f o s = ⊥
 DeviceDoing (device.Giving _) f o s = ⊥
 DeviceDoing device.Resting f o s = IsWhole s
@@ -91,16 +92,22 @@ DeviceDoing _ f o s = Unit {0}
 -- the driver as the one that publishes chains, and as the one that waits for used entries; the device as the one that waits for
 -- chains, and as the one that publishes used entries. Positions count descriptors
 abbrev pub chains_out : DriverView → Publisher
-chains_out d = record { published = opos d.frame d.done; owed = driver_owed d.doing; bells = d.bells; ranges = length (offers d.done) }
+chains_out d = record {
+  published = offer_position d.frame d.done;
+  owed = driver_owed d.doing;
+  bells = d.bells;
+  ranges =
+      length (offers d.done);
+}
 
 abbrev pub chains_in : DeviceView → Listener
-chains_in e = record { at = tpos e.frame e.done; idle = device_idle e.doing; armed = e.armed; heard = e.heard }
+chains_in e = record { at = take_position e.frame e.done; idle = device_idle e.doing; armed = e.armed; heard = e.heard }
 
 abbrev pub entries_out : DeviceView → Publisher
-entries_out e = record { published = upos e.frame e.done; owed = device_owed e.doing; bells = e.bells; ranges = gives_made e.done }
+entries_out e = record { published = give_position e.frame e.done; owed = device_owed e.doing; bells = e.bells; ranges = gives_made e.done }
 
 abbrev pub entries_in : DriverView → Listener
-entries_in d = record { at = cpos d.frame d.done; idle = driver_idle d.doing; armed = d.armed; heard = d.heard }
+entries_in d = record { at = collect_position d.frame d.done; idle = driver_idle d.doing; armed = d.armed; heard = d.heard }
 
 -- a disarming store is next only without EVENT_IDX, after a look of an arming or after a bell that was heard
 abbrev pub Woke : Op → ℕ → Type 0
@@ -135,11 +142,11 @@ pub record Ring (ws : List ℕ) (d : DriverView) (e : DeviceView) : Type 0 where
   -- each id is free or held by one open chain; no chain was offered past the limit, the size or the bounds
   pub places : Places d.frame d.done
   -- the descriptors of the chains offered and not collected are no more than the ring's places
-  pub room : opos d.frame d.done ≤ cpos d.frame d.done + d.frame.size
+  pub room : offer_position d.frame d.done ≤ collect_position d.frame d.done + d.frame.size
   -- each address is that of the last descriptor made available at its place
-  pub addresses : Row d.frame.size 0 d.stored (opos d.frame d.done) (puts_of d.doing) (λ q. (made_at d.frame d.done q).addr)
+  pub addresses : Row d.frame.size 0 d.stored (offer_position d.frame d.done) (puts_of d.doing) (λ q. (made_at d.frame d.done q).addr)
   -- each second word is that of the last position at its place: a used descriptor where one was given there, else the driver's word
-  pub seconds : Row d.frame.size 1 ws (opos d.frame d.done) (puts_of d.doing) (second_at d.frame d.done e.done)
+  pub seconds : Row d.frame.size 1 ws (offer_position d.frame d.done) (puts_of d.doing) (second_at d.frame d.done e.done)
   -- the table of each chain offered and not collected stands
   pub tables : (k : ℕ) → Contains (open_at d.done) k → Stand d.stored (table d.frame (head d.frame d.done k) (chain d.done k))
   -- taken is a prefix of offered, and collected of given; each chain is given once
@@ -159,13 +166,13 @@ pub record Ring (ws : List ℕ) (d : DriverView) (e : DeviceView) : Type 0 where
   pub kicks : Signals (chains_out d) (chains_in e)
   pub calls : Signals (entries_out e) (entries_in d)
   -- in which operations each side is armed
-  pub driver_armed : DriverArmed d.doing d.frame d.armed (cpos d.frame d.done) d.heard
-  pub device_armed : DeviceArmed e.doing d.frame e.armed (tpos d.frame e.done) e.heard
+  pub driver_armed : DriverArmed d.doing d.frame d.armed (collect_position d.frame d.done) d.heard
+  pub device_armed : DeviceArmed e.doing d.frame e.armed (take_position d.frame e.done) e.heard
   -- a position that a side has seen was published
-  pub driver_seen : d.seen ≤ upos d.frame e.done
-  pub device_seen : e.seen ≤ opos d.frame d.done
+  pub driver_seen : d.seen ≤ give_position d.frame e.done
+  pub device_seen : e.seen ≤ offer_position d.frame d.done
   -- where its last look showed more than it has collected or taken since, that look's position is past it
-  pub driver_shown : d.shown ≡ true → cpos d.frame d.done < d.seen
-  pub device_shown : e.shown ≡ true → tpos d.frame e.done < e.seen
+  pub driver_shown : d.shown ≡ true → collect_position d.frame d.done < d.seen
+  pub device_shown : e.shown ≡ true → take_position d.frame e.done < e.seen
   -- a device whose last act is a rest has given all that it has taken
   pub rested : Rested e.done

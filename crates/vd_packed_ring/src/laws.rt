@@ -12,7 +12,7 @@ ghost use Rattle.vd_packed_ring.specs.PackedChains.{Spells, is_tabled, described
 ghost use Rattle.vd_packed_ring.specs.PackedDevice.{device_after};
 ghost use Rattle.vd_packed_ring.specs.PackedDriver.{driver_after};
 ghost use Rattle.vd_packed_ring.specs.PackedLaws.{IsFresh, Agree, LooksShow};
-ghost use Rattle.vd_packed_ring.specs.PackedPositions.{upos, start};
+ghost use Rattle.vd_packed_ring.specs.PackedPositions.{give_position, start};
 ghost use Rattle.vd_packed_ring.specs.PackedRing.{Ring};
 ghost use Rattle.vd_packed_ring.specs.PackedWords.{IsLawful, base_at, is_base, Stand};
 
@@ -24,9 +24,15 @@ pub fn fresh_law()
 /// Each chain offered that is not taken, or whose position is not behind what was given, is spelled there; but for the table of one
 /// that is collected, since then its id and so its table are another chain's.
 pub fn spelling_law()
-    ensures untaken { (ws : List ℕ) (d : DriverView) (e : DeviceView) (k : ℕ) → Ring ws d e → length (takes e.done) ≤ k → k < length (offers d.done) → Spells d.frame ws (start d.frame d.done k) (head d.frame d.done k) (chain d.done k) }
-    ensures ahead { (ws : List ℕ) (d : DriverView) (e : DeviceView) (k : ℕ) → Ring ws d e → k < length (offers d.done) → upos d.frame e.done ≤ start d.frame d.done k → (Contains (open_at d.done) k ⊎ (is_tabled d.frame (chain d.done k) ≡ false)) → Spells d.frame ws (start d.frame d.done k) (head d.frame d.done k) (chain d.done k) }
-    ensures descriptors { (ws : List ℕ) (d : DriverView) (e : DeviceView) (k : ℕ) → Ring ws d e → k < length (offers d.done) → upos d.frame e.done ≤ start d.frame d.done k → Stand ws (described d.frame.size (start d.frame d.done k) (descriptors d.frame (head d.frame d.done k) (chain d.done k))) }
+    ensures untaken { (ws : List ℕ) (d : DriverView) (e : DeviceView) (k : ℕ) → Ring ws d e → length (takes e.done) ≤ k
+        → k < length (offers d.done) → Spells d.frame ws (start d.frame d.done k) (head d.frame d.done k) (chain d.done k) }
+    ensures ahead { (ws : List ℕ) (d : DriverView) (e : DeviceView) (k : ℕ) → Ring ws d e → k < length (offers d.done)
+        → give_position d.frame e.done ≤ start d.frame d.done k
+        → (Contains (open_at d.done) k ⊎ (is_tabled d.frame (chain d.done k) ≡ false))
+        → Spells d.frame ws (start d.frame d.done k) (head d.frame d.done k) (chain d.done k) }
+    ensures descriptors { (ws : List ℕ) (d : DriverView) (e : DeviceView) (k : ℕ) → Ring ws d e → k < length (offers d.done)
+        → give_position d.frame e.done ≤ start d.frame d.done k
+        → Stand ws (described d.frame.size (start d.frame d.done k) (descriptors d.frame (head d.frame d.done k) (chain d.done k))) }
 {}
 
 /// What was taken is a prefix of what was offered, and collected of given; numbers differ; the four positions follow each other and

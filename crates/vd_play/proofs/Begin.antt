@@ -31,12 +31,14 @@ fits : (t : Terms) (f g : Frame) → f ≡ g → g.control ≡ false → (t.queu
 fits t f g is plain other = (λ h. absurd (cc (h, ap (λ (z : Frame). z.control) is, plain)), λ h. absurd (other h))
 
 module _ {D E G X C : Type 0} (s : Setting D E G X C) (law : IsLawful s) (plan : Plan) (q k : ℕ) where
-  pub asks : (to : ℕ) (words : RingWords) (still : Option E) (guest : G) (device : X) → to ≡ begun_at plan q (k + 1) → k < length (queue_epochs plan q) → StoppedWith s plan q k words still guest device
+  pub asks : (to : ℕ) (words : RingWords) (still : Option E) (guest : G) (device : X) → to ≡ begun_at plan q (k + 1)
+      → k < length (queue_epochs plan q) → StoppedWith s plan q k words still guest device
       → (length (s.party.begun device) ≤ to) × CanAttach s.device s.party q (to - length (s.party.begun device)) still device
   asks to words None guest device is more p = absurd p
   asks to words (Some end) guest device is more p =
       let b = bounded (length (queue_chains plan q)) (queue_epochs plan q) k p.kept.driven.queue.chained more in
-      let many : length (s.party.begun device) ≡ begun_at plan q k = begun_of s law plan q (s.party.begun device) p.device_view p.kept.account ∙ p.rests.taken in (
+      let many : length (s.party.begun device) ≡ begun_at plan q k =
+      begun_of s law plan q (s.party.begun device) p.device_view p.kept.account ∙ p.rests.taken in (
         omega (arith, is, b.rises, many),
         record {
           low = p.kept.driven.queue.low;
@@ -48,20 +50,28 @@ module _ {D E G X C : Type 0} (s : Setting D E G X C) (law : IsLawful s) (plan :
         },
       )
 
-  starts : (to : ℕ) (words : RingWords) (end : E) (guest : G) (device device' : X) → to ≡ begun_at plan q (k + 1) → k < length (queue_epochs plan q) → IsStopped s plan q k 0 words end guest device
-      → IsAttach s.device s.party (pass_order s.device plan q (to - length (s.party.begun device)) end) None end device device' → IsPassing s plan q k 0 words guest device'
+  starts : (to : ℕ) (words : RingWords) (end : E) (guest : G) (device device' : X) → to ≡ begun_at plan q (k + 1)
+      → k < length (queue_epochs plan q) → IsStopped s plan q k 0 words end guest device
+      → IsAttach s.device s.party (pass_order s.device plan q (to - length (s.party.begun device)) end) None end device device'
+      → IsPassing s plan q k 0 words guest device'
   starts to words end guest device device' is more p a =
       let order : Terms = pass_order s.device plan q (to - length (s.party.begun device)) end in
       let b = bounded (length (queue_chains plan q)) (queue_epochs plan q) k p.kept.driven.queue.chained more in
-      let many : length (s.party.begun device) ≡ begun_at plan q k = begun_of s law plan q (s.party.begun device) p.device_view p.kept.account ∙ p.rests.taken in
-      let framed : p.device_view.frame ≡ guest_frame s.layout plan q = (law.layout.wide words.words p.view p.device_view p.kept.driven.ring).1 ∙ p.kept.driven.part.framed in
+      let many : length (s.party.begun device) ≡ begun_at plan q k =
+      begun_of s law plan q (s.party.begun device) p.device_view p.kept.account ∙ p.rests.taken in
+      let framed : p.device_view.frame ≡ guest_frame s.layout plan q =
+      (law.layout.wide words.words p.view p.device_view p.kept.driven.ring).1 ∙ p.kept.driven.part.framed in
       let other : q ≡ 15 → ⊥ = λ h. omega (arith, h, p.kept.driven.queue.low) in
-      let base = base_of s law plan q words end guest p.view p.device_view (begun_at plan q k) p.kept.driven p.rests.stands p.rests.still p.rests.taken in
-      let last : Attach (length (s.party.begun device)) q (record { 0 = s.device.base end }) (mode_of q) default (pass_map plan) ≡ attach_event s.device s.layout plan q (begun_at plan q k) =
+      let base = base_of s law plan q words end guest p.view p.device_view (begun_at plan q k) p.kept.driven p.rests.stands
+      p.rests.still p.rests.taken in
+      let last : Attach (length (s.party.begun device)) q (record { 0 = s.device.base end }) (mode_of q) default (pass_map plan)
+      ≡ attach_event s.device s.layout plan q (begun_at plan q k) =
       ap (λ z. Attach z q (record { 0 = s.device.base end }) (mode_of q) default (pass_map plan)) many
       ∙ ap (λ z. Attach (begun_at plan q k) q z (mode_of q) default (pass_map plan)) base
-      ∙ ap (λ z. Attach (begun_at plan q k) q (base_at s.device s.layout plan q (begun_at plan q k)) z default (pass_map plan)) (passes q p.kept.driven.queue.low) in
-      let counted : attaches (s.party.events device') ≡ attaches (s.party.events device) + 1 = ap attaches a.noted.events ∙ attaches_more (s.party.events device) _ in
+      ∙ ap (λ z. Attach (begun_at plan q k) q (base_at s.device s.layout plan q (begun_at plan q k)) z default (pass_map plan))
+      (passes q p.kept.driven.queue.low) in
+      let counted : attaches (s.party.events device') ≡ attaches (s.party.events device) + 1 =
+      ap attaches a.noted.events ∙ attaches_more (s.party.events device) _ in
       record {
         view = p.view;
         device_view = p.device_view;
@@ -74,7 +84,8 @@ module _ {D E G X C : Type 0} (s : Setting D E G X C) (law : IsLawful s) (plan :
           for_data = other;
           from = (many, a.taken p.device_view p.rests.stands ∙ p.rests.taken);
           to = omega (arith, many, is, b.rises);
-          events = a.noted.events ∙ ap (λ zs. zs ++ Attach (length (s.party.begun device)) q (record { 0 = s.device.base end }) (mode_of q) default (pass_map plan) ∷ []) p.rests.events ∙ ap (λ z. events_before s.device s.layout plan q k ++ z ∷ []) last;
+          events = a.noted.events ∙ ap (λ zs. zs ++ Attach (length (s.party.begun device)) q (record { 0 = s.device.base end })
+              (mode_of q) default (pass_map plan) ∷ []) p.rests.events ∙ ap (λ z. events_before s.device s.layout plan q k ++ z ∷ []) last;
           room = omega (arith, p.rests.room, a.noted.room.0);
           live = a.live;
         };
@@ -88,18 +99,28 @@ module _ {D E G X C : Type 0} (s : Setting D E G X C) (law : IsLawful s) (plan :
         rounds = omega arith;
       }
 
-  pub begins : (to : ℕ) (words words' : RingWords) (still still' : Option E) (guest : G) (device device' : X) → to ≡ begun_at plan q (k + 1) → k < length (queue_epochs plan q) → words' ≡ words → still' ≡ None
-      → ((end : E) → still ≡ Some end → IsAttach s.device s.party (pass_order s.device plan q (to - length (s.party.begun device)) end) None end device device') → StoppedWith s plan q k words still guest device
+  pub begins : (to : ℕ) (words words' : RingWords) (still still' : Option E) (guest : G) (device device' : X)
+      → to ≡ begun_at plan q (k + 1) → k < length (queue_epochs plan q) → words' ≡ words → still' ≡ None
+      → ((end : E) → still ≡ Some end
+      → IsAttach s.device s.party (pass_order s.device plan q (to - length (s.party.begun device)) end) None end device device')
+      → StoppedWith s plan q k words still guest device
       → InEpochWith s plan q true k 0 words' still' guest device' × (s.party.accesses device' ≡ s.party.accesses device)
   begins to words words' None still' guest device device' is more same none a p = absurd p
   begins to words words' (Some end) still' guest device device' is more same none a p = (
-    subst (λ o. InEpochWith s plan q true k 0 words' o guest device') (sym none) (subst (λ ws. IsPassing s plan q k 0 ws guest device') (sym same) (starts to words end guest device device' is more p (a end refl))),
+    subst (λ o. InEpochWith s plan q true k 0 words' o guest device') (sym none)
+        (subst (λ ws. IsPassing s plan q k 0 ws guest device') (sym same)
+        (starts to words end guest device device' is more p (a end refl))),
     (a end refl).noted.counts.0,
   )
 
 -- where the next epoch of a queue ends, as the code finds it
-pub stop_is : (plan : Plan) (q k n to : ℕ) (qs : List Script) (s : Script) → qs ≡ plan.queues → slice_get qs q ≡ Some s → n ≡ run_count s.runs → to ≡ stop_of plan.switches k n → k < length plan.switches + 2 → (to ≡ begun_at plan q (k + 1)) × (k < length (queue_epochs plan q))
+pub stop_is : (plan : Plan) (q k n to : ℕ) (qs : List Script) (s : Script) → qs ≡ plan.queues → slice_get qs q ≡ Some s
+    → n ≡ run_count s.runs → to ≡ stop_of plan.switches k n → k < length plan.switches + 2
+    → (to ≡ begun_at plan q (k + 1)) × (k < length (queue_epochs plan q))
 stop_is plan q k n to qs s same at count is less =
     let here : queue_script plan q ≡ s = get_or_from_slice_get plan.queues q s (script []) (ap (λ zs. slice_get zs q) (sym same) ∙ at) in
-    let many : n ≡ length (queue_chains plan q) = count ∙ sym (chains_count s.runs) ∙ ap (λ (z : Script). length (run_chains z.runs)) (sym here) in
-    (is ∙ ap (stop_of plan.switches k) many ∙ stops_at plan (length (queue_chains plan q)) k less, omega (arith, many_epochs plan (length (queue_chains plan q))))
+    let many : n ≡ length (queue_chains plan q) = count ∙ sym (chains_count s.runs) ∙ ap (λ (z : Script). length (run_chains z.runs))
+    (sym here) in (
+      is ∙ ap (stop_of plan.switches k) many ∙ stops_at plan (length (queue_chains plan q)) k less,
+      omega (arith, many_epochs plan (length (queue_chains plan q))),
+    )

@@ -22,7 +22,9 @@ module _ {G X C : Type 0} (m : DeviceParty X C) (n : ℕ) where
   }
 
   -- the parties of queue i are written, and its device carries what it carried
-  pub keeps_set : (old now new : Bench G X) (i : ℕ) (g : G) (x y : X) → i < n → KeepsBench m n old now → new.guests.items ≡ set now.guests.items i g → new.devices.items ≡ set now.devices.items i y → slice_get now.devices.items i ≡ Some x → m.carried y ≡ m.carried x
+  pub keeps_set : (old now new : Bench G X) (i : ℕ) (g : G) (x y : X) → i < n → KeepsBench m n old now
+      → new.guests.items ≡ set now.guests.items i g → new.devices.items ≡ set now.devices.items i y
+      → slice_get now.devices.items i ≡ Some x → m.carried y ≡ m.carried x
       → KeepsBench m n old new
   keeps_set old now new i g x y below k gs xs at same = record {
     guests = ap length gs ∙ length-set now.guests.items i g ∙ k.guests;
@@ -38,32 +40,47 @@ module _ {G X C : Type 0} (m : DeviceParty X C) (n : ℕ) where
   lanes_kept old new j k h =
       record { guests = omega (arith, h.guests, k.guests); devices = omega (arith, h.devices, same_many old new k) }
 
-pub keeps_more : {G X C : Type 0} (m : DeviceParty X C) (j n : ℕ) (old new : Bench G X) → j ≤ n → KeepsBench m j old new → KeepsBench m n old new
-keeps_more m j n old new le k = record { guests = k.guests; carried = k.carried; other_guests = λ i h. k.other_guests i (omega arith); other_devices = λ i h. k.other_devices i (omega arith) }
+pub keeps_more : {G X C : Type 0} (m : DeviceParty X C) (j n : ℕ) (old new : Bench G X) → j ≤ n → KeepsBench m j old new
+    → KeepsBench m n old new
+keeps_more m j n old new le k = record {
+  guests = k.guests;
+  carried = k.carried;
+  other_guests = λ i h. k.other_guests i (omega arith);
+  other_devices = λ i h. k.other_devices i (omega arith);
+}
 
-pub faults_set : {G X C : Type 0} (m : DeviceParty X C) (old now new : Bench G X) (i : ℕ) (x y : X) → HasNoFault m old now → new.devices.items ≡ set now.devices.items i y → slice_get now.devices.items i ≡ Some x → m.faults y ≡ m.faults x → HasNoFault m old new
+pub faults_set : {G X C : Type 0} (m : DeviceParty X C) (old now new : Bench G X) (i : ℕ) (x y : X) → HasNoFault m old now
+    → new.devices.items ≡ set now.devices.items i y → slice_get now.devices.items i ≡ Some x → m.faults y ≡ m.faults x
+    → HasNoFault m old new
 faults_set m old now new i x y none xs at same = ap (map m.faults) xs ∙ map_set m.faults now.devices.items i x y at same ∙ none
 
 -- the one device whose count rose
-pub fault_set : {G X C : Type 0} (m : DeviceParty X C) (n : ℕ) (old now new : Bench G X) (i : ℕ) (x y : X) → i < n → HasNoFault m old now → new.devices.items ≡ set now.devices.items i y → slice_get now.devices.items i ≡ Some x → m.faults y ≡ raised 1 (m.faults x) → IsFaultOf m n i old new
+pub fault_set : {G X C : Type 0} (m : DeviceParty X C) (n : ℕ) (old now new : Bench G X) (i : ℕ) (x y : X) → i < n
+    → HasNoFault m old now → new.devices.items ≡ set now.devices.items i y → slice_get now.devices.items i ≡ Some x
+    → m.faults y ≡ raised 1 (m.faults x) → IsFaultOf m n i old new
 fault_set m n old now new i x y below none xs at rose = record {
   queue = below;
   rose = λ a b ha hb.
-      let same : b ≡ y = some_same b y (slice_get (set now.devices.items i y) i) (sym (ap (λ zs. slice_get zs i) xs) ∙ hb) (get_set_same now.devices.items i y (Rattle.std.proofs.lemmas.Option.slice_get_within now.devices.items i x at)) in
+      let same : b ≡ y = some_same b y (slice_get (set now.devices.items i y) i) (sym (ap (λ zs. slice_get zs i) xs) ∙ hb)
+      (get_set_same now.devices.items i y (Rattle.std.proofs.lemmas.Option.slice_get_within now.devices.items i x at)) in
       let before : m.faults x ≡ m.faults a = map_at m.faults old.devices.items now.devices.items i a x none ha at in
       omega (arith, rose, before, ap m.faults same);
-  others = λ k a b ne ha hb. map_at m.faults old.devices.items now.devices.items k a b none ha (sym (get_set_other now.devices.items i k y ne) ∙ sym (ap (λ zs. slice_get zs k) xs) ∙ hb);
+  others = λ k a b ne ha hb. map_at m.faults old.devices.items now.devices.items k a b none ha
+      (sym (get_set_other now.devices.items i k y ne) ∙ sym (ap (λ zs. slice_get zs k) xs) ∙ hb);
 }
 
 -- a count that rose after it had stood still
-pub fault_later : {G X C : Type 0} (m : DeviceParty X C) (n q : ℕ) (old mid new : Bench G X) → length mid.devices.items ≡ length old.devices.items → HasNoFault m old mid → IsFaultOf m n q mid new → IsFaultOf m n q old new
+pub fault_later : {G X C : Type 0} (m : DeviceParty X C) (n q : ℕ) (old mid new : Bench G X)
+    → length mid.devices.items ≡ length old.devices.items → HasNoFault m old mid → IsFaultOf m n q mid new → IsFaultOf m n q old new
 fault_later m n q old mid new many none f = record {
   queue = f.queue;
   rose = λ a b ha hb.
-      let x = Rattle.vd_play.proofs.Bounds.at_index mid.devices.items q (omega (arith, many, Rattle.std.proofs.lemmas.Option.slice_get_within old.devices.items q a ha)) in
+      let x = Rattle.vd_play.proofs.Bounds.at_index mid.devices.items q
+      (omega (arith, many, Rattle.std.proofs.lemmas.Option.slice_get_within old.devices.items q a ha)) in
       let before : m.faults x.0 ≡ m.faults a = map_at m.faults old.devices.items mid.devices.items q a x.0 none ha x.1 in
       omega (arith, f.rose x.0 b x.1 hb, before);
   others = λ k a b ne ha hb.
-      let x = Rattle.vd_play.proofs.Bounds.at_index mid.devices.items k (omega (arith, many, Rattle.std.proofs.lemmas.Option.slice_get_within old.devices.items k a ha)) in
+      let x = Rattle.vd_play.proofs.Bounds.at_index mid.devices.items k
+      (omega (arith, many, Rattle.std.proofs.lemmas.Option.slice_get_within old.devices.items k a ha)) in
       f.others k x.0 b ne x.1 hb ∙ map_at m.faults old.devices.items mid.devices.items k a x.0 none ha x.1;
 }

@@ -28,27 +28,37 @@ attach_front : {A : Type 0} (xs : List A) (a b : A) → IsPrefix (xs ++ a ∷ []
 attach_front xs a b = (b ∷ [], append_assoc xs (a ∷ []) (b ∷ []))
 
 module _ {D E G X C : Type 0} (s : Setting D E G X C) (law : IsLawful s) (plan : Plan) (q : ℕ) where
-  cut_kept : (words : RingWords) (guest : G) (device : X) (v : DriverView) (w : DeviceView) → IsKept s plan q words guest device v w → IsPrefix (s.party.events device) (journal_events s.device s.layout plan q) → IsCut s plan q guest device
+  cut_kept : (words : RingWords) (guest : G) (device : X) (v : DriverView) (w : DeviceView) → IsKept s plan q words guest device v w
+      → IsPrefix (s.party.events device) (journal_events s.device s.layout plan q) → IsCut s plan q guest device
   cut_kept words guest device v w p events =
       let k = p.driven in
-      let back = some_returned v.frame v.done w.done (lens_of (s.party.begun device)) (s.guest.returned guest) (law.layout.lists words.words v w k.ring) p.account.given (law.guest.returned guest v (queue_script plan q) k.part.holds k.part.script k.queue.plain) in
+      let back = some_returned v.frame v.done w.done (lens_of (s.party.begun device)) (s.guest.returned guest)
+      (law.layout.lists words.words v w k.ring) p.account.given
+      (law.guest.returned guest v (queue_script plan q) k.part.holds k.part.script k.queue.plain) in
       record {
         events = events;
-        chains = subst (λ zs. IsPrefix (chains_of (s.party.begun device)) zs) (sym (all_chains plan q k.queue.chained k.queue.passing)) (subst (λ zs. IsPrefix zs (queue_chains plan q)) (sym p.account.chains) (prefix_of s law plan q words guest v w k));
+        chains = subst (λ zs. IsPrefix (chains_of (s.party.begun device)) zs) (sym (all_chains plan q k.queue.chained k.queue.passing))
+            (subst (λ zs. IsPrefix zs (queue_chains plan q)) (sym p.account.chains) (prefix_of s law plan q words guest v w k));
         each = p.account.each;
         once = back.0;
         returned = back.1;
       }
 
-  pub cut_stopped : (k r : ℕ) (words : RingWords) (end : E) (guest : G) (device : X) → IsStopped s plan q k r words end guest device → IsCut s plan q guest device
-  cut_stopped k r words end guest device p = cut_kept words guest device p.view p.device_view p.kept (subst (λ zs. IsPrefix zs (journal_events s.device s.layout plan q)) (sym p.rests.events) (front_of (epoch_events s.device s.layout plan q) (queue_epochs plan q) k))
+  pub cut_stopped : (k r : ℕ) (words : RingWords) (end : E) (guest : G) (device : X) → IsStopped s plan q k r words end guest device
+      → IsCut s plan q guest device
+  cut_stopped k r words end guest device p =
+      cut_kept words guest device p.view p.device_view p.kept
+      (subst (λ zs. IsPrefix zs (journal_events s.device s.layout plan q)) (sym p.rests.events)
+      (front_of (epoch_events s.device s.layout plan q) (queue_epochs plan q) k))
 
-  pub cut_still : (k : ℕ) (words : RingWords) (still : Option E) (guest : G) (device : X) → StoppedWith s plan q k words still guest device → IsCut s plan q guest device
+  pub cut_still : (k : ℕ) (words : RingWords) (still : Option E) (guest : G) (device : X)
+      → StoppedWith s plan q k words still guest device → IsCut s plan q guest device
   cut_still k words None guest device p = absurd p
   cut_still k words (Some end) guest device p = cut_stopped k 0 words end guest device p
 
   -- a refused attach has changed nothing of it
-  pub cut_refused : (k : ℕ) (words : RingWords) (still : Option E) (guest : G) (device device' : X) → IsRefused s.party device device' → StoppedWith s plan q k words still guest device → IsCut s plan q guest device'
+  pub cut_refused : (k : ℕ) (words : RingWords) (still : Option E) (guest : G) (device device' : X) → IsRefused s.party device device'
+      → StoppedWith s plan q k words still guest device → IsCut s plan q guest device'
   cut_refused k words still guest device device' r p =
       let c : IsCut s plan q guest device = cut_still k words still guest device p in
       record {
@@ -59,18 +69,29 @@ module _ {D E G X C : Type 0} (s : Setting D E G X C) (law : IsLawful s) (plan :
         returned = subst (λ (bs : List Begun). All (HasLen (lens_of bs)) (s.guest.returned guest)) (sym r.begun) c.returned;
       }
 
-  cut_passing : (k r : ℕ) (words : RingWords) (guest : G) (device : X) → IsPassing s plan q k r words guest device → IsCut s plan q guest device
+  cut_passing : (k r : ℕ) (words : RingWords) (guest : G) (device : X) → IsPassing s plan q k r words guest device
+      → IsCut s plan q guest device
   cut_passing k r words guest device p =
       let e = s.device in
       let l = s.layout in
       let b = bounded (length (queue_chains plan q)) (queue_epochs plan q) k p.kept.driven.queue.chained p.serves.epoch in
       let mode = p.kept.driven.queue.passing.at k b.epoch b.is in
-      let whole : epoch_events e l plan q b.epoch ≡ attach_event e l plan q (begun_at plan q k) ∷ suspend_event e l plan q b.epoch.end ∷ [] = pass_events e l plan q b.epoch mode.0 mode.1 ∙ ap (λ n. attach_event e l plan q n ∷ suspend_event e l plan q b.epoch.end ∷ []) b.first in
-      let more : events_before e l plan q (k + 1) ≡ events_before e l plan q k ++ attach_event e l plan q (begun_at plan q k) ∷ suspend_event e l plan q b.epoch.end ∷ [] = flat_more (epoch_events e l plan q) (queue_epochs plan q) k b.epoch b.is ∙ ap (λ zs. events_before e l plan q k ++ zs) whole in
-      let front : IsPrefix (events_before e l plan q k ++ attach_event e l plan q (begun_at plan q k) ∷ []) (journal_events e l plan q) = prefix_through _ (events_before e l plan q (k + 1)) _ (subst (λ zs. IsPrefix (events_before e l plan q k ++ attach_event e l plan q (begun_at plan q k) ∷ []) zs) (sym more) (attach_front (events_before e l plan q k) (attach_event e l plan q (begun_at plan q k)) (suspend_event e l plan q b.epoch.end))) (front_of (epoch_events e l plan q) (queue_epochs plan q) (k + 1)) in
-      cut_kept words guest device p.view p.device_view p.kept (subst (λ zs. IsPrefix zs (journal_events e l plan q)) (sym p.serves.events) front)
+      let whole : epoch_events e l plan q b.epoch ≡ attach_event e l plan q (begun_at plan q k) ∷ suspend_event e l plan q b.epoch.end
+      ∷ [] = pass_events e l plan q b.epoch mode.0 mode.1
+      ∙ ap (λ n. attach_event e l plan q n ∷ suspend_event e l plan q b.epoch.end ∷ []) b.first in
+      let more : events_before e l plan q (k + 1) ≡ events_before e l plan q k ++ attach_event e l plan q (begun_at plan q k)
+      ∷ suspend_event e l plan q b.epoch.end ∷ [] = flat_more (epoch_events e l plan q) (queue_epochs plan q) k b.epoch b.is
+      ∙ ap (λ zs. events_before e l plan q k ++ zs) whole in
+      let front : IsPrefix (events_before e l plan q k ++ attach_event e l plan q (begun_at plan q k) ∷ [])
+      (journal_events e l plan q) = prefix_through _ (events_before e l plan q (k + 1)) _
+      (subst (λ zs. IsPrefix (events_before e l plan q k ++ attach_event e l plan q (begun_at plan q k) ∷ []) zs) (sym more)
+      (attach_front (events_before e l plan q k) (attach_event e l plan q (begun_at plan q k))
+      (suspend_event e l plan q b.epoch.end))) (front_of (epoch_events e l plan q) (queue_epochs plan q) (k + 1)) in
+      cut_kept words guest device p.view p.device_view p.kept
+      (subst (λ zs. IsPrefix zs (journal_events e l plan q)) (sym p.serves.events) front)
 
-  pub cut_epoch : (on : Bool) (k r : ℕ) (words : RingWords) (still : Option E) (guest : G) (device : X) → InEpochWith s plan q on k r words still guest device → IsCut s plan q guest device
+  pub cut_epoch : (on : Bool) (k r : ℕ) (words : RingWords) (still : Option E) (guest : G) (device : X)
+      → InEpochWith s plan q on k r words still guest device → IsCut s plan q guest device
   cut_epoch true k r words None guest device p = cut_passing k r words guest device p
   cut_epoch false k r words None guest device p = absurd p
   cut_epoch on k r words (Some end) guest device p = cut_stopped (k + 1) r words end guest device p

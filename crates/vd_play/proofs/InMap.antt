@@ -19,8 +19,10 @@ held (r ∷ rs) p lies = elim (cases_Bool (holds p r)) [
   | inr other ↦ rw other (held rs p (rw other at lies))
 ]
 
-pub chain_in_map : (rs : List Region) (c : List Piece) → list_all has_bytes c ≡ true → list_all (lies_in rs) c ≡ true → All (λ p. maps.lies_in (map own_address rs) p ≡ true) c
-chain_in_map rs c some inside = λ k d below. both (all_at has_bytes c d k some below) (held rs (slice_index_or c k d) (all_at (lies_in rs) c d k inside below))
+pub chain_in_map : (rs : List Region) (c : List Piece) → list_all has_bytes c ≡ true → list_all (lies_in rs) c ≡ true
+    → All (λ p. maps.lies_in (map own_address rs) p ≡ true) c
+chain_in_map rs c some inside =
+    λ k d below. both (all_at has_bytes c d k some below) (held rs (slice_index_or c k d) (all_at (lies_in rs) c d k inside below))
   where
     both : {a b : Bool} → a ≡ true → b ≡ true → (a && b) ≡ true
     both {a} {b} x y = ap (λ z. z && b) x ∙ y

@@ -21,7 +21,9 @@ use Rattle.vd_play.proofs.Lists.{prefix_at, prefix_through, prefix_take, chains_
 
 module _ {D E G X C : Type 0} (s : Setting D E G X C) (law : IsLawful s) (plan : Plan) (q : ℕ) where
   -- after some steps of the guest
-  pub driven_guest : (made : ℕ) (words words' : RingWords) (guest guest' : G) (v : DriverView) (w : DeviceView) → words'.ring ≡ words.ring → IsDriven s plan q words guest v w → (r : GuestRun s.layout s.guest words'.words v w guest guest' made) → IsDriven s plan q words' guest' r.view w
+  pub driven_guest : (made : ℕ) (words words' : RingWords) (guest guest' : G) (v : DriverView) (w : DeviceView)
+      → words'.ring ≡ words.ring → IsDriven s plan q words guest v w
+      → (r : GuestRun s.layout s.guest words'.words v w guest guest' made) → IsDriven s plan q words' guest' r.view w
   driven_guest made words words' guest guest' v w same k r = record {
     queue = k.queue;
     numbered = same ∙ k.numbered;
@@ -34,36 +36,58 @@ module _ {D E G X C : Type 0} (s : Setting D E G X C) (law : IsLawful s) (plan :
   }
 
   -- after some steps of the other side
-  pub driven_device : (words words' : RingWords) (guest : G) (v : DriverView) (w w' : DeviceView) → words'.ring ≡ words.ring → s.layout.ring words'.words v w' → IsDriven s plan q words guest v w → IsDriven s plan q words' guest v w'
+  pub driven_device : (words words' : RingWords) (guest : G) (v : DriverView) (w w' : DeviceView) → words'.ring ≡ words.ring
+      → s.layout.ring words'.words v w' → IsDriven s plan q words guest v w → IsDriven s plan q words' guest v w'
   driven_device words words' guest v w w' same ring k = record { queue = k.queue; numbered = same ∙ k.numbered; ring = ring; part = k.part }
 
-  pub kept_guest : (made : ℕ) (words words' : RingWords) (guest guest' : G) (device : X) (v : DriverView) (w : DeviceView) → words'.ring ≡ words.ring → IsKept s plan q words guest device v w → (r : GuestRun s.layout s.guest words'.words v w guest guest' made) → IsKept s plan q words' guest' device r.view w
-  kept_guest made words words' guest guest' device v w same k r = record { driven = driven_guest made words words' guest guest' v w same k.driven r; account = k.account; window = k.window; room = k.room }
-
-  -- what was taken and given since the attach is in the journal
-  account_device : (device device' : X) (w w' : DeviceView) (by : Attached) → s.party.holds device w → s.party.attached device ≡ Some by → IsData by.queue → by.from ≡ by.at → Account (s.party.begun device) w
-      → IsPrefix (s.party.begun device) (s.party.begun device') → IsPrefix (takes w.done) (takes w'.done) → IsPrefix (gives w.done) (gives w'.done) → IsServing (s.party.begun device') by w'.done → Account (s.party.begun device') w'
-  account_device device device' w w' by holds is for from a grows more_takes more_gives new =
-      let old : IsServing (s.party.begun device) by w.done = law.party.serves device w by holds is for in
-      let chains : chains_of (drop by.at (s.party.begun device')) ≡ drop by.at (takes w'.done) = new.chains ∙ ap (λ n. drop n (takes w'.done)) from in
-      let given : All (IsJournalled (s.party.begun device') by.at by.at) (drop by.at (gives w'.done)) = subst (λ n. All (IsJournalled (s.party.begun device') by.at n) (drop n (gives w'.done))) from new.given in
+  pub kept_guest : (made : ℕ) (words words' : RingWords) (guest guest' : G) (device : X) (v : DriverView) (w : DeviceView)
+      → words'.ring ≡ words.ring → IsKept s plan q words guest device v w
+      → (r : GuestRun s.layout s.guest words'.words v w guest guest' made) → IsKept s plan q words' guest' device r.view w
+  kept_guest made words words' guest guest' device v w same k r =
       record {
-        chains = chains_joined (s.party.begun device) (s.party.begun device') (takes w.done) (takes w'.done) by.at grows more_takes a.chains old.after chains;
-        each = begun_joined (s.party.begun device) (s.party.begun device') by.at grows old.after a.each new.each;
-        given = given_joined (s.party.begun device) (s.party.begun device') (gives w.done) (gives w'.done) by.at grows more_gives (omega (arith, old.before, from)) a.given given;
+        driven = driven_guest made words words' guest guest' v w same k.driven r;
+        account = k.account;
+        window = k.window;
+        room =
+            k.room;
       }
 
-  pub kept_device : (made : ℕ) (words words' : RingWords) (guest : G) (device device' : X) (v : DriverView) (w : DeviceView) (by : Attached) → words'.ring ≡ words.ring → s.party.holds device w → s.party.attached device ≡ Some by → IsData by.queue → by.from ≡ by.at
-      → IsKept s plan q words guest device v w → (r : DeviceRun s.layout s.party words'.words v w device device' made) → IsKept s plan q words' guest device' v r.view
+  -- what was taken and given since the attach is in the journal
+  account_device : (device device' : X) (w w' : DeviceView) (by : Attached) → s.party.holds device w → s.party.attached device ≡ Some by
+      → IsData by.queue → by.from ≡ by.at → Account (s.party.begun device) w
+      → IsPrefix (s.party.begun device) (s.party.begun device') → IsPrefix (takes w.done) (takes w'.done)
+      → IsPrefix (gives w.done) (gives w'.done) → IsServing (s.party.begun device') by w'.done → Account (s.party.begun device') w'
+  account_device device device' w w' by holds is for from a grows more_takes more_gives new =
+      let old : IsServing (s.party.begun device) by w.done = law.party.serves device w by holds is for in
+      let chains : chains_of (drop by.at (s.party.begun device')) ≡ drop by.at (takes w'.done) =
+      new.chains ∙ ap (λ n. drop n (takes w'.done)) from in
+      let given : All (IsJournalled (s.party.begun device') by.at by.at) (drop by.at (gives w'.done)) =
+      subst (λ n. All (IsJournalled (s.party.begun device') by.at n) (drop n (gives w'.done))) from new.given in
+      record {
+        chains = chains_joined (s.party.begun device) (s.party.begun device') (takes w.done) (takes w'.done) by.at grows more_takes
+            a.chains old.after chains;
+        each = begun_joined (s.party.begun device) (s.party.begun device') by.at grows old.after a.each new.each;
+        given = given_joined (s.party.begun device) (s.party.begun device') (gives w.done) (gives w'.done) by.at grows more_gives
+            (omega (arith, old.before, from)) a.given given;
+      }
+
+  pub kept_device : (made : ℕ) (words words' : RingWords) (guest : G) (device device' : X) (v : DriverView) (w : DeviceView)
+      (by : Attached) → words'.ring ≡ words.ring → s.party.holds device w → s.party.attached device ≡ Some by → IsData by.queue
+      → by.from ≡ by.at
+      → IsKept s plan q words guest device v w → (r : DeviceRun s.layout s.party words'.words v w device device' made)
+      → IsKept s plan q words' guest device' v r.view
   kept_device made words words' guest device device' v w by same holds is for from k r = record {
     driven = driven_device words words' guest v w r.view same r.ring k.driven;
-    account = account_device device device' w r.view by holds is for from k.account r.served.grows r.grows.takes r.grows.gives (law.party.serves device' r.view by r.holds (r.served.attached ∙ is) for);
+    account = account_device device device' w r.view by holds is for from k.account r.served.grows r.grows.takes r.grows.gives
+        (law.party.serves device' r.view by r.holds (r.served.attached ∙ is) for);
     window = r.served.window ∙ k.window;
     room = omega (arith, k.room, r.served.room.1);
   }
 
   -- after the device's attach or suspension
-  pub kept_still : (words : RingWords) (guest : G) (device device' : X) (v : DriverView) (w : DeviceView) → s.party.begun device' ≡ s.party.begun device → s.party.window device' ≡ s.party.window device → s.party.chain_room device ≤ s.party.chain_room device'
+  pub kept_still : (words : RingWords) (guest : G) (device device' : X) (v : DriverView) (w : DeviceView)
+      → s.party.begun device' ≡ s.party.begun device → s.party.window device' ≡ s.party.window device
+      → s.party.chain_room device ≤ s.party.chain_room device'
       → IsKept s plan q words guest device v w → IsKept s plan q words guest device' v w
   kept_still words guest device device' v w same window room k = record {
     driven = k.driven;
@@ -72,18 +96,24 @@ module _ {D E G X C : Type 0} (s : Setting D E G X C) (law : IsLawful s) (plan :
     room = omega (arith, k.room, room, ap length same);
   }
 
-  pub prefix_of : (words : RingWords) (guest : G) (v : DriverView) (w : DeviceView) → IsDriven s plan q words guest v w → IsPrefix (takes w.done) (queue_chains plan q)
-  prefix_of words guest v w k = prefix_through (takes w.done) (offers v.done) (queue_chains plan q) (prefix_take (takes w.done) (offers v.done) (length (takes w.done)) (law.layout.lists words.words v w k.ring).taken) (law.guest.offers guest v (queue_script plan q) k.part.holds k.part.script k.queue.plain)
+  pub prefix_of : (words : RingWords) (guest : G) (v : DriverView) (w : DeviceView) → IsDriven s plan q words guest v w
+      → IsPrefix (takes w.done) (queue_chains plan q)
+  prefix_of words guest v w k = prefix_through (takes w.done) (offers v.done) (queue_chains plan q)
+      (prefix_take (takes w.done) (offers v.done) (length (takes w.done)) (law.layout.lists words.words v w k.ring).taken)
+      (law.guest.offers guest v (queue_script plan q) k.part.holds k.part.script k.queue.plain)
 
-  pub taken_of : (words : RingWords) (guest : G) (v : DriverView) (w : DeviceView) (n : ℕ) → IsDriven s plan q words guest v w → length (takes w.done) ≡ n → takes w.done ≡ take n (queue_chains plan q)
+  pub taken_of : (words : RingWords) (guest : G) (v : DriverView) (w : DeviceView) (n : ℕ) → IsDriven s plan q words guest v w
+      → length (takes w.done) ≡ n → takes w.done ≡ take n (queue_chains plan q)
   taken_of words guest v w n k is = prefix_at (takes w.done) (queue_chains plan q) n (prefix_of words guest v w k) is
 
   pub begun_of : (begun : List Begun) (w : DeviceView) → Account begun w → length begun ≡ length (takes w.done)
   begun_of begun w a = sym (length-map begun (λ b. b.chain)) ∙ ap length a.chains
 
   -- a still end's base is that of the chains taken
-  pub base_of : (words : RingWords) (end : E) (guest : G) (v : DriverView) (w : DeviceView) (n : ℕ) → IsDriven s plan q words guest v w → s.device.stands end w → IsStill s.device end → length (takes w.done) ≡ n
+  pub base_of : (words : RingWords) (end : E) (guest : G) (v : DriverView) (w : DeviceView) (n : ℕ) → IsDriven s plan q words guest v w
+      → s.device.stands end w → IsStill s.device end → length (takes w.done) ≡ n
       → record { 0 = s.device.base end } ≡ base_at s.device s.layout plan q n
   base_of words end guest v w n k stands still is =
       let framed : w.frame ≡ guest_frame s.layout plan q = (law.layout.wide words.words v w k.ring).1 ∙ k.part.framed in
-      ap (λ b. record { 0 = b }) (law.layout.device_end.based end w stands still ∙ ap (λ f. s.device.base_of f (takes w.done)) framed ∙ ap (λ cs. s.device.base_of (guest_frame s.layout plan q) cs) (taken_of words guest v w n k is))
+      ap (λ b. record { 0 = b }) (law.layout.device_end.based end w stands still ∙ ap (λ f. s.device.base_of f (takes w.done)) framed
+      ∙ ap (λ cs. s.device.base_of (guest_frame s.layout plan q) cs) (taken_of words guest v w n k is))

@@ -29,7 +29,8 @@ same_front : {A : Type 0} (n : ℕ) (xs ys : List A) → IsPrefix xs ys → n �
 same_front n xs ys p le = ap (λ zs. take n zs) (sym p.1) ∙ take-append-le n xs p.0 le
 
 pub prefix_at : {A : Type 0} (xs ys : List A) (n : ℕ) → IsPrefix xs ys → length xs ≡ n → xs ≡ take n ys
-prefix_at xs ys n p is = sym (ap (λ zs. take n zs) (sym p.1) ∙ take-append-le n xs p.0 (omega arith) ∙ ap (λ k. take k xs) (sym is) ∙ take_all (length xs) xs (omega arith))
+prefix_at xs ys n p is = sym (ap (λ zs. take n zs) (sym p.1) ∙ take-append-le n xs p.0 (omega arith) ∙ ap (λ k. take k xs) (sym is)
+    ∙ take_all (length xs) xs (omega arith))
 
 pub prefix_through : {A : Type 0} (xs ys zs : List A) → IsPrefix xs ys → IsPrefix ys zs → IsPrefix xs zs
 prefix_through xs ys zs p q = (p.0 ++ q.0, sym (append_assoc xs p.0 q.0) ∙ ap (λ us. us ++ q.0) p.1 ∙ q.1)
@@ -48,18 +49,24 @@ prefix_whole xs ys p same = elim p.0 as (λ t. xs ++ t ≡ ys → xs ≡ ys) [
 
 -- ---- what a device has begun and given
 
-pub chains_joined : (bs bs' : List Begun) (t t' : List (List Piece)) (at : ℕ) → IsPrefix bs bs' → IsPrefix t t' → chains_of bs ≡ t → at ≤ length bs → chains_of (drop at bs') ≡ drop at t' → chains_of bs' ≡ t'
+pub chains_joined : (bs bs' : List Begun) (t t' : List (List Piece)) (at : ℕ) → IsPrefix bs bs' → IsPrefix t t' → chains_of bs ≡ t
+    → at ≤ length bs → chains_of (drop at bs') ≡ drop at t' → chains_of bs' ≡ t'
 chains_joined bs bs' t t' at p q same le rest =
     let f : Begun → List Piece = λ b. b.chain in
     let len : at ≤ length t = omega (arith, length-map bs f, ap length same) in
-    let front : take at (map f bs') ≡ take at t' = take-map f at bs' ∙ ap (λ zs. map f zs) (same_front at bs bs' p le) ∙ sym (take-map f at bs) ∙ ap (λ zs. take at zs) same ∙ sym (same_front at t t' q len) in
+    let front : take at (map f bs') ≡ take at t' = take-map f at bs' ∙ ap (λ zs. map f zs) (same_front at bs bs' p le)
+    ∙ sym (take-map f at bs) ∙ ap (λ zs. take at zs) same ∙ sym (same_front at t t' q len) in
     let back : drop at (map f bs') ≡ drop at t' = drop-map f at bs' ∙ rest in
-    sym (take-append-drop at (map f bs')) ∙ ap (λ zs. zs ++ drop at (map f bs')) front ∙ ap (λ zs. take at t' ++ zs) back ∙ take-append-drop at t'
+    sym (take-append-drop at (map f bs')) ∙ ap (λ zs. zs ++ drop at (map f bs')) front ∙ ap (λ zs. take at t' ++ zs) back
+    ∙ take-append-drop at t'
 
-pub begun_joined : (bs bs' : List Begun) (at : ℕ) → IsPrefix bs bs' → at ≤ length bs → All IsBegun bs → All IsBegun (drop at bs') → All IsBegun bs'
+pub begun_joined : (bs bs' : List Begun) (at : ℕ) → IsPrefix bs bs' → at ≤ length bs → All IsBegun bs → All IsBegun (drop at bs')
+    → All IsBegun bs'
 begun_joined bs bs' at p le old new =
-    let front : All IsBegun (take at bs') = All-same IsBegun (take at bs') (take at bs) (same_front at bs bs' p le) (All-take IsBegun at bs old) in
-    All-same IsBegun bs' (take at bs' ++ drop at bs') (sym (take-append-drop at bs')) (All-append IsBegun (take at bs') (drop at bs') front new)
+    let front : All IsBegun (take at bs') =
+    All-same IsBegun (take at bs') (take at bs) (same_front at bs bs' p le) (All-take IsBegun at bs old) in
+    All-same IsBegun bs' (take at bs' ++ drop at bs') (sym (take-append-drop at bs'))
+    (All-append IsBegun (take at bs') (drop at bs') front new)
 
 given_more : (bs bs' : List Begun) → IsPrefix bs bs' → (u : Used) → HasGiven (lens_of bs) u → HasGiven (lens_of bs') u
 given_more bs bs' p u h =
@@ -72,9 +79,12 @@ given_at bs at u h =
     let e : u.number - at + at ≡ u.number = omega (arith, h.since) in
     ap (λ k. slice_get (lens_of bs) k) (sym e) ∙ h.len
 
-pub given_joined : (bs bs' : List Begun) (g g' : List Used) (at : ℕ) → IsPrefix bs bs' → IsPrefix g g' → at ≤ length g → All (HasGiven (lens_of bs)) g → All (IsJournalled bs' at at) (drop at g') → All (HasGiven (lens_of bs')) g'
+pub given_joined : (bs bs' : List Begun) (g g' : List Used) (at : ℕ) → IsPrefix bs bs' → IsPrefix g g' → at ≤ length g
+    → All (HasGiven (lens_of bs)) g → All (IsJournalled bs' at at) (drop at g') → All (HasGiven (lens_of bs')) g'
 given_joined bs bs' g g' at p q le old new =
     let P : Used → Type 0 = HasGiven (lens_of bs') in
-    let front : All P (take at g') = All-same P (take at g') (take at g) (same_front at g g' q le) (All-take P at g (All-weaker (HasGiven (lens_of bs)) P (given_more bs bs' p) g old)) in
+    let front : All P (take at g') =
+    All-same P (take at g') (take at g) (same_front at g g' q le)
+    (All-take P at g (All-weaker (HasGiven (lens_of bs)) P (given_more bs bs' p) g old)) in
     let back : All P (drop at g') = All-weaker (IsJournalled bs' at at) P (given_at bs' at) (drop at g') new in
     All-same P g' (take at g' ++ drop at g') (sym (take-append-drop at g')) (All-append P (take at g') (drop at g') front back)

@@ -45,14 +45,18 @@ no_items (x ∷ xs) h = absurd (omega arith)
 
 runs_fit : (f : Frame) (rs : List Run) → All (λ (r : Run). Fits f r.chain) rs → All (Fits f) (run_chains rs)
 runs_fit f [] h = All-nil (Fits f)
-runs_fit f (r ∷ rs) h = All-append (Fits f) (replicate r.count r.chain) (run_chains rs) (All-replicate (Fits f) r.count r.chain (All-head (λ (x : Run). Fits f x.chain) r rs h)) (runs_fit f rs (All-tail (λ (x : Run). Fits f x.chain) r rs h))
+runs_fit f (r ∷ rs) h = All-append (Fits f) (replicate r.count r.chain) (run_chains rs)
+    (All-replicate (Fits f) r.count r.chain (All-head (λ (x : Run). Fits f x.chain) r rs h))
+    (runs_fit f rs (All-tail (λ (x : Run). Fits f x.chain) r rs h))
 
-pub queue_is : (l : LayoutModel) (plan : Plan) (q : ℕ) → Keeps plan → q < length plan.queues → All (λ (r : Run). IsChain r.chain) (queue_script plan q).runs → IsQueue l plan q
+pub queue_is : (l : LayoutModel) (plan : Plan) (q : ℕ) → Keeps plan → q < length plan.queues
+    → All (λ (r : Run). IsChain r.chain) (queue_script plan q).runs → IsQueue l plan q
 queue_is l plan q k below are =
     let f : Frame = guest_frame l plan q in
     let d : Script = script [] in record {
       low = omega (arith, one_queue plan.queues k.counted, below);
-      plain = no_items (queue_script plan q).commands (queue_has_no_commands (most_pieces plan.features plan.size) plan.queues d q k.fitted below);
+      plain = no_items (queue_script plan q).commands
+          (queue_has_no_commands (most_pieces plan.features plan.size) plan.queues d q k.fitted below);
       sized = (size_bounds plan.packed plan.size k.sized).0;
       epochs = omega (arith, many_epochs plan (length (queue_chains plan q)), k.unswitched);
       few = omega (arith, chains_count (queue_script plan q).runs, queue_is_short plan.queues d q k.counted below);
@@ -68,16 +72,28 @@ queue_is l plan q k below are =
     }
 
 module _ {D E G X C : Type 0} (s : Setting D E G X C) (law : IsLawful s) (plan : Plan) (q : ℕ) where
-  pub made : (words : RingWords) (driver : D) (end : E) (guest guest1 guest2 : G) (device device' : X) → IsQueue s.layout plan q → CanMake s.layout plan.size plan.features → words.ring ≡ q → words.words ≡ replicate (s.layout.width (guest_frame s.layout plan q)) 0
-      → IsFresh s.driver s.device s.layout plan.size plan.features false driver end → IsEmptyGuest s.guest guest → s.guest.script guest1 ≡ Some (queue_script plan q) → (s.guest.accesses guest1 ≡ s.guest.accesses guest) × (s.guest.heard guest1 ≡ s.guest.heard guest) → IsBoot s.driver s.guest driver guest1 guest2
-      → IsEmptyDevice s.party device → IsUnchanged s.party device device' → s.party.window device' ≡ plan.window → 2 * (length plan.switches + 2) ≤ s.party.event_room device' → length (queue_chains plan q) ≤ s.party.chain_room device' → IsStopped s plan q 0 0 words end guest2 device'
+  pub made : (words : RingWords) (driver : D) (end : E) (guest guest1 guest2 : G) (device device' : X) → IsQueue s.layout plan q
+      → CanMake s.layout plan.size plan.features → words.ring ≡ q → words.words ≡ replicate (s.layout.width (guest_frame s.layout plan q)) 0
+      → IsFresh s.driver s.device s.layout plan.size plan.features false driver end → IsEmptyGuest s.guest guest
+      → s.guest.script guest1 ≡ Some (queue_script plan q) → (s.guest.accesses guest1 ≡ s.guest.accesses guest)
+      × (s.guest.heard guest1 ≡ s.guest.heard guest) → IsBoot s.driver s.guest driver guest1 guest2
+      → IsEmptyDevice s.party device → IsUnchanged s.party device device' → s.party.window device' ≡ plan.window
+      → 2 * (length plan.switches + 2) ≤ s.party.event_room device' → length (queue_chains plan q) ≤ s.party.chain_room device'
+      → IsStopped s plan q 0 0 words end guest2 device'
   made words driver end guest guest1 guest2 device device' queue can number is fresh idle script counts boot empty same window events room =
       let f : Frame = guest_frame s.layout plan q in
       let v : DriverView = fresh_driver f (s.layout.width f) in
       let w : DeviceView = fresh_device f (s.layout.width f) in
-      let with : IsMadeWith s.layout plan.size plan.features false f = record { packed = refl; size = refl; features = refl; control = refl } in
+      let with : IsMadeWith s.layout plan.size plan.features false f =
+      record { packed = refl; size = refl; features = refl; control = refl } in
       let none : s.party.begun device' ≡ [] = same.begun ∙ empty.begun in
-      let boots : CanBoot (queue_script plan q) v = record { fresh = refl; unarmed = refl; fits = queue.fits; other = λ h. refl; control = λ h. absurd (h queue.plain) } in
+      let boots : CanBoot (queue_script plan q) v = record {
+        fresh = refl;
+        unarmed = refl;
+        fits = queue.fits;
+        other = λ h. refl;
+        control = λ h. absurd (h queue.plain);
+      } in
       let account : Account [] w = record { chains = refl; each = All-nil IsBegun; given = All-nil (HasGiven (lens_of [])) } in
       let times : attaches (s.party.events device') ≡ 0 = ap attaches (same.events ∙ empty.events) in
       record {
@@ -88,7 +104,12 @@ module _ {D E G X C : Type 0} (s : Setting D E G X C) (law : IsLawful s) (plan :
             queue = queue;
             numbered = number;
             ring = subst (λ ws. s.layout.ring ws v w) (sym is) (law.layout.opens plan.size plan.features false f can with);
-            part = record { script = boot.script ∙ script; holds = boot.holds v (queue_script plan q) script (fresh.drives f with) boots; framed = refl };
+            part = record {
+              script = boot.script ∙ script;
+              holds =
+                  boot.holds v (queue_script plan q) script (fresh.drives f with) boots;
+              framed = refl;
+            };
           };
           account = subst (λ (bs : List Begun). Account bs w) (sym none) account;
           window = window;

@@ -36,19 +36,26 @@ module _ {D E G X C : Type 0} (s : Setting D E G X C) (law : IsLawful s) (plan :
     pub counted : s.guest.accesses guest' ≡ s.guest.accesses guest + made
 
   -- a guest after some steps
-  pub guest_paced : (made : ℕ) (words' : RingWords) (guest guest' : G) (v : DriverView) (w : DeviceView) → s.guest.heard guest ≤ driver_hearings v → s.guest.accesses guest ≤ guest_bound (length (queue_chains plan q))
-      → (r : GuestRun s.layout s.guest words'.words v w guest guest' made) → IsDriven s plan q words' guest' r.view w → made ≤ 4 → GuestPaced guest guest' made r.view
+  pub guest_paced : (made : ℕ) (words' : RingWords) (guest guest' : G) (v : DriverView) (w : DeviceView)
+      → s.guest.heard guest ≤ driver_hearings v → s.guest.accesses guest ≤ guest_bound (length (queue_chains plan q))
+      → (r : GuestRun s.layout s.guest words'.words v w guest guest' made) → IsDriven s plan q words' guest' r.view w → made ≤ 4
+      → GuestPaced guest guest' made r.view
   guest_paced made words' guest guest' v w before low r k few =
       let n : ℕ = length (queue_chains plan q) in
       let signals : RingSignals r.view w = law.layout.signals words'.words r.view w r.ring in
       let lists : Lists r.view.frame r.view.done w.done = law.layout.lists words'.words r.view w r.ring in
       let offered : s.guest.offered guest' ≡ length (offers r.view.done) = law.guest.offered guest' r.view r.holds in
       let most : length (offers r.view.done) ≤ n = offers_le s law plan q words' guest' r.view w k in
-      let returned : length (s.guest.returned guest') ≡ length (collects r.view.done) = ap length (law.guest.returned guest' r.view (queue_script plan q) r.holds k.part.script k.queue.plain) ∙ length-map (collects r.view.done) as_return in
+      let returned : length (s.guest.returned guest') ≡ length (collects r.view.done) =
+      ap length (law.guest.returned guest' r.view (queue_script plan q) r.holds k.part.script k.queue.plain)
+      ∙ length-map (collects r.view.done) as_return in
       let counted : s.guest.accesses guest' ≡ s.guest.accesses guest + made = r.accesses (omega (arith, low, k.queue.few)) in
       let heard : s.guest.heard guest' ≤ driver_hearings r.view = omega (arith, r.heard, before) in
-      let bells : r.view.heard ≤ length (gives w.done) = omega (arith, signals.calls.heard, signals.calls.bells, few_gives r.view.frame w.done lists.entries) in
-      let pace : s.guest.accesses guest' ≤ 64 * (s.guest.offered guest' + length (s.guest.returned guest') + s.guest.heard guest' + 1) = law.guest.pace guest' (omega (arith, low, k.queue.few, counted)) (omega (arith, heard, bells, lists.some, lists.count, most, k.queue.few)) in
+      let bells : r.view.heard ≤ length (gives w.done) =
+      omega (arith, signals.calls.heard, signals.calls.bells, few_gives r.view.frame w.done lists.entries) in
+      let pace : s.guest.accesses guest' ≤ 64 * (s.guest.offered guest' + length (s.guest.returned guest') + s.guest.heard guest' + 1) =
+      law.guest.pace guest' (omega (arith, low, k.queue.few, counted))
+      (omega (arith, heard, bells, lists.some, lists.count, most, k.queue.few)) in
       record {
         heard = heard;
         low = omega (arith, pace, offered, returned, heard, bells, lists.some, lists.count, lists.fewer, most);
@@ -57,7 +64,8 @@ module _ {D E G X C : Type 0} (s : Setting D E G X C) (law : IsLawful s) (plan :
 
   -- bells that a device hears are stored for chains that were offered
   device_bells : (words : List ℕ) (v : DriverView) (w : DeviceView) → s.layout.ring words v w → w.heard ≤ length (offers v.done)
-  device_bells words v w ring = let signals : RingSignals v w = law.layout.signals words v w ring in omega (arith, signals.kicks.heard, signals.kicks.bells)
+  device_bells words v w ring = let signals : RingSignals v w = law.layout.signals words v w ring in
+      omega (arith, signals.kicks.heard, signals.kicks.bells)
 
   pub record DevicePaced (n : ℕ) (device device' : X) (made : ℕ) (w : DeviceView) : Type 0 where
     pub heard : s.party.heard device' ≤ device_hearings w
@@ -65,8 +73,10 @@ module _ {D E G X C : Type 0} (s : Setting D E G X C) (law : IsLawful s) (plan :
     pub counted : s.party.accesses device' ≡ s.party.accesses device + made
 
   -- a device after some steps: what it heard is in the view
-  pub device_paced : (n made : ℕ) (words' : List ℕ) (device device' : X) (v : DriverView) (w : DeviceView) (by : Attached) → s.party.heard device ≤ device_hearings w → s.party.accesses device ≤ device_bound n (attaches (s.party.events device))
-      → (r : DeviceRun s.layout s.party words' v w device device' made) → made ≤ 4 → s.party.attached device ≡ Some by → IsData by.queue → by.at + by.count ≤ n → length (offers v.done) ≤ n → n ≤ 200000 → attaches (s.party.events device) ≤ 200
+  pub device_paced : (n made : ℕ) (words' : List ℕ) (device device' : X) (v : DriverView) (w : DeviceView) (by : Attached)
+      → s.party.heard device ≤ device_hearings w → s.party.accesses device ≤ device_bound n (attaches (s.party.events device))
+      → (r : DeviceRun s.layout s.party words' v w device device' made) → made ≤ 4 → s.party.attached device ≡ Some by → IsData by.queue
+      → by.at + by.count ≤ n → length (offers v.done) ≤ n → n ≤ 200000 → attaches (s.party.events device) ≤ 200
       → DevicePaced n device device' made r.view
   device_paced n made words' device device' v w by before low r few is for within offered short times =
       let lists : Lists v.frame v.done r.view.done = law.layout.lists words' v r.view r.ring in
@@ -75,9 +85,22 @@ module _ {D E G X C : Type 0} (s : Setting D E G X C) (law : IsLawful s) (plan :
       let heard : s.party.heard device' ≤ device_hearings r.view = omega (arith, r.heard, before) in
       let bells : r.view.heard ≤ length (offers v.done) = device_bells words' v r.view r.ring in
       let counted : s.party.accesses device' ≡ s.party.accesses device + made = r.accesses (omega (arith, low, short, times)) in
-      let pace = law.party.pace device' r.view by r.holds is' (omega (arith, counted, low, short, times)) (omega (arith, heard, bells, offered, short)) in
+      let pace = law.party.pace device' r.view by r.holds is' (omega (arith, counted, low, short, times))
+      (omega (arith, heard, bells, offered, short)) in
       record {
         heard = heard;
-        low = omega (arith, pace, serves.as_many, serves.before, serves.few, lists.count, heard, bells, offered, within, ap attaches r.served.events);
+        low = omega (
+          arith,
+          pace,
+          serves.as_many,
+          serves.before,
+          serves.few,
+          lists.count,
+          heard,
+          bells,
+          offered,
+          within,
+          ap attaches r.served.events,
+        );
         counted = counted;
       }

@@ -12,14 +12,16 @@ use Rattle.vd_play.specs.Epochs.{Epoch, AreChained, ArePassing, begun_before}
 use Rattle.vd_play.specs.Journal.{queue_chains, queue_epochs, own_chains, epoch_chains, epoch_events, attach_event, suspend_event, journal_chains}
 use Rattle.vd_play.proofs.Bounds.{bounded, flat_more}
 
-pub pass_events : {E : Type 0} (e : DeviceModel E) (l : LayoutModel) (plan : Plan) (q : ℕ) (ep : Epoch) → ep.mode ≡ Pass → ep.renewed ≡ false → epoch_events e l plan q ep ≡ attach_event e l plan q ep.first ∷ suspend_event e l plan q ep.end ∷ []
+pub pass_events : {E : Type 0} (e : DeviceModel E) (l : LayoutModel) (plan : Plan) (q : ℕ) (ep : Epoch) → ep.mode ≡ Pass
+    → ep.renewed ≡ false → epoch_events e l plan q ep ≡ attach_event e l plan q ep.first ∷ suspend_event e l plan q ep.end ∷ []
 pass_events e l plan q ep m r = rw (m, r) refl
 
 pass_chains : (plan : Plan) (q : ℕ) (ep : Epoch) → ep.mode ≡ Pass → epoch_chains plan q ep ≡ own_chains plan q ep
 pass_chains plan q ep m = rw m refl
 
 -- the chains of the first k epochs are the first ones of the script
-front : (plan : Plan) (q k : ℕ) → AreChained (length (queue_chains plan q)) (queue_epochs plan q) → ArePassing (queue_epochs plan q) → k ≤ length (queue_epochs plan q)
+front : (plan : Plan) (q k : ℕ) → AreChained (length (queue_chains plan q)) (queue_epochs plan q) → ArePassing (queue_epochs plan q)
+    → k ≤ length (queue_epochs plan q)
     → flat_map (epoch_chains plan q) (take k (queue_epochs plan q)) ≡ take (begun_before (queue_epochs plan q) k) (queue_chains plan q)
 front plan q zero c p le = refl
 front plan q (suc k) c p le =
@@ -28,7 +30,8 @@ front plan q (suc k) c p le =
     let b = bounded (length cs) es k c (omega arith) in
     let first : ℕ = begun_before es k in
     let mine : epoch_chains plan q b.epoch ≡ take (begun_before es (k + 1) - first) (drop first cs) =
-    pass_chains plan q b.epoch (p.at k b.epoch b.is).0 ∙ ap (λ j. take (b.epoch.end - j) (drop j cs)) b.first ∙ ap (λ j. take (j - first) (drop first cs)) b.end in
+    pass_chains plan q b.epoch (p.at k b.epoch b.is).0 ∙ ap (λ j. take (b.epoch.end - j) (drop j cs)) b.first
+    ∙ ap (λ j. take (j - first) (drop first cs)) b.end in
     let sum : first + (begun_before es (k + 1) - first) ≡ begun_before es (k + 1) = omega (arith, b.rises) in
     ap (λ j. flat_map (epoch_chains plan q) (take j es)) (sym (add-one k))
     ∙ flat_more (epoch_chains plan q) es k b.epoch b.is
@@ -39,7 +42,9 @@ front plan q (suc k) c p le =
     ∙ ap (λ j. take (begun_before es j) cs) (add-one k)
 
 -- together they are the script's
-pub all_chains : (plan : Plan) (q : ℕ) → AreChained (length (queue_chains plan q)) (queue_epochs plan q) → ArePassing (queue_epochs plan q) → journal_chains plan q ≡ queue_chains plan q
+pub all_chains : (plan : Plan) (q : ℕ) → AreChained (length (queue_chains plan q)) (queue_epochs plan q)
+    → ArePassing (queue_epochs plan q) → journal_chains plan q ≡ queue_chains plan q
 all_chains plan q c p =
     let es : List Epoch = queue_epochs plan q in
-    sym (ap (flat_map (epoch_chains plan q)) (take-length es)) ∙ front plan q (length es) c p (omega arith) ∙ take_all (begun_before es (length es)) (queue_chains plan q) (omega (arith, c.whole))
+    sym (ap (flat_map (epoch_chains plan q)) (take-length es)) ∙ front plan q (length es) c p (omega arith)
+    ∙ take_all (begun_before es (length es)) (queue_chains plan q) (omega (arith, c.whole))

@@ -72,7 +72,8 @@ ring_of q ep = by_mode ep.mode q (16 * (ep.number + 1) + q)
 -- in the mode shadow a device finds each region at the lowest iovas that those before it leave
 abbrev pub shadow_map : Plan → List Mapping
 shadow_map plan =
-    unwrap_or (laid (map (λ (r : Region). (r.addr, r.size)) plan.regions) (record { first = plan.first; last = plan.last; mappings = [] })) []
+    unwrap_or (laid (map (λ (r : Region). (r.addr, r.size)) plan.regions)
+    (record { first = plan.first; last = plan.last; mappings = [] })) []
 
 -- a shadow ring has no bounds
 abbrev pub shadow_frame : LayoutModel → Plan → ℕ → Frame

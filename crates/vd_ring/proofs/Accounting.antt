@@ -26,7 +26,8 @@ upto_at (suc n) j h = elim (cases_lt j n) [
 pub ordered : (us : List Used) → ((j : ℕ) → j < length us → (used_at us j).number ≡ j) → Ordered us
 ordered us at =
     let len : length (numbers us) ≡ length us = length-map us (λ (u : Used). u.number) in
-    same_number_lists (numbers us) (upto (length us)) (len ∙ sym (length_upto (length us))) (λ j h. number_at us j (omega arith) ∙ at j (omega arith) ∙ sym (upto_at (length us) j (omega arith)))
+    same_number_lists (numbers us) (upto (length us)) (len ∙ sym (length_upto (length us)))
+    (λ j h. number_at us j (omega arith) ∙ at j (omega arith) ∙ sym (upto_at (length us) j (omega arith)))
 
 -- ---- lengths
 
@@ -38,12 +39,15 @@ as_many : {X : Type 0} (g : List Used) (k : ℕ) (cs : List X) → length (with_
 as_many g k [] = refl
 as_many g k (c ∷ cs) = omega (arith, as_many g (k + 1) cs)
 
-length_at : {X : Type 0} (g : List Used) (k : ℕ) (cs : List X) (j : ℕ) (d : X × ℕ) → j < length cs → (slice_index_or (with_lengths g k cs) j d).1 ≡ given_len g (k + j)
+length_at : {X : Type 0} (g : List Used) (k : ℕ) (cs : List X) (j : ℕ) (d : X × ℕ) → j < length cs
+    → (slice_index_or (with_lengths g k cs) j d).1 ≡ given_len g (k + j)
 length_at g k [] j d h = absurd (omega arith)
 length_at g k (c ∷ cs) zero d h = let e : k ≡ k + 0 = omega arith in ap (given_len g) e
-length_at g k (c ∷ cs) (suc j) d h = let e : k + 1 + j ≡ k + suc j = omega arith in length_at g (k + 1) cs j d (omega arith) ∙ ap (given_len g) e
+length_at g k (c ∷ cs) (suc j) d h = let e : k + 1 + j ≡ k + suc j = omega arith in length_at g (k + 1) cs j d (omega arith)
+    ∙ ap (given_len g) e
 
-len_of : (us : List Used) (j : ℕ) → j < length us → occurs (used_at us j).number (numbers us) ≤ 1 → given_len us (used_at us j).number ≡ (used_at us j).len
+len_of : (us : List Used) (j : ℕ) → j < length us → occurs (used_at us j).number (numbers us) ≤ 1
+    → given_len us (used_at us j).number ≡ (used_at us j).len
 len_of [] j h once = absurd (omega arith)
 len_of (u ∷ us) zero h once = rw (eq-eqb u.number u.number refl) refl
 len_of (u ∷ us) (suc j) h once = elim (cases_eq u.number (used_at us j).number) [

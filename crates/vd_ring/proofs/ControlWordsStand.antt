@@ -12,8 +12,10 @@ use Rattle.vd_ring.proofs.Counts.{occurs_from}
 use Rattle.vd_ring.proofs.DeviceLists.{running_head, same_taken_head}
 use Rattle.vd_ring.proofs.HeldInside.{head_low}
 
-pub control_stands : (f : Frame) (command ack : Frame → ℕ → ℕ) (o : List DriverDone) (s : List DeviceDone) (ws driven served : List ℕ) → 0 < f.size → Places f o → Lists f o s
-    → (f.control ≡ true → (h i : ℕ) → h < f.size → i < 2 → slice_index ws (command f h + i) ≡ slice_index driven (command f h + i)) → (f.control ≡ true → (h : ℕ) → h < f.size → slice_index ws (ack f h) ≡ slice_index served (ack f h))
+pub control_stands : (f : Frame) (command ack : Frame → ℕ → ℕ) (o : List DriverDone) (s : List DeviceDone) (ws driven served : List ℕ)
+    → 0 < f.size → Places f o → Lists f o s
+    → (f.control ≡ true → (h i : ℕ) → h < f.size → i < 2 → slice_index ws (command f h + i) ≡ slice_index driven (command f h + i))
+    → (f.control ≡ true → (h : ℕ) → h < f.size → slice_index ws (ack f h) ≡ slice_index served (ack f h))
     → Commands f (command f) (ack f) o driven → Acks f (ack f) o s served → ControlStands f command ack o s ws
 control_stands f command ack o s ws driven served some p l as_driven as_served c a = record {
   inside = λ k runs. (running_head f o s k p l (occurs_from k _ runs)).1;
@@ -25,7 +27,8 @@ control_stands f command ack o s ws driven served some p l as_driven as_served c
   };
   acks = record {
     last = λ on h low. as_served on h low ∙ a.last on h low;
-    stand = λ on j low high. as_served on (head f o (used_at (gives s) j).number) (head_low f o (used_at (gives s) j).number some) ∙ a.stand on j low high;
+    stand = λ on j low high. as_served on (head f o (used_at (gives s) j).number) (head_low f o (used_at (gives s) j).number some)
+        ∙ a.stand on j low high;
     collected = λ on k last. as_served on (head f o k) (head_low f o k some) ∙ a.collected on k last;
     commands_agree = a.commands_agree;
     acks_agree = a.acks_agree;

@@ -30,7 +30,12 @@ one_more k n = elim (cases_lt k n) [
   | inl h ↦ omega (arith, one_below k n h, one_below k (n + 1) (omega arith), one_other n k (λ e. omega arith))
   | inr h ↦ elim (cases_eq n k) [
     | inl e ↦ omega (arith, one_above k n h, one_below k (n + 1) (omega arith), one_same n k e)
-    | inr ne ↦ omega (arith, one_above k n h, one_above k (n + 1) (elim (cases_lt n k) [ inl a ↦ omega arith | inr b ↦ absurd (ne (omega arith)) ]), one_other n k ne)
+    | inr ne ↦ omega (
+      arith,
+      one_above k n h,
+      one_above k (n + 1) (elim (cases_lt n k) [ inl a ↦ omega arith | inr b ↦ absurd (ne (omega arith)) ]),
+      one_other n k ne,
+    )
   ]
 ]
 
@@ -60,7 +65,12 @@ pub sum_without : (f : ℕ → ℕ) (k : ℕ) (xs : List ℕ) → 1 ≤ occurs k
 sum_without f k [] h = absurd (omega arith)
 sum_without f k (x ∷ xs) h = elim (cases_eq x k) [
   | inl e ↦ rw (eq-eqb x k e) (omega (arith, sum_by-cons f x xs, ap f e))
-  | inr ne ↦ rw (ne_eqb x k ne) (omega (arith, sum_by-cons f x xs, sum_by-cons f x (without k xs), sum_without f k xs (omega (arith, one_other x k ne))))
+  | inr ne ↦ rw (ne_eqb x k ne) (omega (
+    arith,
+    sum_by-cons f x xs,
+    sum_by-cons f x (without k xs),
+    sum_without f k xs (omega (arith, one_other x k ne)),
+  ))
 ]
 
 pub length_without : (k : ℕ) (xs : List ℕ) → 1 ≤ occurs k xs → length (without k xs) + 1 ≡ length xs
@@ -87,19 +97,34 @@ sum_within f (x ∷ xs) ys h =
 
 pub sum_same : (f g : ℕ → ℕ) (xs : List ℕ) → ((k : ℕ) → 1 ≤ occurs k xs → f k ≡ g k) → sum_by f xs ≡ sum_by g xs
 sum_same f g [] h = refl
-sum_same f g (x ∷ xs) h = omega (arith, sum_by-cons f x xs, sum_by-cons g x xs, h x (omega (arith, one_same x x refl)), sum_same f g xs (λ k a. h k (omega arith)))
+sum_same f g (x ∷ xs) h = omega (
+  arith,
+  sum_by-cons f x xs,
+  sum_by-cons g x xs,
+  h x (omega (arith, one_same x x refl)),
+  sum_same f g xs (λ k a. h k (omega arith)),
+)
 
 -- each is at least one
 pub sum_at_least : (f : ℕ → ℕ) (xs : List ℕ) → ((k : ℕ) → 1 ≤ occurs k xs → 1 ≤ f k) → length xs ≤ sum_by f xs
 sum_at_least f [] h = omega arith
-sum_at_least f (x ∷ xs) h = omega (arith, sum_by-cons f x xs, h x (omega (arith, one_same x x refl)), sum_at_least f xs (λ k a. h k (omega arith)))
+sum_at_least f (x ∷ xs) h = omega (
+  arith,
+  sum_by-cons f x xs,
+  h x (omega (arith, one_same x x refl)),
+  sum_at_least f xs (λ k a. h k (omega arith)),
+)
 
 -- one of them, and two of them, are at most the sum
 pub sum_one : (f : ℕ → ℕ) (k : ℕ) (xs : List ℕ) → 1 ≤ occurs k xs → f k ≤ sum_by f xs
 sum_one f k xs h = omega (arith, sum_without f k xs h)
 
 pub sum_two : (f : ℕ → ℕ) (j k : ℕ) (xs : List ℕ) → 1 ≤ occurs j xs → 1 ≤ occurs k xs → (j ≡ k → ⊥) → f j + f k ≤ sum_by f xs
-sum_two f j k xs a b ne = omega (arith, sum_without f j xs a, sum_one f k (without j xs) (omega (arith, occurs_without k j xs a, one_other j k ne)))
+sum_two f j k xs a b ne = omega (
+  arith,
+  sum_without f j xs a,
+  sum_one f k (without j xs) (omega (arith, occurs_without k j xs a, one_other j k ne)),
+)
 
 pub length_upto : (n : ℕ) → length (upto n) ≡ n
 length_upto zero = refl
@@ -107,13 +132,27 @@ length_upto (suc n) = omega (arith, length-append (upto n) (n ∷ []), length_up
 
 pub occurs_upto : (p n : ℕ) → occurs p (upto n) ≡ one (nat_lt p n)
 occurs_upto p zero = sym (one_above p 0 (omega arith))
-occurs_upto p (suc n) = omega (arith, occurs_push p (upto n) n, occurs_upto p n, ap (λ m. one (nat_lt p m)) (let e : n + 1 ≡ suc n = omega arith in e), one_more p n)
+occurs_upto p (suc n) = omega (
+  arith,
+  occurs_push p (upto n) n,
+  occurs_upto p n,
+  ap (λ m. one (nat_lt p m)) (let e : n + 1 ≡ suc n = omega arith in e),
+  one_more p n,
+)
 
-pub with_head_is : (head : ℕ → ℕ) (xs : List ℕ) (h k : ℕ) → head k ≡ h → 1 ≤ occurs k xs → ((j : ℕ) → 1 ≤ occurs j xs → head j ≡ h → j ≡ k) → with_head head xs h ≡ k
+pub with_head_is : (head : ℕ → ℕ) (xs : List ℕ) (h k : ℕ) → head k ≡ h → 1 ≤ occurs k xs
+    → ((j : ℕ) → 1 ≤ occurs j xs → head j ≡ h → j ≡ k) → with_head head xs h ≡ k
 with_head_is head [] h k is here only = absurd (omega arith)
 with_head_is head (x ∷ xs) h k is here only = elim (cases_eq (head x) h) [
   | inl e ↦ rw (eq-eqb (head x) h e) (only x (omega (arith, one_same x x refl)) e)
-  | inr ne ↦ rw (ne_eqb (head x) h ne) (with_head_is head xs h k is (elim (cases_eq x k) [ inl e ↦ absurd (ne (ap head e ∙ is)) | inr nx ↦ omega (arith, one_other x k nx) ]) (λ j a. only j (omega arith)))
+  | inr ne ↦ rw (ne_eqb (head x) h ne)
+      (with_head_is head xs h k is (elim (cases_eq x k) [
+        | inl e ↦ absurd (ne (ap head e ∙ is))
+        | inr nx ↦ omega (
+          arith,
+          one_other x k nx,
+        )
+      ]) (λ j a. only j (omega arith)))
 ]
 
 pub first_occurs : (xs : List ℕ) → 1 ≤ length xs → 1 ≤ occurs (first xs) xs
@@ -141,5 +180,6 @@ occurs_rest zero j [] h all = omega arith
 occurs_rest zero j (x ∷ xs) h all = omega (arith, occurs_rest zero j xs h (λ k a. absurd (omega arith)), one_small (x == j))
 occurs_rest (suc m) j xs h all =
     let here : 1 ≤ occurs m xs = all m (omega arith) in
-    let rest = occurs_rest m j (without m xs) (omega arith) (λ k a. omega (arith, all k (omega arith), occurs_without k m xs here, one_other m k (λ e. omega arith))) in
+    let rest = occurs_rest m j (without m xs) (omega arith)
+    (λ k a. omega (arith, all k (omega arith), occurs_without k m xs here, one_other m k (λ e. omega arith))) in
     omega (arith, rest, length_without m xs here, occurs_without j m xs here, one_other m j (λ e. omega arith))

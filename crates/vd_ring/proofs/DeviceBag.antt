@@ -18,7 +18,8 @@ use Rattle.vd_ring.proofs.HeldPlaces.{numbers_push}
 use Rattle.vd_ring.proofs.ListSteps.{number_in, given_below}
 use Rattle.vd_ring.proofs.DeviceLists.{running_below}
 
-pub begin_step : (f : Frame) (o : List DriverDone) (s : List DeviceDone) (c : List Piece) (h : ℕ) (b : List State) → Lists f o s → length (takes s) < length (offers o) → StandsFor o s b
+pub begin_step : (f : Frame) (o : List DriverDone) (s : List DeviceDone) (c : List Piece) (h : ℕ) (b : List State) → Lists f o s
+    → length (takes s) < length (offers o) → StandsFor o s b
     → (b2 : List State) × IsBegin (length (takes s)) b b2 × StandsFor o (Take c h ∷ s) b2
 begin_step f o s c h b l below st =
     let t : ℕ = length (takes s) in
@@ -38,7 +39,8 @@ begin_step f o s c h b l below st =
       },
     )
 
-pub end_step : (f : Frame) (o : List DriverDone) (s : List DeviceDone) (u : Used) (b : List State) → Lists f o s → 1 ≤ occurs u.number (running s) → StandsFor o s b
+pub end_step : (f : Frame) (o : List DriverDone) (s : List DeviceDone) (u : Used) (b : List State) → Lists f o s
+    → 1 ≤ occurs u.number (running s) → StandsFor o s b
     → (b2 : List State) × IsEnd f.features.in_order (u ∷ []) b b2 × StandsFor o (Give (u ∷ []) ∷ s) b2
 end_step f o s u b l runs st =
     let k : ℕ = u.number in
@@ -55,16 +57,24 @@ end_step f o s u b l runs st =
       record {
         all = length-set b k (returned u.len) ∙ st.all;
         waits = λ j low high. other j (λ e. omega (arith, below.0)) ∙ st.waits j low high;
-        runs = λ j low none. other j (λ e. omega (arith, numbers_push (gives s) u j, one_same k j (sym e))) ∙ st.runs j low (omega (arith, numbers_push (gives s) u j));
+        runs = λ j low none. other j (λ e. omega (arith, numbers_push (gives s) u j, one_same k j (sym e)))
+            ∙ st.runs j low (omega (arith, numbers_push (gives s) u j));
         done = λ j a. elim (cases_lt j (length (gives s))) [
           | inl h ↦ (
               let same = get_or_append_left (gives s) (u ∷ []) (entry 0 0) j h in
               subst (λ (v : Used). state (slice_set b k (returned u.len)) v.number ≡ returned v.len) (sym same)
-              (other (used_at (gives s) j).number (λ e. omega (arith, number_in (gives s) j h, ap (λ n. occurs n (numbers (gives s))) e, below.1)) ∙ st.done j h)
+              (other (used_at (gives s) j).number (λ e. omega (
+                arith,
+                number_in (gives s) j h,
+                ap (λ n. occurs n (numbers (gives s))) e,
+                below.1,
+              )) ∙ st.done j h)
               )
           | inr h ↦ (
-              let same = get_or_push (gives s) u (entry 0 0) j (let e : length (gives s) ≡ j = omega (arith, length_push (gives s) u) in e) in
-              subst (λ (v : Used). state (slice_set b k (returned u.len)) v.number ≡ returned v.len) (sym same) (get_or-set_same b k (returned u.len) offered inside)
+              let same = get_or_push (gives s) u (entry 0 0) j (let e : length (gives s) ≡ j = omega (arith, length_push (gives s) u) in
+              e) in
+              subst (λ (v : Used). state (slice_set b k (returned u.len)) v.number ≡ returned v.len) (sym same)
+              (get_or-set_same b k (returned u.len) offered inside)
               )
         ];
       },
@@ -75,7 +85,8 @@ back_at [] k = refl
 back_at (x ∷ b) zero = refl
 back_at (x ∷ b) (suc k) = back_at b k
 
-pub take_back_step : (f : Frame) (o : List DriverDone) (s : List DeviceDone) (b : List State) → Lists f o s → Lists f o (Rest ∷ s) → IsWhole s → StandsFor o s b
+pub take_back_step : (f : Frame) (o : List DriverDone) (s : List DeviceDone) (b : List State) → Lists f o s → Lists f o (Rest ∷ s)
+    → IsWhole s → StandsFor o s b
     → (b2 : List State) × IsTakeBack b b2 × StandsFor o (Rest ∷ s) b2
 take_back_step f o s b l after is st =
     let g : ℕ = length (gives s) in

@@ -13,7 +13,8 @@ use Rattle.vd_ring.specs.Lists.{Lists}
 use Rattle.vd_ring.specs.Steps.{StandsFor}
 use Rattle.vd_ring.proofs.ListSteps.{given_below}
 
-pub offer_step : (f : Frame) (o : List DriverDone) (s : List DeviceDone) (c : List Piece) (b : List State) → Lists f o s → StandsFor o s b → (b2 : List State) × IsOffer (length (offers o)) b b2 × StandsFor (Offer c ∷ o) s b2
+pub offer_step : (f : Frame) (o : List DriverDone) (s : List DeviceDone) (c : List Piece) (b : List State) → Lists f o s
+    → StandsFor o s b → (b2 : List State) × IsOffer (length (offers o)) b b2 × StandsFor (Offer c ∷ o) s b2
 offer_step f o s c b l st =
     let longer = length_push (offers o) c in
     let old = λ (k : ℕ) (h : k < length b). get_or_append_left b (offered ∷ []) offered k h in (

@@ -6,7 +6,7 @@ use Rattle.vd_ring.specs.declared.frame.Frame.{Frame}
 use Rattle.vd_ring.specs.declared.frame.Used.{Used}
 use Rattle.vd_ring.specs.declared.driver.DriverDone.{DriverDone}
 use Rattle.vd_ring.specs.declared.driver.DriverDone.TheVariants.{Offer, Collect, StoreCommand, LoadAck}
-use Rattle.vd_ring.specs.Frames.{lent}
+use Rattle.vd_ring.specs.Frames.{borrowed}
 use Rattle.vd_ring.specs.History.{held, free, places, head, next_head, places_at, places_back, first, occurs}
 use Rattle.vd_ring.proofs.Counts.{one_same, one_above, occurs-append, occurs_parts, occurs_upto}
 
@@ -14,7 +14,8 @@ pub record Inside (f : Frame) (o : List DriverDone) : Type 0 where
   pub free : (q : ℕ) → 1 ≤ occurs q (held f o).0 → q < f.size
   pub places : (k q : ℕ) → 1 ≤ occurs q (places_at (held f o).1 k) → q < f.size
 
-back_inside : (n : ℕ) (pl : List (List ℕ)) (us : List Used) (q : ℕ) → ((k r : ℕ) → 1 ≤ occurs r (places_at pl k) → r < n) → 1 ≤ occurs q (places_back pl us) → q < n
+back_inside : (n : ℕ) (pl : List (List ℕ)) (us : List Used) (q : ℕ) → ((k r : ℕ) → 1 ≤ occurs r (places_at pl k) → r < n)
+    → 1 ≤ occurs q (places_back pl us) → q < n
 back_inside n pl [] q h a = absurd (omega arith)
 back_inside n pl (u ∷ us) q h a = elim (cases_lt 0 (occurs q (places_at pl u.number))) [
   | inl b ↦ h u.number q b
@@ -27,18 +28,28 @@ inside f [] = record {
   places = λ k q a. absurd (omega arith);
 }
 inside f (Offer c ∷ o) = let i = inside f o in record {
-  free = λ q a. i.free q (omega (arith, occurs_parts q (lent f c) (held f o).0));
+  free = λ q a. i.free q (omega (arith, occurs_parts q (borrowed f c) (held f o).0));
   places = λ k q a. elim (cases_lt k (length (held f o).1)) [
-    | inl h ↦ i.places k q (subst (λ ps. 1 ≤ occurs q ps) (get_or_append_left (held f o).1 (take (lent f c) (held f o).0 ∷ []) [] k h) a)
+    | inl h ↦ i.places k q (subst (λ ps. 1 ≤ occurs q ps)
+        (get_or_append_left (held f o).1 (take (borrowed f c) (held f o).0 ∷ []) [] k h) a)
     | inr h ↦ elim (cases_eq (length (held f o).1) k) [
-      | inl e ↦ i.free q (omega (arith, occurs_parts q (lent f c) (held f o).0, ap (occurs q) (get_or_push (held f o).1 (take (lent f c) (held f o).0) [] k e)))
-      | inr ne ↦ absurd (omega (arith, ap (occurs q) (get_or_past ((held f o).1 ++ take (lent f c) (held f o).0 ∷ []) k [] (past k h ne))))
+      | inl e ↦ i.free q (omega (
+        arith,
+        occurs_parts q (borrowed f c) (held f o).0,
+        ap (occurs q) (get_or_push (held f o).1 (take (borrowed f c) (held f o).0) [] k e),
+      ))
+      | inr ne ↦ absurd (omega (
+        arith,
+        ap (occurs q) (get_or_past ((held f o).1 ++ take (borrowed f c) (held f o).0 ∷ []) k [] (past k h ne)),
+      ))
     ]
   ];
 }
   where
-    past : (k : ℕ) → length (held f o).1 ≤ k → (length (held f o).1 ≡ k → ⊥) → length ((held f o).1 ++ take (lent f c) (held f o).0 ∷ []) ≤ k
-    past k h ne = elim (cases_lt (length (held f o).1) k) [ inl a ↦ omega (arith, length_push (held f o).1 (take (lent f c) (held f o).0)) | inr a ↦ absurd (ne (omega arith)) ]
+    past : (k : ℕ) → length (held f o).1 ≤ k → (length (held f o).1 ≡ k → ⊥)
+        → length ((held f o).1 ++ take (borrowed f c) (held f o).0 ∷ []) ≤ k
+    past k h ne = elim (cases_lt (length (held f o).1) k)
+        [ inl a ↦ omega (arith, length_push (held f o).1 (take (borrowed f c) (held f o).0)) | inr a ↦ absurd (ne (omega arith)) ]
 inside f (Collect us ∷ o) = let i = inside f o in record {
   free = λ q a. elim (cases_lt 0 (occurs q (held f o).0)) [
     | inl h ↦ i.free q h

@@ -27,7 +27,8 @@ use Rattle.vd_ring.proofs.Counts.{occurs_from, one_above}
 whole_by : {A : Type 0} (f : A → ℕ) (xs : List A) (n : ℕ) → All (λ x. 1 ≤ f x) xs → sum_by f xs ≤ sum_by f (take n xs) → take n xs ≡ xs
 whole_by f [] n all le = take_all n [] (omega arith)
 whole_by f (x ∷ xs) zero all le = absurd (omega (arith, sum_by-cons f x xs, All-head (λ y. 1 ≤ f y) x xs all))
-whole_by f (x ∷ xs) (suc n) all le = ap (λ ys. x ∷ ys) (whole_by f xs n (All-tail (λ y. 1 ≤ f y) x xs all) (omega (arith, sum_by-cons f x xs, sum_by-cons f x (take n xs))))
+whole_by f (x ∷ xs) (suc n) all le =
+    ap (λ ys. x ∷ ys) (whole_by f xs n (All-tail (λ y. 1 ≤ f y) x xs all) (omega (arith, sum_by-cons f x xs, sum_by-cons f x (take n xs))))
 
 spans : (f : Frame) (p : Bool) (c : List Piece) → Fits f c → 1 ≤ (if p then needs f.features c else 1)
 spans f true c fits = needed f.features.indirect
@@ -51,7 +52,8 @@ module _ (f : Frame) (o : List DriverDone) (s : List DeviceDone) (places : Place
   given_low k d below =
       let j : ℕ = (slice_index_or (gives s) k d).number in
       let one : 1 ≤ occurs j (numbers (gives s)) = occurs_from j (numbers (gives s)) (number_in (gives s) k d below) in
-      elim (cases_lt j (length (takes s))) [ inl h ↦ h | inr h ↦ absurd (omega (arith, one, lists.given j, one_above j (length (takes s)) h)) ]
+      elim (cases_lt j (length (takes s)))
+      [ inl h ↦ h | inr h ↦ absurd (omega (arith, one, lists.given j, one_above j (length (takes s)) h)) ]
 
   given_span : All (λ u. 1 ≤ span f (chain o u.number)) (gives s)
   given_span k d below =
@@ -60,10 +62,12 @@ module _ (f : Frame) (o : List DriverDone) (s : List DeviceDone) (places : Place
       offered_span j [] low
 
   pub all_taken : position f (offers o) ≤ position f (takes s) → takes s ≡ offers o
-  all_taken le = lists.taken ∙ whole_by (span f) (offers o) (length (takes s)) offered_span (subst (λ (cs : List (List Piece)). position f (offers o) ≤ position f cs) lists.taken le)
+  all_taken le = lists.taken ∙ whole_by (span f) (offers o) (length (takes s)) offered_span
+      (subst (λ (cs : List (List Piece)). position f (offers o) ≤ position f cs) lists.taken le)
 
   pub all_collected : used_position f o (gives s) ≤ used_position f o (collects o) → collects o ≡ gives s
-  all_collected le = lists.collected ∙ whole_by (λ u. span f (chain o u.number)) (gives s) (length (collects o)) given_span (subst (λ (us : List Used). used_position f o (gives s) ≤ used_position f o us) lists.collected le)
+  all_collected le = lists.collected ∙ whole_by (λ u. span f (chain o u.number)) (gives s) (length (collects o)) given_span
+      (subst (λ (us : List Used). used_position f o (gives s) ≤ used_position f o us) lists.collected le)
 
 -- each give has an entry at least
 pub few_gives : (f : Frame) (s : List DeviceDone) → AreGives f s → gives_made s ≤ length (gives s)
@@ -81,8 +85,14 @@ few_gives f (LoadCommand k i x ∷ s) h = few_gives f s h
 
 -- ---- on a quiet ring
 
-pub quiet_device : (v : DriverView) (w : DeviceView) → Places v.frame v.done → Lists v.frame v.done w.done → RingSignals v w → DeviceWaits v w → driver_owed v.doing ≡ nothing → takes w.done ≡ offers v.done
-quiet_device v w places lists signals waits none = all_taken v.frame v.done w.done places lists (none_before _ _ waits.at (ap device_idle waits.idle) waits.armed waits.heard none signals.kicks)
+pub quiet_device : (v : DriverView) (w : DeviceView) → Places v.frame v.done → Lists v.frame v.done w.done → RingSignals v w
+    → DeviceWaits v w → driver_owed v.doing ≡ nothing → takes w.done ≡ offers v.done
+quiet_device v w places lists signals waits none =
+    all_taken v.frame v.done w.done places lists
+    (none_before _ _ waits.at (ap device_idle waits.idle) waits.armed waits.heard none signals.kicks)
 
-pub quiet_driver : (v : DriverView) (w : DeviceView) → Places v.frame v.done → Lists v.frame v.done w.done → RingSignals v w → DriverWaits v w → device_owed w.doing ≡ nothing → collects v.done ≡ gives w.done
-quiet_driver v w places lists signals waits none = all_collected v.frame v.done w.done places lists (none_before _ _ waits.at (ap driver_idle waits.idle) waits.armed waits.heard none signals.calls)
+pub quiet_driver : (v : DriverView) (w : DeviceView) → Places v.frame v.done → Lists v.frame v.done w.done → RingSignals v w
+    → DriverWaits v w → device_owed w.doing ≡ nothing → collects v.done ≡ gives w.done
+quiet_driver v w places lists signals waits none =
+    all_collected v.frame v.done w.done places lists
+    (none_before _ _ waits.at (ap driver_idle waits.idle) waits.armed waits.heard none signals.calls)

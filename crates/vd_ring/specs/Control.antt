@@ -128,14 +128,16 @@ pub record Commands (f : Frame) (command ack : ℕ → ℕ) (o : List DriverDone
   -- each command word is what the driver last stored in it
   pub last : f.control ≡ true → (h i : ℕ) → h < f.size → i < 2 → slice_index stored (command h + i) ≡ last_command o h i
   -- the two command words of a chain offered and not collected are those stored for it
-  pub stand : f.control ≡ true → (k i : ℕ) → Contains (open_at o) k → i < 2 → slice_index stored (command (head f o k) + i) ≡ command_of f o k i
+  pub stand : f.control ≡ true → (k i : ℕ) → Contains (open_at o) k → i < 2
+      → slice_index stored (command (head f o k) + i) ≡ command_of f o k i
 
 -- of the device's words
 pub record Acks (f : Frame) (ack : ℕ → ℕ) (o : List DriverDone) (s : List DeviceDone) (stored : List ℕ) : Type 0 where
   -- each ack word is what the device last stored in it
   pub last : f.control ≡ true → (h : ℕ) → h < f.size → slice_index stored (ack h) ≡ last_ack s h
   -- the ack word of a chain given and not collected is the one stored for it
-  pub stand : f.control ≡ true → (j : ℕ) → length (collects o) ≤ j → j < length (gives s) → slice_index stored (ack (head f o (used_at (gives s) j).number)) ≡ ack_of s (used_at (gives s) j).number
+  pub stand : f.control ≡ true → (j : ℕ) → length (collects o) ≤ j → j < length (gives s)
+      → slice_index stored (ack (head f o (used_at (gives s) j).number)) ≡ ack_of s (used_at (gives s) j).number
   -- and so is that of the chain collected last, as long as nothing was offered since
   pub collected : f.control ≡ true → (k : ℕ) → last_collected o ≡ Some k → slice_index stored (ack (head f o k)) ≡ ack_of s k
   -- what each side loaded for a chain is what the other stored for it

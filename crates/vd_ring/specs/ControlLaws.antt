@@ -20,10 +20,17 @@ use Rattle.vd_ring.specs.Control.{StoresCommand, LoadsAck, LoadsCommand, StoresA
 -- the driver, with no operation in progress: a store in a command word of the next head, or a load of the ack word of the head
 -- collected last. Only its acts change, and what it stored
 pub record DriverControls (side : SideModel DriverView) (command ack : Frame → ℕ → ℕ) : Type 0 where
-  pub stores : (v : DriverView) (p x : ℕ) → side.next v Control (Store p x) ↔ ((v.doing ≡ driver.Idle) × StoresCommand v.frame (command v.frame) v.done p)
+  pub stores : (v : DriverView) (p x : ℕ)
+      → side.next v Control (Store p x) ↔ ((v.doing ≡ driver.Idle) × StoresCommand v.frame (command v.frame) v.done p)
   pub loads : (v : DriverView) (p : ℕ) → side.next v Control (Load p) ↔ ((v.doing ≡ driver.Idle) × LoadsAck v.frame (ack v.frame) v.done p)
-  pub stored : (v : DriverView) (p x r : ℕ) → v.doing ≡ driver.Idle → (n : StoresCommand v.frame (command v.frame) v.done p) → side.after v Control (Store p x) r ≡ record v { done = StoreCommand (next_head v.frame v.done) n.half x ∷ v.done; stored = slice_set v.stored p x }
-  pub loaded : (v : DriverView) (p r : ℕ) → v.doing ≡ driver.Idle → (n : LoadsAck v.frame (ack v.frame) v.done p) → side.after v Control (Load p) r ≡ record v { done = LoadAck n.number r ∷ v.done }
+  pub stored : (v : DriverView) (p x r : ℕ) → v.doing ≡ driver.Idle → (n : StoresCommand v.frame (command v.frame) v.done p)
+      → side.after v Control (Store p x) r ≡ record v {
+        done = StoreCommand (next_head v.frame v.done) n.half x ∷ v.done;
+        stored =
+            slice_set v.stored p x;
+      }
+  pub loaded : (v : DriverView) (p r : ℕ) → v.doing ≡ driver.Idle → (n : LoadsAck v.frame (ack v.frame) v.done p)
+      → side.after v Control (Load p) r ≡ record v { done = LoadAck n.number r ∷ v.done }
 
 -- no other chain taken and not given has this one's head
 abbrev pub HasOwnHead : List DeviceDone → ℕ → Type 0
@@ -31,10 +38,18 @@ HasOwnHead s k = (j : ℕ) → Contains (running s) j → taken_head s j ≡ tak
 
 -- the device, with no operation in progress: a load of a command word, or a store of the ack word, of a chain taken and not given
 pub record DeviceControls (side : SideModel DeviceView) (command ack : Frame → ℕ → ℕ) : Type 0 where
-  pub loads : (v : DeviceView) (p : ℕ) → side.next v Control (Load p) ↔ ((v.doing ≡ device.Idle) × LoadsCommand v.frame (command v.frame) v.done p)
-  pub stores : (v : DeviceView) (p x : ℕ) → side.next v Control (Store p x) ↔ ((v.doing ≡ device.Idle) × StoresAck v.frame (ack v.frame) v.done p)
-  pub loaded : (v : DeviceView) (p r : ℕ) → v.doing ≡ device.Idle → (n : LoadsCommand v.frame (command v.frame) v.done p) → HasOwnHead v.done n.number → side.after v Control (Load p) r ≡ record v { done = LoadCommand n.number n.half r ∷ v.done }
-  pub stored : (v : DeviceView) (p x r : ℕ) → v.doing ≡ device.Idle → (n : StoresAck v.frame (ack v.frame) v.done p) → side.after v Control (Store p x) r ≡ record v { done = StoreAck (taken_head v.done n.number) x ∷ v.done; stored = slice_set v.stored p x }
+  pub loads : (v : DeviceView) (p : ℕ)
+      → side.next v Control (Load p) ↔ ((v.doing ≡ device.Idle) × LoadsCommand v.frame (command v.frame) v.done p)
+  pub stores : (v : DeviceView) (p x : ℕ)
+      → side.next v Control (Store p x) ↔ ((v.doing ≡ device.Idle) × StoresAck v.frame (ack v.frame) v.done p)
+  pub loaded : (v : DeviceView) (p r : ℕ) → v.doing ≡ device.Idle → (n : LoadsCommand v.frame (command v.frame) v.done p)
+      → HasOwnHead v.done n.number → side.after v Control (Load p) r ≡ record v { done = LoadCommand n.number n.half r ∷ v.done }
+  pub stored : (v : DeviceView) (p x r : ℕ) → v.doing ≡ device.Idle → (n : StoresAck v.frame (ack v.frame) v.done p)
+      → side.after v Control (Store p x) r ≡ record v {
+        done = StoreAck (taken_head v.done n.number) x ∷ v.done;
+        stored =
+            slice_set v.stored p x;
+      }
 
 -- what is true of them in a ring with these words: each chain taken and not given has a head of the ring, and of no other such
 -- chain; the command and ack words that stand are those stored for each chain, and what each side loaded is what the other stored

@@ -8,8 +8,8 @@ use Rattle.vd_model.specs.Maps.{lies_in}
 use Rattle.vd_ring.specs.declared.frame.Frame.{Frame}
 
 -- how many free things a chain borrows: in a packed ring one buffer id, in a split ring the places of its descriptors
-abbrev pub lent : Frame → List Piece → ℕ
-lent f c = if f.packed then 1 else needs f.features c
+abbrev pub borrowed : Frame → List Piece → ℕ
+borrowed f c = if f.packed then 1 else needs f.features c
 
 -- how many chains may be offered on a ring: guests' rings have numbers below 16
 abbrev pub limit : Frame → ℕ

@@ -7,7 +7,27 @@ use Rattle.vd_ring.specs.declared.device.DeviceNow.TheVariants as device
 use Rattle.vd_ring.specs.declared.device.DeviceView.{DeviceView}
 
 abbrev pub fresh_driver : Frame → ℕ → DriverView
-fresh_driver f n = record { frame = f; done = []; stored = replicate n 0; doing = driver.Idle; armed = None; heard = 0; bells = 0; seen = 0; shown = false }
+fresh_driver f n = record {
+  frame = f;
+  done = [];
+  stored = replicate n 0;
+  doing = driver.Idle;
+  armed = None;
+  heard = 0;
+  bells = 0;
+  seen = 0;
+  shown = false;
+}
 
 abbrev pub fresh_device : Frame → ℕ → DeviceView
-fresh_device f n = record { frame = f; done = []; stored = replicate n 0; doing = device.Idle; armed = None; heard = 0; bells = 0; seen = 0; shown = false }
+fresh_device f n = record {
+  frame = f;
+  done = [];
+  stored = replicate n 0;
+  doing = device.Idle;
+  armed = None;
+  heard = 0;
+  bells = 0;
+  seen = 0;
+  shown = false;
+}

@@ -9,7 +9,7 @@ use Rattle.vd_ring.specs.declared.driver.DriverDone.{DriverDone}
 use Rattle.vd_ring.specs.declared.driver.DriverDone.TheVariants.{Offer, Collect, StoreCommand, LoadAck}
 use Rattle.vd_ring.specs.declared.device.DeviceDone.{DeviceDone}
 use Rattle.vd_ring.specs.declared.device.DeviceDone.TheVariants.{Take, Give, Rest, StoreAck, LoadCommand}
-use Rattle.vd_ring.specs.Frames.{lent}
+use Rattle.vd_ring.specs.Frames.{borrowed}
 
 -- ---- lists of numbers
 
@@ -71,7 +71,8 @@ is_batching f = f.features.in_order && not f.control
 -- the chains that an entry with the number and the length returns, where `count` were returned before it: a chain that the
 -- entry skips was used completely
 abbrev pub batch : Frame → (ℕ → List Piece) → ℕ → ℕ → ℕ → List Used
-batch f chains count number len = map (λ k. entry k (writable (chains k))) (between (if is_batching f then count else number) number) ++ entry number len ∷ []
+batch f chains count number len = map (λ k. entry k (writable (chains k))) (between (if is_batching f then count else number) number)
+    ++ entry number len ∷ []
 
 -- ---- the driver
 
@@ -111,7 +112,7 @@ places_back pl (u ∷ us) = places_at pl u.number ++ places_back pl us
 -- order, and when it is collected its places go to the back in the same order
 abbrev pub held : Frame → List DriverDone → List ℕ × List (List ℕ)
 held f [] = (upto f.size, [])
-held f (Offer c ∷ o) = (drop (lent f c) (held f o).0, (held f o).1 ++ take (lent f c) (held f o).0 ∷ [])
+held f (Offer c ∷ o) = (drop (borrowed f c) (held f o).0, (held f o).1 ++ take (borrowed f c) (held f o).0 ∷ [])
 held f (Collect us ∷ o) = ((held f o).0 ++ places_back (held f o).1 us, (held f o).1)
 held f (StoreCommand h i x ∷ o) = held f o
 held f (LoadAck k x ∷ o) = held f o

@@ -36,7 +36,8 @@ AreGives f (LoadCommand k i x ∷ s) = AreGives f s
 -- chains offered, and the places that each borrowed, in order
 abbrev pub AreTakes : List (List Piece) → List (List ℕ) → List DeviceDone → Type 0
 AreTakes cs ps [] = Unit {0}
-AreTakes cs ps (Take c h ∷ s) = (length (takes s) < length cs) × (c ≡ chain_at cs (length (takes s))) × (h ≡ first (places_at ps (length (takes s)))) × AreTakes cs ps s
+AreTakes cs ps (Take c h ∷ s) = (length (takes s) < length cs) × (c ≡ chain_at cs (length (takes s)))
+    × (h ≡ first (places_at ps (length (takes s)))) × AreTakes cs ps s
 AreTakes cs ps (Give us ∷ s) = AreTakes cs ps s
 AreTakes cs ps (Rest ∷ s) = AreTakes cs ps s
 AreTakes cs ps (StoreAck h x ∷ s) = AreTakes cs ps s

@@ -47,7 +47,8 @@ pub record Signals (p : Publisher) (l : Listener) : Type 0 where
 
 -- ---- the steps of the publisher, which owes nothing when it publishes
 
-pub publishes : (p : Publisher) (l : Listener) (new : ℕ) → p.published < new → p.owed ≡ nothing → Signals p l → Signals (record { published = new; owed = check p.published new; bells = p.bells; ranges = p.ranges + 1 }) l
+pub publishes : (p : Publisher) (l : Listener) (new : ℕ) → p.published < new → p.owed ≡ nothing → Signals p l
+    → Signals (record { published = new; owed = check p.published new; bells = p.bells; ranges = p.ranges + 1 }) l
 publishes p l new more none s = record {
   own = s.own;
   heard = s.heard;
@@ -63,7 +64,8 @@ publishes p l new more none s = record {
     split at low = grind (arith)
 
 -- the check said Quiet: no position of the range is one for which the listener waits
-pub quiets : (p : Publisher) (l : Listener) (old new : ℕ) → p.owed ≡ check old new → ((s : ℕ) → l.armed ≡ Some s → old ≤ s → s < new → ⊥) → Signals p l → Signals (record p { owed = nothing }) l
+pub quiets : (p : Publisher) (l : Listener) (old new : ℕ) → p.owed ≡ check old new
+    → ((s : ℕ) → l.armed ≡ Some s → old ≤ s → s < new → ⊥) → Signals p l → Signals (record p { owed = nothing }) l
 quiets p l old new is none s = record {
   own = s.own;
   heard = s.heard;
@@ -76,7 +78,8 @@ quiets p l old new is none s = record {
 }
 
 -- it said Ring
-pub rings : (p : Publisher) (l : Listener) (old new : ℕ) → p.owed ≡ check old new → Signals p l → Signals (record p { owed = bell old new }) l
+pub rings : (p : Publisher) (l : Listener) (old new : ℕ) → p.owed ≡ check old new → Signals p l
+    → Signals (record p { owed = bell old new }) l
 rings p l old new is s = record {
   own = s.own;
   heard = s.heard;
@@ -89,7 +92,8 @@ rings p l old new is s = record {
 }
 
 -- the bell is stored
-pub rung : (p : Publisher) (l : Listener) (old new : ℕ) → p.owed ≡ bell old new → Signals p l → Signals (record p { owed = nothing; bells = p.bells + 1 }) l
+pub rung : (p : Publisher) (l : Listener) (old new : ℕ) → p.owed ≡ bell old new → Signals p l
+    → Signals (record p { owed = nothing; bells = p.bells + 1 }) l
 rung p l old new is s =
     let more : p.bells + 1 ≤ p.ranges = subst (λ o. p.bells + owing o ≤ p.ranges) is s.bells in record {
       own = s.own;
@@ -102,7 +106,8 @@ rung p l old new is s =
 -- ---- the steps of the listener
 
 -- any operation but that of a sleeper: it isn't armed, and comes to any position
-pub moves : (p : Publisher) (l : Listener) (at : ℕ) (idle : Bool) → l.armed ≡ None → Signals p l → Signals p (record l { at = at; idle = idle })
+pub moves : (p : Publisher) (l : Listener) (at : ℕ) (idle : Bool) → l.armed ≡ None → Signals p l
+    → Signals p (record l { at = at; idle = idle })
 moves p l at idle none s = record {
   own = λ s is. cc;
   heard = s.heard;
@@ -153,7 +158,8 @@ hears p l idle s = record {
 
 -- ---- a fresh ring, and a quiet one
 
-pub opens : Signals (record { published = 0; owed = nothing; bells = 0; ranges = 0 }) (record { at = 0; idle = true; armed = None; heard = 0 })
+pub opens : Signals (record { published = 0; owed = nothing; bells = 0; ranges = 0 })
+    (record { at = 0; idle = true; armed = None; heard = 0 })
 opens = record {
   own = λ s is. cc;
   heard = omega arith;
@@ -163,7 +169,8 @@ opens = record {
 }
 
 -- before a sleeper without a signal lies nothing, where the other side has checked all that it published
-pub none_before : (p : Publisher) (l : Listener) (s : ℕ) → l.idle ≡ true → l.armed ≡ Some s → l.heard ≡ p.bells → p.owed ≡ nothing → Signals p l → p.published ≤ l.at
+pub none_before : (p : Publisher) (l : Listener) (s : ℕ) → l.idle ≡ true → l.armed ≡ Some s → l.heard ≡ p.bells → p.owed ≡ nothing
+    → Signals p l → p.published ≤ l.at
 none_before p l s idle armed heard none h = elim (h.sleeps s idle armed heard) [
   | inl low ↦ omega (arith, h.own s armed)
   | inr owes ↦ absurd (subst (λ o. Owes o s) none owes)

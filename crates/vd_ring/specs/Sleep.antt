@@ -65,8 +65,31 @@ gives_made (LoadCommand k i x ∷ s) = gives_made s
 
 -- both directions
 pub record RingSignals (v : DriverView) (w : DeviceView) : Type 0 where
-  pub kicks : Signals (record { published = position v.frame (offers v.done); owed = driver_owed v.doing; bells = v.bells; ranges = length (offers v.done) }) (record { at = position v.frame (takes w.done); idle = device_idle w.doing; armed = w.armed; heard = w.heard })
-  pub calls : Signals (record { published = used_position v.frame v.done (gives w.done); owed = device_owed w.doing; bells = w.bells; ranges = gives_made w.done }) (record { at = used_position v.frame v.done (collects v.done); idle = driver_idle v.doing; armed = v.armed; heard = v.heard })
+  pub kicks : Signals (record {
+    published = position v.frame (offers v.done);
+    owed = driver_owed v.doing;
+    bells = v.bells;
+    ranges =
+        length (offers v.done);
+  }) (record {
+    at = position v.frame (takes w.done);
+    idle = device_idle w.doing;
+    armed = w.armed;
+    heard =
+        w.heard;
+  })
+  pub calls : Signals (record {
+    published = used_position v.frame v.done (gives w.done);
+    owed = device_owed w.doing;
+    bells = w.bells;
+    ranges = gives_made w.done;
+  }) (record {
+    at = used_position v.frame v.done (collects v.done);
+    idle = driver_idle v.doing;
+    armed =
+        v.armed;
+    heard = v.heard;
+  })
 
 -- ---- asleep
 

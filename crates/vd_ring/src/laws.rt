@@ -20,6 +20,8 @@ pub fn account_law()
 /// Where a side sleeps without a signal and the other owes nothing, nothing lies before it: all that was offered is taken, and all that
 /// was given is collected.
 pub fn quiet_law()
-    ensures device { (v : DriverView) (w : DeviceView) → Places v.frame v.done → Lists v.frame v.done w.done → RingSignals v w → DeviceWaits v w → driver_owed v.doing ≡ nothing → takes w.done ≡ offers v.done }
-    ensures driver { (v : DriverView) (w : DeviceView) → Places v.frame v.done → Lists v.frame v.done w.done → RingSignals v w → DriverWaits v w → device_owed w.doing ≡ nothing → collects v.done ≡ gives w.done }
+    ensures device { (v : DriverView) (w : DeviceView) → Places v.frame v.done → Lists v.frame v.done w.done → RingSignals v w
+        → DeviceWaits v w → driver_owed v.doing ≡ nothing → takes w.done ≡ offers v.done }
+    ensures driver { (v : DriverView) (w : DeviceView) → Places v.frame v.done → Lists v.frame v.done w.done → RingSignals v w
+        → DriverWaits v w → device_owed w.doing ≡ nothing → collects v.done ≡ gives w.done }
 {}

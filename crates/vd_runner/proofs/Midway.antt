@@ -23,7 +23,8 @@ pub begin : (o : Option (List ℕ)) (whole : List ℕ) → Midway o o whole whol
 begin o whole = record { front = []; parts = refl; held = appends_none o }
 
 -- the next part was put
-pub go_on : (a b c : Option (List ℕ)) (whole part rest : List ℕ) → Midway a b whole (part ++ rest) → Appends b c part → Midway a c whole rest
+pub go_on : (a b c : Option (List ℕ)) (whole part rest : List ℕ) → Midway a b whole (part ++ rest) → Appends b c part
+    → Midway a c whole rest
 go_on a b c whole part rest m h = record {
   front = m.front ++ part;
   parts = m.parts ∙ sym (append_assoc m.front part rest);
@@ -38,13 +39,22 @@ pub done_last : (a b c : Option (List ℕ)) (whole part : List ℕ) → Midway a
 done_last a b c whole part m h = rw m.parts (appends_both a b c m.front part m.held h)
 
 -- a front of the next part was put
-pub broken_off : (a b c : Option (List ℕ)) (whole part rest : List ℕ) → Midway a b whole (part ++ rest) → AppendsFront b c part → AppendsFront a c whole
+pub broken_off : (a b c : Option (List ℕ)) (whole part rest : List ℕ) → Midway a b whole (part ++ rest) → AppendsFront b c part
+    → AppendsFront a c whole
 broken_off a b c whole part rest m h = record {
   front = m.front ++ h.front;
   rest = h.rest ++ rest;
-  parts = m.parts ∙ ap (λ p. m.front ++ (p ++ rest)) h.parts ∙ ap (λ r. m.front ++ r) (append_assoc h.front h.rest rest) ∙ sym (append_assoc m.front h.front (h.rest ++ rest));
+  parts = m.parts ∙ ap (λ p. m.front ++ (p ++ rest)) h.parts ∙ ap (λ r. m.front ++ r) (append_assoc h.front h.rest rest)
+      ∙ sym (append_assoc m.front h.front (h.rest ++ rest));
   held = appends_both a b c m.front h.front m.held h.held;
 }
 
-pub broken_off_last : (a b c : Option (List ℕ)) (whole part : List ℕ) → Midway a b whole part → AppendsFront b c part → AppendsFront a c whole
-broken_off_last a b c whole part m h = broken_off a b c whole part [] (record { front = m.front; parts = m.parts ∙ ap (λ r. m.front ++ r) (sym (append-nil part)); held = m.held }) h
+pub broken_off_last : (a b c : Option (List ℕ)) (whole part : List ℕ) → Midway a b whole part → AppendsFront b c part
+    → AppendsFront a c whole
+broken_off_last a b c whole part m h =
+    broken_off a b c whole part [] (record {
+      front = m.front;
+      parts = m.parts ∙ ap (λ r. m.front ++ r) (sym (append-nil part));
+      held =
+          m.held;
+    }) h

@@ -27,28 +27,34 @@ front_is bytes bs None taken = absurd taken
 front_is bytes bs (Some ys) taken = omega (arith, ap length taken, length-append bs ys)
 
 small_expected : (bytes : List ℕ) (n k : ℕ) → length bytes ≤ 1048576 → expected bytes n k ≡ verdict (first bytes) (need bytes) n k
-small_expected bytes n k small = ap (λ (b : Bool). if b then status.TooLarge 1048577 else verdict (first bytes) (need bytes) n k) (le-ltb 1048576 (length bytes) small)
+small_expected bytes n k small = ap (λ (b : Bool). if b then status.TooLarge 1048577 else verdict (first bytes) (need bytes) n k)
+    (le-ltb 1048576 (length bytes) small)
 
-expects_rule : (bytes : List ℕ) (n k : ℕ) (rest : Option (List ℕ)) (rule : MachineFault) → BreaksFirst (Some bytes) rest rule → expected bytes n k ≡ status.Machine rule
+expects_rule : (bytes : List ℕ) (n k : ℕ) (rest : Option (List ℕ)) (rule : MachineFault) → BreaksFirst (Some bytes) rest rule
+    → expected bytes n k ≡ status.Machine rule
 expects_rule bytes n k rest rule h =
     let is : bytes ≡ h.bytes = whole_is bytes h.bytes rest h.read.taken h.read.end in
     ap (λ bs. expected bs n k) is ∙ small_expected h.bytes n k h.read.small ∙ ap (λ r. verdict r (need h.bytes) n k) h.broken
 
-expects_large : (bytes : List ℕ) (n k : ℕ) (rest : Option (List ℕ)) → ReadsTooMuch (Some bytes) rest → expected bytes n k ≡ status.TooLarge 1048577
+expects_large : (bytes : List ℕ) (n k : ℕ) (rest : Option (List ℕ)) → ReadsTooMuch (Some bytes) rest
+    → expected bytes n k ≡ status.TooLarge 1048577
 expects_large bytes n k rest h =
     let long : 1048576 < length bytes = omega (arith, front_is bytes h.bytes rest h.taken, h.large) in
     ap (λ (b : Bool). if b then status.TooLarge 1048577 else verdict (first bytes) (need bytes) n k) (lt-ltb 1048576 (length bytes) long)
 
-expects_parties : (bytes : List ℕ) (n k : ℕ) (rest : Option (List ℕ)) (plan : Plan) → ReadsMachine (Some bytes) rest plan → expected bytes n k ≡ verdict None (length plan.queues) n k
+expects_parties : (bytes : List ℕ) (n k : ℕ) (rest : Option (List ℕ)) (plan : Plan) → ReadsMachine (Some bytes) rest plan
+    → expected bytes n k ≡ verdict None (length plan.queues) n k
 expects_parties bytes n k rest plan h =
     let is : bytes ≡ h.bytes = whole_is bytes h.bytes rest h.read.taken h.read.end in
     ap (λ bs. expected bs n k) is ∙ small_expected h.bytes n k h.read.small ∙ ap (λ r. verdict r (need h.bytes) n k) h.unbroken
     ∙ ap (λ (p : Option Plan). verdict None (option_map_or (λ (m : Plan). length m.queues) p 0) n k) h.means
 
 -- a refusal to read is the expected one, where no fault came
-pub refusal_expected : (bytes : List ℕ) (n k : ℕ) (rest : Option (List ℕ)) (before now : ℕ) (s : Status) → (Rose before now → ⊥) → RefusesToRead (Some bytes) rest before now s → IsOrMemory (expected bytes n k) s
+pub refusal_expected : (bytes : List ℕ) (n k : ℕ) (rest : Option (List ℕ)) (before now : ℕ) (s : Status) → (Rose before now → ⊥)
+    → RefusesToRead (Some bytes) rest before now s → IsOrMemory (expected bytes n k) s
 refusal_expected bytes n k rest before now (status.Machine rule) calm h = inl (sym (expects_rule bytes n k rest rule h))
-refusal_expected bytes n k rest before now (status.TooLarge m) calm h = inl (ap status.TooLarge h.0 ∙ sym (expects_large bytes n k rest h.1))
+refusal_expected bytes n k rest before now (status.TooLarge m) calm h =
+    inl (ap status.TooLarge h.0 ∙ sym (expects_large bytes n k rest h.1))
 refusal_expected bytes n k rest before now status.ReadFault calm h = absurd (calm h)
 refusal_expected bytes n k rest before now status.Memory calm h = inr refl
 refusal_expected bytes n k rest before now status.Ok calm h = absurd h
@@ -58,7 +64,8 @@ refusal_expected bytes n k rest before now (status.DeviceFault q) calm h = absur
 refusal_expected bytes n k rest before now (status.TooFewParties a b c) calm h = absurd h
 
 enough : (q n k : ℕ) → q ≤ n → q ≤ k → verdict None q n k ≡ status.Ok
-enough q n k h i = ap (λ (b : Bool). if b && nat_le q k then status.Ok else status.TooFewParties q n k) (le-leb q n h) ∙ ap (λ (b : Bool). if b then status.Ok else status.TooFewParties q n k) (le-leb q k i)
+enough q n k h i = ap (λ (b : Bool). if b && nat_le q k then status.Ok else status.TooFewParties q n k) (le-leb q n h)
+    ∙ ap (λ (b : Bool). if b then status.Ok else status.TooFewParties q n k) (le-leb q k i)
 
 no_other : (b : Bool) → (b && false) ≡ false
 no_other true = refl
@@ -67,14 +74,25 @@ no_other false = refl
 -- fewer of the one or of the other
 too_few : (q n k : ℕ) → (n < q) ⊎ (k < q) → verdict None q n k ≡ status.TooFewParties q n k
 too_few q n k (inl h) = ap (λ (b : Bool). if b && nat_le q k then status.Ok else status.TooFewParties q n k) (lt-leb q n h)
-too_few q n k (inr h) = ap (λ (b : Bool). if nat_le q n && b then status.Ok else status.TooFewParties q n k) (lt-leb q k h) ∙ ap (λ (b : Bool). if b then status.Ok else status.TooFewParties q n k) (no_other (nat_le q n))
+too_few q n k (inr h) = ap (λ (b : Bool). if nat_le q n && b then status.Ok else status.TooFewParties q n k) (lt-leb q k h)
+    ∙ ap (λ (b : Bool). if b then status.Ok else status.TooFewParties q n k) (no_other (nat_le q n))
 
 -- a cut shows whose count rose
-cut_rose : {D E G X C : Type 0} (z : Setting D E G X C) (plan : Plan) (q : ℕ) (old new : Bench G X) → IsCutOff z plan q old new → SomeRose z.party old new
+cut_rose : {D E G X C : Type 0} (z : Setting D E G X C) (plan : Plan) (q : ℕ) (old new : Bench G X) → IsCutOff z plan q old new
+    → SomeRose z.party old new
 cut_rose z plan q old new h = elim (slice_get_cases old.devices.items q).1 [
   | inl (x, below, at, is) ↦
-      let there = slice_get-get_or new.devices.items q x (omega (arith, below, same_devices z.party (length plan.queues) old new h.keeps)) in
-      record { queue = q; before = x; after = get_or new.devices.items q x; was = at; is = there; rose = omega (arith, h.fault.rose x (get_or new.devices.items q x) at there) }
+      let there = slice_get-get_or new.devices.items q x
+      (omega (arith, below, same_devices z.party (length plan.queues) old new h.keeps)) in
+      record {
+        queue = q;
+        before = x;
+        after = get_or new.devices.items q x;
+        was = at;
+        is = there;
+        rose =
+            omega (arith, h.fault.rose x (get_or new.devices.items q x) at there);
+      }
   | inr (past, _) ↦ absurd (none past)
 ]
   where
@@ -82,15 +100,23 @@ cut_rose z plan q old new h = elim (slice_get_cases old.devices.items q).1 [
     none past = omega (arith, past, h.fault.queue, h.parties.devices)
 
 -- what the play of a machine comes to is the expected answer, where no count rose
-pub play_expected : {D E G X C : Type 0} (z : Setting D E G X C) (bytes : List ℕ) (rest : Option (List ℕ)) (plan : Plan) (brief : Bool) (old new : Bench G X) (held now : Option (List ℕ)) (before after : ℕ) (s : Status) → (Rose before after → ⊥) → (SomeRose z.party old new → ⊥) → ReadsMachine (Some bytes) rest plan → PlaysTo z plan brief old new held now before after s → IsOrMemory (expected bytes (length old.guests.items) (length old.devices.items)) s
+pub play_expected : {D E G X C : Type 0} (z : Setting D E G X C) (bytes : List ℕ) (rest : Option (List ℕ)) (plan : Plan) (brief : Bool)
+    (old new : Bench G X) (held now : Option (List ℕ)) (before after : ℕ) (s : Status) → (Rose before after → ⊥)
+    → (SomeRose z.party old new → ⊥) → ReadsMachine (Some bytes) rest plan → PlaysTo z plan brief old new held now before after s
+    → IsOrMemory (expected bytes (length old.guests.items) (length old.devices.items)) s
 play_expected z bytes rest plan brief old new held now before after status.Ok calm still h p =
-    inl (sym (expects_parties bytes (length old.guests.items) (length old.devices.items) rest plan h ∙ enough (length plan.queues) (length old.guests.items) (length old.devices.items) p.0.parties.guests p.0.parties.devices))
+    inl (sym (expects_parties bytes (length old.guests.items) (length old.devices.items) rest plan h
+    ∙ enough (length plan.queues) (length old.guests.items) (length old.devices.items) p.0.parties.guests p.0.parties.devices))
 play_expected z bytes rest plan brief old new held now before after status.WriteFault calm still h p = absurd (calm p.2)
-play_expected z bytes rest plan brief old new held now before after (status.DeviceFault q) calm still h p = absurd (still (cut_rose z plan q old new p.0))
+play_expected z bytes rest plan brief old new held now before after (status.DeviceFault q) calm still h p =
+    absurd (still (cut_rose z plan q old new p.0))
 play_expected z bytes rest plan brief old new held now before after (status.TooFewParties q n k) calm still h p =
     let t = p.0 in
-    inl (ap (λ i. status.TooFewParties i n k) t.need_is ∙ ap (λ i. status.TooFewParties (length plan.queues) i k) t.guests_are ∙ ap (λ i. status.TooFewParties (length plan.queues) (length old.guests.items) i) t.devices_are
-    ∙ sym (expects_parties bytes (length old.guests.items) (length old.devices.items) rest plan h ∙ too_few (length plan.queues) (length old.guests.items) (length old.devices.items) (rw (t.need_is, t.guests_are, t.devices_are) at t.few)))
+    inl (ap (λ i. status.TooFewParties i n k) t.need_is ∙ ap (λ i. status.TooFewParties (length plan.queues) i k) t.guests_are
+    ∙ ap (λ i. status.TooFewParties (length plan.queues) (length old.guests.items) i) t.devices_are
+    ∙ sym (expects_parties bytes (length old.guests.items) (length old.devices.items) rest plan h
+    ∙ too_few (length plan.queues) (length old.guests.items) (length old.devices.items)
+    (rw (t.need_is, t.guests_are, t.devices_are) at t.few)))
 play_expected z bytes rest plan brief old new held now before after status.Memory calm still h p = inr refl
 play_expected z bytes rest plan brief old new held now before after status.Usage calm still h p = absurd p
 play_expected z bytes rest plan brief old new held now before after (status.Machine rule) calm still h p = absurd p
@@ -98,10 +124,15 @@ play_expected z bytes rest plan brief old new held now before after status.ReadF
 play_expected z bytes rest plan brief old new held now before after (status.TooLarge n) calm still h p = absurd p
 
 -- the layout that the bytes of a whole source order
-pub layout_read : (bytes : List ℕ) (rest : Option (List ℕ)) (plan : Plan) → ReadsMachine (Some bytes) rest plan → orders_packed bytes ≡ plan.packed
+pub layout_read : (bytes : List ℕ) (rest : Option (List ℕ)) (plan : Plan) → ReadsMachine (Some bytes) rest plan
+    → orders_packed bytes ≡ plan.packed
 layout_read bytes rest plan h =
-    ap (λ bs. orders_packed bs) (whole_is bytes h.bytes rest h.read.taken h.read.end) ∙ ap (λ (p : Option Plan). option_map_or (λ (m : Plan). m.packed) p false) h.means
+    ap (λ bs. orders_packed bs) (whole_is bytes h.bytes rest h.read.taken h.read.end)
+    ∙ ap (λ (p : Option Plan). option_map_or (λ (m : Plan). m.packed) p false) h.means
 
 -- by the parties of the layout that is ordered
-pub by_layout : (bytes : List ℕ) (b : Bool) (g v h w : ℕ) (s : Status) → orders_packed bytes ≡ b → IsOrMemory (expected bytes (if b then h else g) (if b then w else v)) s → IsOrMemory (expected bytes (if orders_packed bytes then h else g) (if orders_packed bytes then w else v)) s
-by_layout bytes b g v h w s is found = subst (λ (x : Bool). IsOrMemory (expected bytes (if x then h else g) (if x then w else v)) s) (sym is) found
+pub by_layout : (bytes : List ℕ) (b : Bool) (g v h w : ℕ) (s : Status) → orders_packed bytes ≡ b
+    → IsOrMemory (expected bytes (if b then h else g) (if b then w else v)) s
+    → IsOrMemory (expected bytes (if orders_packed bytes then h else g) (if orders_packed bytes then w else v)) s
+by_layout bytes b g v h w s is found = subst (λ (x : Bool). IsOrMemory (expected bytes (if x then h else g) (if x then w else v)) s)
+    (sym is) found

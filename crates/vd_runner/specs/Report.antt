@@ -24,7 +24,8 @@ mode_word Shadow = codes "shadow"
 -- `epoch q e mode from to`
 unfoldable pub epoch_line : ℕ → ℕ → Mode → ℕ → ℕ → List ℕ
 epoch_line q e mode from to =
-    codes "epoch " ++ decimal q ++ codes " " ++ decimal e ++ codes " " ++ mode_word mode ++ codes " " ++ decimal from ++ codes " " ++ decimal to ++ codes "\n"
+    codes "epoch " ++ decimal q ++ codes " " ++ decimal e ++ codes " " ++ mode_word mode ++ codes " " ++ decimal from ++ codes " "
+    ++ decimal to ++ codes "\n"
 
 -- `drained N`
 unfoldable pub drained_line : ℕ → List ℕ
@@ -44,7 +45,8 @@ epoch_lines q e (ep ∷ eps) = epoch_line q e ep.mode ep.first ep.end ++ epoch_l
 -- has none
 abbrev pub queue_lines : Plan → Bool → ℕ → List ℕ → List ℕ
 queue_lines plan brief q lens =
-    queue_line q (length lens) (sum lens) ++ ((if brief then [] else chain_lines q 0 lens) ++ epoch_lines q 0 (working_epochs plan (length lens)))
+    queue_line q (length lens) (sum lens)
+    ++ ((if brief then [] else chain_lines q 0 lens) ++ epoch_lines q 0 (working_epochs plan (length lens)))
 
 -- the queues, from number q on
 abbrev pub all_queue_lines : Plan → Bool → ℕ → List (List ℕ) → List ℕ

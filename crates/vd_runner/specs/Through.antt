@@ -61,7 +61,8 @@ module _ {D X Y : Type 0} (d : DriverModel D) (f : Y → X) (m : GuestParty X) w
   pub boots : (end : D) (x y : Y) → IsBoot d m end (f x) (f y) → IsBoot d (guest_through f m) end x y
   boots end x y b = record { holds = b.holds; script = b.script; offered = b.offered; returned = b.returned; counts = b.counts }
 
-  pub guest_accesses : {P : Type 0} (port : PortModel P) (p q : P) (v : DriverView) (x y : Y) (answer : Move) → IsGuestAccess port d m p q v (f x) (f y) answer → IsGuestAccess port d (guest_through f m) p q v x y answer
+  pub guest_accesses : {P : Type 0} (port : PortModel P) (p q : P) (v : DriverView) (x y : Y) (answer : Move)
+      → IsGuestAccess port d m p q v (f x) (f y) answer → IsGuestAccess port d (guest_through f m) p q v x y answer
   guest_accesses port p q v x y answer a = record {
     op = a.op;
     access = a.access;
@@ -79,7 +80,16 @@ module _ {D X Y : Type 0} (d : DriverModel D) (f : Y → X) (m : GuestParty X) w
   }
 
   pub halts : (x y : Y) (end : D) → IsHalt d m (f x) (f y) end → IsHalt d (guest_through f m) x y end
-  halts x y end h = record { stands = h.stands; idle = h.idle; free = h.free; script = h.script; offered = h.offered; returned = h.returned; counts = h.counts }
+  halts x y end h = record {
+    stands = h.stands;
+    idle = h.idle;
+    free = h.free;
+    script = h.script;
+    offered = h.offered;
+    returned =
+        h.returned;
+    counts = h.counts;
+  }
 
 module _ {E X Y C : Type 0} (e : DeviceModel E) (f : Y → X) (m : DeviceParty X C) where
   pub lawful_device : IsLawfulDeviceParty e m → IsLawfulDeviceParty e (device_through f m)
@@ -93,25 +103,83 @@ module _ {E X Y C : Type 0} (e : DeviceModel E) (f : Y → X) (m : DeviceParty X
   }
 
   pub unchanged : (x y : Y) → IsUnchanged m (f x) (f y) → IsUnchanged (device_through f m) x y
-  unchanged x y u = record { events = u.events; begun = u.begun; settings = u.settings; faults = u.faults; carried = u.carried; attached = u.attached; room = u.room; counts = u.counts }
+  unchanged x y u = record {
+    events = u.events;
+    begun = u.begun;
+    settings = u.settings;
+    faults = u.faults;
+    carried = u.carried;
+    attached = u.attached;
+    room = u.room;
+    counts = u.counts;
+  }
 
   noted : (event : Event) (x y : Y) → IsNoted m event (f x) (f y) → IsNoted (device_through f m) event x y
-  noted event x y n = record { events = n.events; begun = n.begun; faults = n.faults; window = n.window; carried = n.carried; room = n.room; counts = n.counts }
+  noted event x y n = record {
+    events = n.events;
+    begun = n.begun;
+    faults = n.faults;
+    window = n.window;
+    carried = n.carried;
+    room =
+        n.room;
+    counts = n.counts;
+  }
 
   -- without a control queue's device
   pub attaches : (t : Terms) (end : E) (x y : Y) → IsAttach e m t None end (f x) (f y) → IsAttach e (device_through f m) t None end x y
-  attaches t end x y a = record { from = a.from; attached = a.attached; taken = a.taken; holds = a.holds; live = a.live; noted = noted _ x y a.noted; settings = a.settings }
+  attaches t end x y a = record {
+    from = a.from;
+    attached = a.attached;
+    taken = a.taken;
+    holds = a.holds;
+    live = a.live;
+    noted =
+        noted _ x y a.noted;
+    settings = a.settings;
+  }
 
-  pub attaches_by : (t : Terms) (control : Y) (end : E) (x y : Y) → IsAttach e m t (Some (f control)) end (f x) (f y) → IsAttach e (device_through f m) t (Some control) end x y
-  attaches_by t control end x y a = record { from = a.from; attached = a.attached; taken = a.taken; holds = a.holds; live = a.live; noted = noted _ x y a.noted; settings = a.settings }
+  pub attaches_by : (t : Terms) (control : Y) (end : E) (x y : Y) → IsAttach e m t (Some (f control)) end (f x) (f y)
+      → IsAttach e (device_through f m) t (Some control) end x y
+  attaches_by t control end x y a = record {
+    from = a.from;
+    attached = a.attached;
+    taken = a.taken;
+    holds = a.holds;
+    live = a.live;
+    noted = noted _ x y a.noted;
+    settings = a.settings;
+  }
 
   pub refuses : (x y : Y) → IsRefused m (f x) (f y) → IsRefused (device_through f m) x y
-  refuses x y r = record { rose = r.rose; events = r.events; begun = r.begun; settings = r.settings; window = r.window; carried = r.carried; attached = r.attached; room = r.room; counts = r.counts }
+  refuses x y r = record {
+    rose = r.rose;
+    events = r.events;
+    begun = r.begun;
+    settings = r.settings;
+    window = r.window;
+    carried =
+        r.carried;
+    attached = r.attached;
+    room = r.room;
+    counts = r.counts;
+  }
 
   serves : (x y : Y) → IsServed m (f x) (f y) → IsServed (device_through f m) x y
-  serves x y s = record { events = s.events; grows = s.grows; settings = s.settings; faults = s.faults; window = s.window; carried = s.carried; attached = s.attached; room = s.room }
+  serves x y s = record {
+    events = s.events;
+    grows = s.grows;
+    settings = s.settings;
+    faults = s.faults;
+    window = s.window;
+    carried =
+        s.carried;
+    attached = s.attached;
+    room = s.room;
+  }
 
-  pub device_accesses : {P : Type 0} (port : PortModel P) (p q : P) (w : DeviceView) (x y : Y) (answer : Move) → IsDeviceAccess port e m p q w (f x) (f y) answer → IsDeviceAccess port e (device_through f m) p q w x y answer
+  pub device_accesses : {P : Type 0} (port : PortModel P) (p q : P) (w : DeviceView) (x y : Y) (answer : Move)
+      → IsDeviceAccess port e m p q w (f x) (f y) answer → IsDeviceAccess port e (device_through f m) p q w x y answer
   device_accesses port p q w x y answer a = record {
     op = a.op;
     access = a.access;
@@ -130,7 +198,15 @@ module _ {E X Y C : Type 0} (e : DeviceModel E) (f : Y → X) (m : DeviceParty X
   }
 
   pub suspends : (x y : Y) (end : E) → IsSuspend e m (f x) (f y) end → IsSuspend e (device_through f m) x y end
-  suspends x y end s = record { stands = s.stands; rests = s.rests; served = s.served; attached = s.attached; noted = noted _ x y s.noted; settings = s.settings }
+  suspends x y end s = record {
+    stands = s.stands;
+    rests = s.rests;
+    served = s.served;
+    attached = s.attached;
+    noted =
+        noted _ x y s.noted;
+    settings = s.settings;
+  }
 
   pub resets : (x y : Y) → IsReset m (f x) (f y) → IsReset (device_through f m) x y
   resets x y r = record { attached = r.attached; noted = noted _ x y r.noted; settings = r.settings }

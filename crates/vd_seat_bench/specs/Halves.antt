@@ -29,13 +29,17 @@ pub record IsDeviceHalf {D E : Type 0} (d : DriverModel D) (e : DeviceModel E) (
 -- ---- lemmas
 
 -- an operation was finished
-pub finished_driver : {D E : Type 0} (d : DriverModel D) (e : DeviceModel E) (l : LayoutModel) (law : IsLawfulLayout d e l) (x x' x'' : D) (s t : SeatState) (answer : DriverAct) → (h : IsDriverHalf d e l x s) → IsDriverFinish (port_of d e l) d s t h.view x' x'' answer → IsDriverHalf d e l x'' t × (t.table ≡ s.table)
+pub finished_driver : {D E : Type 0} (d : DriverModel D) (e : DeviceModel E) (l : LayoutModel) (law : IsLawfulLayout d e l)
+    (x x' x'' : D) (s t : SeatState) (answer : DriverAct) → (h : IsDriverHalf d e l x s)
+    → IsDriverFinish (port_of d e l) d s t h.view x' x'' answer → IsDriverHalf d e l x'' t × (t.table ≡ s.table)
 finished_driver d e l law x x' x'' s t answer h f =
     let ran = driver_ran (port_of d e l) d law.driver_end s t h.view x x' x'' answer h.on f in
     let run = drives_run d e l law ran.made s t h.view ran.view h.at ran.run in
     (record { view = ran.view; at = run.0; on = ran.on; bare = subst IsOpen (sym ran.framed) h.bare }, sym run.1.table)
 
-pub finished_device : {D E : Type 0} (d : DriverModel D) (e : DeviceModel E) (l : LayoutModel) (law : IsLawfulLayout d e l) (y y' y'' : E) (s t : SeatState) (answer : DeviceAct) → (h : IsDeviceHalf d e l y s) → (e.begun y' ≡ DeviceOp.rest → ⊥) → IsDeviceFinish (port_of d e l) e s t h.view y' y'' answer → IsDeviceHalf d e l y'' t × (t.table ≡ s.table)
+pub finished_device : {D E : Type 0} (d : DriverModel D) (e : DeviceModel E) (l : LayoutModel) (law : IsLawfulLayout d e l)
+    (y y' y'' : E) (s t : SeatState) (answer : DeviceAct) → (h : IsDeviceHalf d e l y s) → (e.begun y' ≡ DeviceOp.rest → ⊥)
+    → IsDeviceFinish (port_of d e l) e s t h.view y' y'' answer → IsDeviceHalf d e l y'' t × (t.table ≡ s.table)
 finished_device d e l law y y' y'' s t answer h ne f =
     let ran = device_ran (port_of d e l) e law.device_end s t h.view y y' y'' answer h.on ne f in
     let run = serves_run d e l law ran.made s t h.view ran.view h.at ran.run in

@@ -17,7 +17,8 @@ pub record IsOpen (f : Frame) : Type 0 where
 -- ---- lemmas
 
 -- a chain of one piece may be offered where there is room
-pub may_offer_one : (words : ControlWords) (v : DriverView) → IsOpen v.frame → (piece : Piece) (c : List Piece) → c ≡ piece ∷ [] → IsChain c → piece.len ≤ 4294967295 → length (offers v.done) < 1000000000 → HasRoom v.frame v.done c → MayOffer words v c
+pub may_offer_one : (words : ControlWords) (v : DriverView) → IsOpen v.frame → (piece : Piece) (c : List Piece) → c ≡ piece ∷ []
+    → IsChain c → piece.len ≤ 4294967295 → length (offers v.done) < 1000000000 → HasRoom v.frame v.done c → MayOffer words v c
 may_offer_one words v bare piece c is chain small n room = record {
   fits = record {
     chain = chain;
@@ -26,6 +27,7 @@ may_offer_one words v bare piece c is chain small n room = record {
     bounds = subst (λ b. AreInBounds b c) (sym bare.unbounded) tt;
   };
   room = room;
-  limited = elim (nat_lt v.frame.ring 16) as (λ b. length (offers v.done) < (if b then 4000000000 else 4294967295)) [ true ↦ (search rules) | false ↦ (search rules) ];
+  limited = elim (nat_lt v.frame.ring 16) as (λ b. length (offers v.done) < (if b then 4000000000 else 4294967295))
+      [ true ↦ (search rules) | false ↦ (search rules) ];
   control = λ on. absurd (cc (on, bare.uncontrolled));
 }

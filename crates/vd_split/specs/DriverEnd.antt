@@ -61,8 +61,10 @@ offering (suc n) ps = now.Offering ps
 
 abbrev pub DriverStepStands : DriverStep → List Piece → Frame → List DriverDone → DriverNow → Type 0
 DriverStepStands step.Idle c f o d = d ≡ now.Idle
-DriverStepStands (step.Describe at) c f o d = CanOffer f o c × (is_tabled f c ≡ false) × (at < 2 * length c) × (d ≡ offering at (take at (plan f o c)))
-DriverStepStands (step.Table at) c f o d = CanOffer f o c × (is_tabled f c ≡ true) × (at < 2 * length c + 2) × (d ≡ offering at (take at (plan f o c)))
+DriverStepStands (step.Describe at) c f o d = CanOffer f o c × (is_tabled f c ≡ false) × (at < 2 * length c)
+    × (d ≡ offering at (take at (plan f o c)))
+DriverStepStands (step.Table at) c f o d = CanOffer f o c × (is_tabled f c ≡ true) × (at < 2 * length c + 2)
+    × (d ≡ offering at (take at (plan f o c)))
 DriverStepStands step.Enter c f o d = CanOffer f o c × (d ≡ now.Offering (plan f o c))
 DriverStepStands step.Publish c f o d = CanOffer f o c × (d ≡ now.Entered (plan f o c))
 DriverStepStands step.Look c f o d = d ≡ now.Idle

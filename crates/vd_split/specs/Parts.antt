@@ -40,7 +40,8 @@ wanted event_idx old new event = if event_idx then wants rule.SplitIndex old new
 
 -- whether the loaded word with the device's event word does
 abbrev pub asks : Bool → ℕ → ℕ → ℕ → Bool
-asks event_idx old new word = if event_idx then wants rule.SplitIndex old new (lane16 word 2) else wants rule.SplitFlags old new (lane16 word 0)
+asks event_idx old new word = if event_idx then wants rule.SplitIndex old new (lane16 word 2) else wants rule.SplitFlags old new
+    (lane16 word 0)
 
 -- how far behind the device area's first word the device's event word stands
 abbrev pub event_offset : ℕ → Bool → ℕ

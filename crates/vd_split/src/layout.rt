@@ -1,6 +1,6 @@
 //! The layout of a split ring.
 ghost use Rattle.std.specs.Prelude.{◌≡◌, ◌≤◌};
-ghost use Rattle.vd_split.specs.SplitLayout.{split_layout, split_laws};
+ghost use Rattle.vd_split.specs.laws.SplitLayout.{split_layout, split_laws};
 ghost use Rattle.vd_split.specs.Parts.{commands_area, acks_area, all_words};
 
 use crate::descriptors::used_area;

@@ -11,7 +11,11 @@ use Rattle.vd_split_ring.specs.SplitWords.{shows}
 use Rattle.vd_split_ring.specs.SplitRing.{Words}
 
 pub areas : (f : Frame) → (tables_from f ≤ commands_from f) × (commands_from f ≤ acks_from f) × (acks_from f ≤ kick_at f)
-areas f = (up (if f.features.indirect then 32 * f.size else 0) (tables_from f), up (if f.control then 2 * f.size else 0) (commands_from f), up (if f.control then f.size else 0) (acks_from f))
+areas f = (
+  up (if f.features.indirect then 32 * f.size else 0) (tables_from f),
+  up (if f.control then 2 * f.size else 0) (commands_from f),
+  up (if f.control then f.size else 0) (acks_from f),
+)
   where
     up : (b a : ℕ) → a ≤ a + b
     up b a = omega arith
@@ -37,13 +41,16 @@ devices_inside f i (inl a) = omega (arith, areas f)
 devices_inside f i (inr (inl a)) = omega (arith, areas f)
 devices_inside f i (inr (inr a)) = omega (arith, areas f)
 
-same_store : (ws us : List ℕ) (p i x : ℕ) → p < length ws → p < length us → slice_index ws i ≡ slice_index us i → slice_index (slice_set ws p x) i ≡ slice_index (slice_set us p x) i
+same_store : (ws us : List ℕ) (p i x : ℕ) → p < length ws → p < length us → slice_index ws i ≡ slice_index us i
+    → slice_index (slice_set ws p x) i ≡ slice_index (slice_set us p x) i
 same_store ws us p i x a b e = elim (cases_eq i p) [
-  | inl is ↦ subst (λ (q : ℕ). slice_index (slice_set ws p x) q ≡ slice_index (slice_set us p x) q) (sym is) (get_or-set_same ws p x 0 a ∙ sym (get_or-set_same us p x 0 b))
+  | inl is ↦ subst (λ (q : ℕ). slice_index (slice_set ws p x) q ≡ slice_index (slice_set us p x) q) (sym is)
+      (get_or-set_same ws p x 0 a ∙ sym (get_or-set_same us p x 0 b))
   | inr ne ↦ get_or-set_other ws p i x 0 ne ∙ e ∙ sym (get_or-set_other us p i x 0 ne)
 ]
 
-pub driver_stores : (f : Frame) (ws by_driver by_device : List ℕ) (p x : ℕ) → Words f ws by_driver by_device → IsDrivers f p → Words f (slice_set ws p x) (slice_set by_driver p x) by_device
+pub driver_stores : (f : Frame) (ws by_driver by_device : List ℕ) (p x : ℕ) → Words f ws by_driver by_device → IsDrivers f p
+    → Words f (slice_set ws p x) (slice_set by_driver p x) by_device
 driver_stores f ws by_driver by_device p x w own =
     let inside : p < width f = drivers_inside f p own in
     let wide : length ws ≡ width f = w.wide.0 in
@@ -54,7 +61,8 @@ driver_stores f ws by_driver by_device p x w own =
       devices = λ i h. get_or-set_other ws p i x 0 (λ e. owners_apart f p i own h (sym e)) ∙ w.devices i h;
     }
 
-pub device_stores : (f : Frame) (ws by_driver by_device : List ℕ) (p x : ℕ) → Words f ws by_driver by_device → IsDevices f p → Words f (slice_set ws p x) by_driver (slice_set by_device p x)
+pub device_stores : (f : Frame) (ws by_driver by_device : List ℕ) (p x : ℕ) → Words f ws by_driver by_device → IsDevices f p
+    → Words f (slice_set ws p x) by_driver (slice_set by_device p x)
 device_stores f ws by_driver by_device p x w own =
     let inside : p < width f = devices_inside f p own in
     let wide : length ws ≡ width f = w.wide.0 in
@@ -67,11 +75,14 @@ device_stores f ws by_driver by_device p x w own =
 
 -- ---- lanes of the driver area
 
-pub lane_same : (f : Frame) (ws : List ℕ) (j v : ℕ) → v < 65536 → lane_word f j < length ws → lane_at f (slice_set ws (lane_word f j) (with_lane f ws j v)) j ≡ v
+pub lane_same : (f : Frame) (ws : List ℕ) (j v : ℕ) → v < 65536 → lane_word f j < length ws
+    → lane_at f (slice_set ws (lane_word f j) (with_lane f ws j v)) j ≡ v
 lane_same f ws j v small inside =
-    ap (λ w. lane16 w (j % 4)) (get_or-set_same ws (lane_word f j) (with_lane f ws j v) 0 inside) ∙ set_same (slice_index ws (lane_word f j)) (j % 4) v small (omega arith)
+    ap (λ w. lane16 w (j % 4)) (get_or-set_same ws (lane_word f j) (with_lane f ws j v) 0 inside)
+    ∙ set_same (slice_index ws (lane_word f j)) (j % 4) v small (omega arith)
 
-pub lane_other : (f : Frame) (ws : List ℕ) (j i v : ℕ) → v < 65536 → lane_word f j < length ws → i ≢ j → lane_at f (slice_set ws (lane_word f j) (with_lane f ws j v)) i ≡ lane_at f ws i
+pub lane_other : (f : Frame) (ws : List ℕ) (j i v : ℕ) → v < 65536 → lane_word f j < length ws → i ≢ j
+    → lane_at f (slice_set ws (lane_word f j) (with_lane f ws j v)) i ≡ lane_at f ws i
 lane_other f ws j i v small inside ne = elim (cases_eq (i / 4) (j / 4)) [
   | inl e ↦ (
       let apart : i % 4 ≢ j % 4 = λ h. ne (omega arith) in
@@ -116,38 +127,48 @@ pub shows_same : (r a g : ℕ) → lane16 r 1 ≡ g % 65536 → a ≤ g → g < 
 shows_same r a g lane low near on = omega (arith, eqb-true (lane16 r 1) (a % 65536) on)
 
 pub shows_more : (r a g : ℕ) → lane16 r 1 ≡ g % 65536 → a ≤ g → shows r a ≡ false → a < g
-shows_more r a g lane low off = elim (cases_eq a g) [ inl e ↦ absurd (eqb-false (lane16 r 1) (a % 65536) off (lane ∙ ap (λ n. n % 65536) (sym e))) | inr ne ↦ elim (cases_lt a g) [ inl h ↦ h | inr h ↦ absurd (ne (omega arith)) ] ]
+shows_more r a g lane low off =
+    elim (cases_eq a g) [
+      | inl e ↦ absurd (eqb-false (lane16 r 1) (a % 65536) off (lane ∙ ap (λ n. n % 65536) (sym e)))
+      | inr ne ↦ elim
+          (cases_lt a g) [ inl h ↦ h | inr h ↦ absurd (ne (omega arith)) ]
+    ]
 
 pub shows_further : (r a g : ℕ) → lane16 r 1 ≡ g % 65536 → a < g → g < a + 65536 → shows r a ≡ false
 shows_further r a g lane low near = false_from_ne_true (shows r a) (λ on. omega (arith, shows_same r a g lane (omega arith) near on))
 
 -- ---- halves of the used words
 
-pub high_after_id : (ws : List ℕ) (p q v : ℕ) → q ≢ p → lane32 (slice_index (slice_set ws p (set_lane32 (slice_index ws p) 1 v)) q) 1 ≡ lane32 (slice_index ws q) 1
+pub high_after_id : (ws : List ℕ) (p q v : ℕ) → q ≢ p → lane32 (slice_index (slice_set ws p (set_lane32 (slice_index ws p) 1 v)) q) 1
+    ≡ lane32 (slice_index ws q) 1
 high_after_id ws p q v ne = ap (λ w. lane32 w 1) (get_or-set_other ws p q (set_lane32 (slice_index ws p) 1 v) 0 ne)
 
-pub low_after_id : (ws : List ℕ) (p q v : ℕ) → p < length ws → lane32 (slice_index (slice_set ws p (set_lane32 (slice_index ws p) 1 v)) q) 0 ≡ lane32 (slice_index ws q) 0
+pub low_after_id : (ws : List ℕ) (p q v : ℕ) → p < length ws
+    → lane32 (slice_index (slice_set ws p (set_lane32 (slice_index ws p) 1 v)) q) 0 ≡ lane32 (slice_index ws q) 0
 low_after_id ws p q v h = elim (cases_eq q p) [
   | inl e ↦ subst (λ i. lane32 (slice_index (slice_set ws p (set_lane32 (slice_index ws p) 1 v)) i) 0 ≡ lane32 (slice_index ws i) 0) (sym e)
       (ap (λ w. lane32 w 0) (get_or-set_same ws p (set_lane32 (slice_index ws p) 1 v) 0 h) ∙ high_low (slice_index ws p) v)
   | inr ne ↦ ap (λ w. lane32 w 0) (get_or-set_other ws p q (set_lane32 (slice_index ws p) 1 v) 0 ne)
 ]
 
-pub lane_after_id : (ws : List ℕ) (p q v : ℕ) → p < length ws → lane16 (slice_index (slice_set ws p (set_lane32 (slice_index ws p) 1 v)) q) 1 ≡ lane16 (slice_index ws q) 1
+pub lane_after_id : (ws : List ℕ) (p q v : ℕ) → p < length ws
+    → lane16 (slice_index (slice_set ws p (set_lane32 (slice_index ws p) 1 v)) q) 1 ≡ lane16 (slice_index ws q) 1
 lane_after_id ws p q v h = elim (cases_eq q p) [
   | inl e ↦ subst (λ i. lane16 (slice_index (slice_set ws p (set_lane32 (slice_index ws p) 1 v)) i) 1 ≡ lane16 (slice_index ws i) 1) (sym e)
       (ap (λ w. lane16 w 1) (get_or-set_same ws p (set_lane32 (slice_index ws p) 1 v) 0 h) ∙ low_lane (slice_index ws p) v 1 (omega arith))
   | inr ne ↦ ap (λ w. lane16 w 1) (get_or-set_other ws p q (set_lane32 (slice_index ws p) 1 v) 0 ne)
 ]
 
-pub high_after_len : (ws : List ℕ) (p q v : ℕ) → p < length ws → v < 4294967296 → lane32 (slice_index (slice_set ws p (set_lane32 (slice_index ws p) 0 v)) q) 1 ≡ lane32 (slice_index ws q) 1
+pub high_after_len : (ws : List ℕ) (p q v : ℕ) → p < length ws → v < 4294967296
+    → lane32 (slice_index (slice_set ws p (set_lane32 (slice_index ws p) 0 v)) q) 1 ≡ lane32 (slice_index ws q) 1
 high_after_len ws p q v h small = elim (cases_eq q p) [
   | inl e ↦ subst (λ i. lane32 (slice_index (slice_set ws p (set_lane32 (slice_index ws p) 0 v)) i) 1 ≡ lane32 (slice_index ws i) 1) (sym e)
       (ap (λ w. lane32 w 1) (get_or-set_same ws p (set_lane32 (slice_index ws p) 0 v) 0 h) ∙ low_high (slice_index ws p) v small)
   | inr ne ↦ ap (λ w. lane32 w 1) (get_or-set_other ws p q (set_lane32 (slice_index ws p) 0 v) 0 ne)
 ]
 
-pub high_after_index : (ws : List ℕ) (p q v : ℕ) → p < length ws → v < 65536 → lane32 (slice_index (slice_set ws p (set_lane16 (slice_index ws p) 1 v)) q) 1 ≡ lane32 (slice_index ws q) 1
+pub high_after_index : (ws : List ℕ) (p q v : ℕ) → p < length ws → v < 65536
+    → lane32 (slice_index (slice_set ws p (set_lane16 (slice_index ws p) 1 v)) q) 1 ≡ lane32 (slice_index ws q) 1
 high_after_index ws p q v h small = elim (cases_eq q p) [
   | inl e ↦ subst (λ i. lane32 (slice_index (slice_set ws p (set_lane16 (slice_index ws p) 1 v)) i) 1 ≡ lane32 (slice_index ws i) 1) (sym e)
       (ap (λ w. lane32 w 1) (get_or-set_same ws p (set_lane16 (slice_index ws p) 1 v) 0 h) ∙ lane_high (slice_index ws p) v small)
@@ -177,7 +198,8 @@ descriptor_low f p (inl a) = omega (arith, areas f)
 descriptor_low f p (inr a) = omega arith
 
 -- they leave the lanes of the driver area
-pub lane_descriptor : (f : Frame) (ws : List ℕ) (p x j : ℕ) → IsDescriptors f p → j ≤ f.size + 2 → lane_at f (slice_set ws p x) j ≡ lane_at f ws j
+pub lane_descriptor : (f : Frame) (ws : List ℕ) (p x j : ℕ) → IsDescriptors f p → j ≤ f.size + 2
+    → lane_at f (slice_set ws p x) j ≡ lane_at f ws j
 lane_descriptor f ws p x j (inl a) h = lane_elsewhere f ws p x j a
 lane_descriptor f ws p x j (inr a) h = lane_past f ws p x j (omega arith) h
 
@@ -193,7 +215,10 @@ command_no_descriptor f p low (inr a) = omega arith
 -- ---- commands and acks
 
 pub acks_follow : (f : Frame) → f.control ≡ true → (acks_from f ≡ commands_from f + 2 * f.size) × (kick_at f ≡ acks_from f + f.size)
-acks_follow f on = (ap (λ (b : Bool). commands_from f + (if b then 2 * f.size else 0)) on, ap (λ (b : Bool). acks_from f + (if b then f.size else 0)) on)
+acks_follow f on = (
+  ap (λ (b : Bool). commands_from f + (if b then 2 * f.size else 0)) on,
+  ap (λ (b : Bool). acks_from f + (if b then f.size else 0)) on,
+)
 
 pub commands_apart : (f : Frame) (g h i j : ℕ) → i < 2 → j < 2 → command_word f g + i ≡ command_word f h + j → (g ≡ h) × (i ≡ j)
 commands_apart f g h i j a b e = (omega arith, omega arith)

@@ -33,15 +33,30 @@ pub record IsAt (base : ℕ) (ps : List ℕ) (q : ℕ) : Type 0 where
 at_further : (base p : ℕ) (ps : List ℕ) (q : ℕ) → IsAt base ps q → IsAt base (p ∷ ps) q
 at_further base p ps q a = record { place = a.place; here = omega (arith, a.here); low = a.low; high = a.high }
 
-pub described_at : (base : ℕ) (ps : List ℕ) (c : List Piece) (k : ℕ) → k < length (described base ps c) → IsAt base ps (slice_index_or (described base ps c) k (put 0 0)).place
+pub described_at : (base : ℕ) (ps : List ℕ) (c : List Piece) (k : ℕ) → k < length (described base ps c)
+    → IsAt base ps (slice_index_or (described base ps c) k (put 0 0)).place
 described_at base [] c k h = absurd (omega arith)
 described_at base (p ∷ ps) [] k h = absurd (omega arith)
-described_at base (p ∷ ps) (x ∷ c) zero h = record { place = p; here = omega (arith, one_same p p refl); low = omega arith; high = omega arith }
-described_at base (p ∷ ps) (x ∷ c) (suc zero) h = record { place = p; here = omega (arith, one_same p p refl); low = omega arith; high = omega arith }
-described_at base (p ∷ ps) (x ∷ c) (suc (suc k)) h = at_further base p ps (slice_index_or (described base ps c) k (put 0 0)).place (described_at base ps c k (omega arith))
+described_at base (p ∷ ps) (x ∷ c) zero h = record {
+  place = p;
+  here = omega (arith, one_same p p refl);
+  low = omega arith;
+  high =
+      omega arith;
+}
+described_at base (p ∷ ps) (x ∷ c) (suc zero) h = record {
+  place = p;
+  here = omega (arith, one_same p p refl);
+  low = omega arith;
+  high =
+      omega arith;
+}
+described_at base (p ∷ ps) (x ∷ c) (suc (suc k)) h = at_further base p ps (slice_index_or (described base ps c) k (put 0 0)).place
+    (described_at base ps c k (omega arith))
 
 pub described_within : (base : ℕ) (ps : List ℕ) (c : List Piece) → All (λ s. IsAt base ps s.place) (described base ps c)
-described_within base ps c = λ k d h. subst (λ (s : Put). IsAt base ps s.place) (get_or_default (described base ps c) k (put 0 0) d h) (described_at base ps c k h)
+described_within base ps c = λ k d h. subst (λ (s : Put). IsAt base ps s.place) (get_or_default (described base ps c) k (put 0 0) d h)
+    (described_at base ps c k h)
 
 -- a word of no descriptor of the list is none of them
 pub described_apart : (base : ℕ) (ps : List ℕ) (c : List Piece) (q : ℕ) → (IsAt base ps q → ⊥) → All (IsApart q) (described base ps c)
@@ -53,14 +68,18 @@ pub described_before : (base : ℕ) (ps : List ℕ) (c : List Piece) (k : ℕ) �
 described_before base [] c k h below = absurd (omega arith)
 described_before base (p ∷ ps) [] k h below = absurd (omega arith)
 described_before base (p ∷ ps) (x ∷ c) zero h below = All-nil (IsApart (base + 2 * p))
-described_before base (p ∷ ps) (x ∷ c) (suc zero) h below = All-cons (IsApart (base + 2 * p + 1)) (put (base + 2 * p) x.addr) [] (λ e. omega arith) (All-nil (IsApart (base + 2 * p + 1)))
+described_before base (p ∷ ps) (x ∷ c) (suc zero) h below =
+    All-cons (IsApart (base + 2 * p + 1)) (put (base + 2 * p) x.addr) [] (λ e. omega arith) (All-nil (IsApart (base + 2 * p + 1)))
 described_before base (p ∷ ps) (x ∷ c) (suc (suc k)) h below =
     let q : ℕ = (slice_index_or (described base ps c) k (put 0 0)).place in
     let a : IsAt base ps q = described_at base ps c k (omega arith) in
     let ne : a.place ≢ p = λ e. omega (arith, a.here, h a.place, one_same p a.place (sym e)) in
-    let apart : (r : ℕ) → base + 2 * p ≤ r → r ≤ base + 2 * p + 1 → r ≢ q = λ r low high e. ne (let b : a.place ≡ p = omega (arith, a.low, a.high) in b) in
-    All-cons (IsApart q) (put (base + 2 * p) x.addr) (put (base + 2 * p + 1) (second x c (first ps)) ∷ take k (described base ps c)) (apart (base + 2 * p) (omega arith) (omega arith))
-    (All-cons (IsApart q) (put (base + 2 * p + 1) (second x c (first ps))) (take k (described base ps c)) (apart (base + 2 * p + 1) (omega arith) (omega arith))
+    let apart : (r : ℕ) → base + 2 * p ≤ r → r ≤ base + 2 * p + 1 → r ≢ q =
+    λ r low high e. ne (let b : a.place ≡ p = omega (arith, a.low, a.high) in b) in
+    All-cons (IsApart q) (put (base + 2 * p) x.addr) (put (base + 2 * p + 1) (second x c (first ps)) ∷ take k (described base ps c))
+    (apart (base + 2 * p) (omega arith) (omega arith))
+    (All-cons (IsApart q) (put (base + 2 * p + 1) (second x c (first ps))) (take k (described base ps c))
+    (apart (base + 2 * p + 1) (omega arith) (omega arith))
     (described_before base ps c k (λ r. omega (arith, h r)) (omega arith)))
 
 -- a store elsewhere
@@ -68,7 +87,8 @@ pub stand_other : (ws : List ℕ) (ss : List Put) (q x : ℕ) → Stand ws ss �
 stand_other ws ss q x stand apart = λ k d h. get_or-set_other ws q (slice_index_or ss k d).place x 0 (apart k d h) ∙ stand k d h
 
 -- the next store
-pub stand_more : (ws : List ℕ) (ss : List Put) (k : ℕ) → k < length ss → (slice_index_or ss k (put 0 0)).place < length ws → All (IsApart (slice_index_or ss k (put 0 0)).place) (take k ss) → Stand ws (take k ss)
+pub stand_more : (ws : List ℕ) (ss : List Put) (k : ℕ) → k < length ss → (slice_index_or ss k (put 0 0)).place < length ws
+    → All (IsApart (slice_index_or ss k (put 0 0)).place) (take k ss) → Stand ws (take k ss)
     → Stand (slice_set ws (slice_index_or ss k (put 0 0)).place (slice_index_or ss k (put 0 0)).word) (take (k + 1) ss)
 stand_more ws ss k below inside apart stand =
     let s : Put = slice_index_or ss k (put 0 0) in
@@ -80,10 +100,13 @@ pub words_more : (ss : List Put) (ws : List ℕ) → length ws < length ss → w
     → ws ++ (slice_index_or ss (length ws) (put 0 0)).word ∷ [] ≡ words_of (take (length ws + 1) ss)
 words_more ss ws below is =
     let s : Put = slice_index_or ss (length ws) (put 0 0) in
-    ap (λ (l : List ℕ). l ++ s.word ∷ []) is ∙ (sym (map-append (λ (p : Put). p.word) (take (length ws) ss) (s ∷ [])) ∙ ap words_of (sym (take_more ss (length ws) (put 0 0) below)))
+    ap (λ (l : List ℕ). l ++ s.word ∷ []) is
+    ∙ (sym (map-append (λ (p : Put). p.word) (take (length ws) ss) (s ∷ []))
+    ∙ ap words_of (sym (take_more ss (length ws) (put 0 0) below)))
 
 -- a word past the descriptors is none of them
-pub described_below : (base : ℕ) (ps : List ℕ) (c : List Piece) (n q : ℕ) → ((p : ℕ) → 1 ≤ occurs p ps → p < n) → base + 2 * n ≤ q → All (IsApart q) (described base ps c)
+pub described_below : (base : ℕ) (ps : List ℕ) (c : List Piece) (n q : ℕ) → ((p : ℕ) → 1 ≤ occurs p ps → p < n) → base + 2 * n ≤ q
+    → All (IsApart q) (described base ps c)
 described_below base ps c n q inside past = described_apart base ps c q (λ a. omega (arith, inside a.place a.here, a.high))
 
 -- ---- reading
@@ -102,7 +125,8 @@ piece a l w = record { addr = a; len = l; write = w }
 same_piece : (a l m : ℕ) (v w : Bool) → m ≡ l → v ≡ w → piece a m v ≡ piece a l w
 same_piece a l m v w h k = ap (λ (n : ℕ). piece a n v) h ∙ ap (λ (b : Bool). piece a l b) k
 
-pub reads : (a l m next : ℕ) (w : Bool) → m ≤ 1 → l < 2 ^ 32 → piece_of a (l + (m + (if w then 2 else 0)) * 4294967296 + next * 281474976710656) ≡ piece a l w
+pub reads : (a l m next : ℕ) (w : Bool) → m ≤ 1 → l < 2 ^ 32
+    → piece_of a (l + (m + (if w then 2 else 0)) * 4294967296 + next * 281474976710656) ≡ piece a l w
 reads a l m next true h k = same_piece a l _ _ true (omega arith) (eq-eqb _ 1 (omega arith))
 reads a l m next false h k = same_piece a l _ _ false (omega arith) (ne_eqb _ 1 (λ e. omega arith))
 
@@ -127,7 +151,8 @@ reads_last x next is = ne_eqb _ 1 (odd x.write x.len next is.1)
     odd false l q h = λ e. omega arith
 
 -- the words of a whole chain spell it
-pub pieces_back : (base : ℕ) (ps : List ℕ) (c : List Piece) → length ps ≡ length c → All IsPiece c → pieces_of (words_of (described base ps c)) ≡ c
+pub pieces_back : (base : ℕ) (ps : List ℕ) (c : List Piece) → length ps ≡ length c → All IsPiece c
+    → pieces_of (words_of (described base ps c)) ≡ c
 pieces_back base [] [] h is = refl
 pieces_back base [] (x ∷ c) h is = absurd (omega arith)
 pieces_back base (p ∷ ps) [] h is = absurd (omega arith)
@@ -136,7 +161,8 @@ pieces_back base (p ∷ ps) (x ∷ c) h is =
     ∙ ap (λ (l : List Piece). x ∷ l) (pieces_back base ps c (omega arith) (All-tail IsPiece x c is))
 
 -- fewer of its words are no whole chain
-pub not_whole : (base : ℕ) (ps : List ℕ) (c : List Piece) (k : ℕ) → length ps ≡ length c → All IsPiece c → k < 2 * length c → ends (words_of (take k (described base ps c))) ≡ false
+pub not_whole : (base : ℕ) (ps : List ℕ) (c : List Piece) (k : ℕ) → length ps ≡ length c → All IsPiece c → k < 2 * length c
+    → ends (words_of (take k (described base ps c))) ≡ false
 not_whole base [] [] k h is below = absurd (omega arith)
 not_whole base [] (x ∷ c) k h is below = absurd (omega arith)
 not_whole base (p ∷ ps) [] k h is below = absurd (omega arith)
@@ -146,9 +172,11 @@ not_whole base (p ∷ []) (x ∷ []) (suc (suc k)) h is below = absurd (omega ar
 not_whole base (p ∷ []) (x ∷ y ∷ c) (suc (suc k)) h is below = absurd (omega arith)
 not_whole base (p ∷ q ∷ ps) (x ∷ []) (suc (suc k)) h is below = absurd (omega arith)
 not_whole base (p ∷ q ∷ ps) (x ∷ y ∷ c) (suc (suc zero)) h is below = ap not (reads_on x y c q (All-head IsPiece x (y ∷ c) is))
-not_whole base (p ∷ q ∷ ps) (x ∷ y ∷ c) (suc (suc (suc k))) h is below = not_whole base (q ∷ ps) (y ∷ c) (suc k) (omega arith) (All-tail IsPiece x (y ∷ c) is) (omega arith)
+not_whole base (p ∷ q ∷ ps) (x ∷ y ∷ c) (suc (suc (suc k))) h is below =
+    not_whole base (q ∷ ps) (y ∷ c) (suc k) (omega arith) (All-tail IsPiece x (y ∷ c) is) (omega arith)
 
-pub whole : (base : ℕ) (ps : List ℕ) (c : List Piece) → length ps ≡ length c → All IsPiece c → 0 < length c → ends (words_of (described base ps c)) ≡ true
+pub whole : (base : ℕ) (ps : List ℕ) (c : List Piece) → length ps ≡ length c → All IsPiece c → 0 < length c
+    → ends (words_of (described base ps c)) ≡ true
 whole base [] [] h is some = absurd (omega arith)
 whole base [] (x ∷ c) h is some = absurd (omega arith)
 whole base (p ∷ ps) [] h is some = absurd (omega arith)
@@ -158,7 +186,8 @@ whole base (p ∷ q ∷ ps) (x ∷ []) h is some = absurd (omega arith)
 whole base (p ∷ q ∷ ps) (x ∷ y ∷ c) h is some = whole base (q ∷ ps) (y ∷ c) (omega arith) (All-tail IsPiece x (y ∷ c) is) (omega arith)
 
 -- the words loaded so far tell where the next stands
-pub linked_at : (ps : List ℕ) (c : List Piece) (k : ℕ) → length ps ≡ length c → All IsPiece c → k < 2 * length c → linked (first ps) (words_of (take k (described 0 ps c))) ≡ (slice_index_or (described 0 ps c) k (put 0 0)).place
+pub linked_at : (ps : List ℕ) (c : List Piece) (k : ℕ) → length ps ≡ length c → All IsPiece c → k < 2 * length c
+    → linked (first ps) (words_of (take k (described 0 ps c))) ≡ (slice_index_or (described 0 ps c) k (put 0 0)).place
 linked_at [] [] k h is below = absurd (omega arith)
 linked_at [] (x ∷ c) k h is below = absurd (omega arith)
 linked_at (p ∷ ps) [] k h is below = absurd (omega arith)
@@ -171,17 +200,21 @@ linked_at (p ∷ ps) (x ∷ c) (suc (suc k)) h is below =
 -- ---- each word by its number
 
 pub described_first : (base : ℕ) (ps : List ℕ) (c : List Piece) (at i : ℕ) → length ps ≡ length c → i < length c → at ≡ 2 * i
-    → ((slice_index_or (described base ps c) at (put 0 0)).place ≡ base + 2 * slice_index ps i) × ((slice_index_or (described base ps c) at (put 0 0)).word ≡ (slice_index_or c i blank).addr)
+    → ((slice_index_or (described base ps c) at (put 0 0)).place ≡ base + 2 * slice_index ps i)
+    × ((slice_index_or (described base ps c) at (put 0 0)).word ≡ (slice_index_or c i blank).addr)
 described_first base ps [] at i h below e = absurd (omega arith)
 described_first base [] (x ∷ c) at i h below e = absurd (omega arith)
 described_first base (p ∷ ps) (x ∷ c) zero zero h below e = (refl, refl)
 described_first base (p ∷ ps) (x ∷ c) (suc at) zero h below e = absurd (omega arith)
 described_first base (p ∷ ps) (x ∷ c) zero (suc i) h below e = absurd (omega arith)
 described_first base (p ∷ ps) (x ∷ c) (suc zero) (suc i) h below e = absurd (omega arith)
-described_first base (p ∷ ps) (x ∷ c) (suc (suc at)) (suc i) h below e = described_first base ps c at i (omega arith) (omega arith) (omega arith)
+described_first base (p ∷ ps) (x ∷ c) (suc (suc at)) (suc i) h below e =
+    described_first base ps c at i (omega arith) (omega arith) (omega arith)
 
-pub described_second : (base : ℕ) (ps : List ℕ) (c : List Piece) (at i j : ℕ) → length ps ≡ length c → i < length c → at ≡ 2 * i + 1 → j ≡ i + 1
-    → ((slice_index_or (described base ps c) at (put 0 0)).place ≡ base + 2 * slice_index ps i + 1) × ((slice_index_or (described base ps c) at (put 0 0)).word ≡ second (slice_index_or c i blank) (drop j c) (slice_index ps j))
+pub described_second : (base : ℕ) (ps : List ℕ) (c : List Piece) (at i j : ℕ) → length ps ≡ length c → i < length c → at ≡ 2 * i + 1
+    → j ≡ i + 1
+    → ((slice_index_or (described base ps c) at (put 0 0)).place ≡ base + 2 * slice_index ps i + 1)
+    × ((slice_index_or (described base ps c) at (put 0 0)).word ≡ second (slice_index_or c i blank) (drop j c) (slice_index ps j))
 described_second base ps [] at i j h below e n = absurd (omega arith)
 described_second base [] (x ∷ c) at i j h below e n = absurd (omega arith)
 described_second base (p ∷ ps) (x ∷ c) zero i j h below e n = absurd (omega arith)
@@ -190,7 +223,8 @@ described_second base (p ∷ ps) (x ∷ c) (suc zero) zero (suc zero) h below e 
 described_second base (p ∷ ps) (x ∷ c) (suc zero) zero (suc (suc j)) h below e n = absurd (omega arith)
 described_second base (p ∷ ps) (x ∷ c) (suc (suc at)) zero (suc j) h below e n = absurd (omega arith)
 described_second base (p ∷ ps) (x ∷ c) (suc zero) (suc i) (suc j) h below e n = absurd (omega arith)
-described_second base (p ∷ ps) (x ∷ c) (suc (suc at)) (suc i) (suc j) h below e n = described_second base ps c at i j (omega arith) (omega arith) (omega arith) (omega arith)
+described_second base (p ∷ ps) (x ∷ c) (suc (suc at)) (suc i) (suc j) h below e n =
+    described_second base ps c at i j (omega arith) (omega arith) (omega arith) (omega arith)
 
 pub more_some : (c : List Piece) (i : ℕ) → i < length c → more (drop i c) ≡ 1
 more_some [] i h = absurd (omega arith)

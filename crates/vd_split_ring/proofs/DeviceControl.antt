@@ -21,7 +21,8 @@ use Rattle.vd_split_ring.proofs.Areas.{areas, device_stores, other_word, command
 use Rattle.vd_split_ring.proofs.DeviceParts.{ring_with, doing_along, signals_kept}
 
 -- a load of a command word
-pub commands : (ws : List ℕ) (d : DriverView) (e : DeviceView) (p : ℕ) → Ring ws d (record e { frame = d.frame; doing = Idle }) → LoadsCommand d.frame (command_word d.frame) e.done p
+pub commands : (ws : List ℕ) (d : DriverView) (e : DeviceView) (p : ℕ) → Ring ws d (record e { frame = d.frame; doing = Idle })
+    → LoadsCommand d.frame (command_word d.frame) e.done p
     → Ring ws d (device_commands (record e { frame = d.frame; doing = Idle }) p (slice_index ws p)) × (p < width d.frame)
 commands ws d e p r n =
     let f : Frame = d.frame in let s : List DeviceDone = e.done in let o : List DriverDone = d.done in
@@ -34,12 +35,14 @@ commands ws d e p r n =
     let at : p ≡ commands_from f + 2 * h + i = n.place in
     let number : with_head (taken_head s) (running s) ((p - commands_from f) / 2) ≡ k =
     let half : (p - commands_from f) / 2 ≡ h = omega arith in
-    ap (with_head (taken_head s) (running s)) half ∙ with_head_is (taken_head s) (running s) h k refl runs (λ j c e'. same_taken_head f o s j k r.places r.lists c runs e') in
+    ap (with_head (taken_head s) (running s)) half ∙ with_head_is (taken_head s) (running s) h k refl runs
+    (λ j c e'. same_taken_head f o s j k r.places r.lists c runs e') in
     let side : (p - commands_from f) % 2 ≡ i = omega arith in
     let place : p ≡ command_word f (head f o k) + i = at ∙ ap (λ (g : ℕ). command_word f g + i) hd.0 in
     let word : slice_index ws p ≡ command_of f o k i =
     ap (λ (q : ℕ). slice_index ws q) n.place ∙ r.words.drivers (command_word f h + i) (command_drivers f h i n.control hd.1 two)
-    ∙ ap (λ (g : ℕ). slice_index d.stored (command_word f g + i)) hd.0 ∙ r.commands.stand n.control k i (Contains_from k (open_at o) is_open) two in
+    ∙ ap (λ (g : ℕ). slice_index d.stored (command_word f g + i)) hd.0
+    ∙ r.commands.stand n.control k i (Contains_from k (open_at o) is_open) two in
     let x : ℕ = slice_index ws p in
     let below : k < length (offers o) = omega (arith, r.lists.some, running_below f o s k r.lists runs) in (
       subst (λ (j : ℕ). Ring ws d (record E { done = LoadCommand j ((p - commands_from f) % 2) x ∷ s })) (sym number)
@@ -66,7 +69,8 @@ commands ws d e p r n =
     )
 
 -- a store of an ack word
-pub acks : (ws : List ℕ) (d : DriverView) (e : DeviceView) (p x : ℕ) → Ring ws d (record e { frame = d.frame; doing = Idle }) → StoresAck d.frame (ack_word d.frame) e.done p
+pub acks : (ws : List ℕ) (d : DriverView) (e : DeviceView) (p x : ℕ) → Ring ws d (record e { frame = d.frame; doing = Idle })
+    → StoresAck d.frame (ack_word d.frame) e.done p
     → Ring (slice_set ws p x) d (device_acks (record e { frame = d.frame; doing = Idle }) p x) × (p < width d.frame)
 acks ws d e p x r n =
     let f : Frame = d.frame in let s : List DeviceDone = e.done in let o : List DriverDone = d.done in
@@ -90,12 +94,17 @@ acks ws d e p x r n =
             lists = lists_acked f o s h x r.lists;
             device_words = record {
               index = other_word e.stored q (used_from f) x (λ w. lane16 w 1) (λ e'. omega arith) ∙ r.device_words.index;
-              ids = λ j u low at. other_word e.stored q (id_word f j) x (λ w. lane32 w 1) (λ e'. omega (arith, mod_below j f.size r.lawful.some_place)) ∙ r.device_words.ids j u low at;
-              lens = λ j u low at. other_word e.stored q (len_word f j) x (λ w. lane32 w 0) (λ e'. omega (arith, mod_below j f.size r.lawful.some_place)) ∙ r.device_words.lens j u low at;
+              ids = λ j u low at. other_word e.stored q (id_word f j) x (λ w. lane32 w 1)
+                  (λ e'. omega (arith, mod_below j f.size r.lawful.some_place)) ∙ r.device_words.ids j u low at;
+              lens = λ j u low at. other_word e.stored q (len_word f j) x (λ w. lane32 w 0)
+                  (λ e'. omega (arith, mod_below j f.size r.lawful.some_place)) ∙ r.device_words.lens j u low at;
             };
-            signals = signals_kept f e.armed e.bells e.stored q x (other_word e.stored q (used_from f) x (λ w. lane16 w 0) (λ e'. omega arith)) (other_word e.stored q (used_from f + f.size) x (λ w. lane16 w 2) (λ e'. omega arith))
+            signals = signals_kept f e.armed e.bells e.stored q x
+                (other_word e.stored q (used_from f) x (λ w. lane16 w 0) (λ e'. omega arith))
+                (other_word e.stored q (used_from f + f.size) x (λ w. lane16 w 2) (λ e'. omega arith))
                 (λ e'. omega (arith, areas f, acks_follow f n.control, hd.1)) r.device_signals;
-            acks = acks_acked f (ack_word f) o s e.stored k x r.places r.lists (λ g i e'. let same : g ≡ i = omega arith in same) runs inside r.acks;
+            acks = acks_acked f (ack_word f) o s e.stored k x r.places r.lists (λ g i e'. let same : g ≡ i = omega arith in
+                same) runs inside r.acks;
             driver_doing = doing_along d.doing f o d.stored d.seen s (StoreAck h x ∷ s) (λ u at. at) r.driver_doing;
             device_doing = tt;
             kicks = r.kicks;

@@ -69,13 +69,16 @@ ring_with ws us d e v r s = record {
 }
 
 -- what the driver's operation in progress reads of the device's acts is the used entry that it collects next
-pub doing_along : (doing : DriverNow) (f : Frame) (o : List DriverDone) (st : List ℕ) (seen : ℕ) (s s2 : List DeviceDone) → ((u : Used) → entry_at s (length (collects o)) ≡ Some u → entry_at s2 (length (collects o)) ≡ Some u) → DriverDoing doing f o st seen s → DriverDoing doing f o st seen s2
+pub doing_along : (doing : DriverNow) (f : Frame) (o : List DriverDone) (st : List ℕ) (seen : ℕ) (s s2 : List DeviceDone)
+    → ((u : Used) → entry_at s (length (collects o)) ≡ Some u → entry_at s2 (length (collects o)) ≡ Some u)
+    → DriverDoing doing f o st seen s → DriverDoing doing f o st seen s2
 doing_along driver.Idle f o st seen s s2 h a = a
 doing_along (driver.Offering puts) f o st seen s s2 h a = a
 doing_along (driver.Entered puts) f o st seen s s2 h a = a
 doing_along (driver.Collecting []) f o st seen s s2 h a = a
 doing_along (driver.Collecting (r ∷ [])) f o st seen s s2 h a = a
-doing_along (driver.Collecting (r ∷ w ∷ [])) f o st seen s s2 h a = (a.0, record { used = a.1.used; begins = h a.1.used a.1.begins; is_id = a.1.is_id })
+doing_along (driver.Collecting (r ∷ w ∷ [])) f o st seen s s2 h a =
+    (a.0, record { used = a.1.used; begins = h a.1.used a.1.begins; is_id = a.1.is_id })
 doing_along (driver.Collecting (r ∷ w ∷ x ∷ ws)) f o st seen s s2 h a = a
 doing_along _ f o st seen s s2 h a = a
 
@@ -88,8 +91,10 @@ knows ws d e (Load p) r = λ own. r.words.devices p (own_of d.frame e.frame r.sa
 knows ws d e (Store p x) r = tt
 
 -- a store that leaves flags, event lane and bell as they are
-pub signals_kept : (f : Frame) (armed : Option ℕ) (bells : ℕ) (st : List ℕ) (p x : ℕ) → lane16 (slice_index (slice_set st p x) (used_from f)) 0 ≡ lane16 (slice_index st (used_from f)) 0
-    → lane16 (slice_index (slice_set st p x) (used_from f + f.size)) 2 ≡ lane16 (slice_index st (used_from f + f.size)) 2 → call_at f ≢ p → DeviceSignals f armed bells st → DeviceSignals f armed bells (slice_set st p x)
+pub signals_kept : (f : Frame) (armed : Option ℕ) (bells : ℕ) (st : List ℕ) (p x : ℕ)
+    → lane16 (slice_index (slice_set st p x) (used_from f)) 0 ≡ lane16 (slice_index st (used_from f)) 0
+    → lane16 (slice_index (slice_set st p x) (used_from f + f.size)) 2 ≡ lane16 (slice_index st (used_from f + f.size)) 2
+    → call_at f ≢ p → DeviceSignals f armed bells st → DeviceSignals f armed bells (slice_set st p x)
 signals_kept f armed bells st p x flags event bell s = record {
   no_flags = λ on. flags ∙ s.no_flags on;
   no_event = λ off. event ∙ s.no_event off;

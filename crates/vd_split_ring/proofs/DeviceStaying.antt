@@ -35,7 +35,8 @@ other_stage v o a b (inl x) = a x.1
 other_stage v o a b (inr x) = b x.1
 
 -- an access that is no look and arms nothing, and leaves shown what was
-quiet : (v : DeviceView) (o : Op) (tells : Type 0) (more : Bool) (x : DeviceAct) (w : DeviceView) → x ≢ act.Armed → x ≢ act.Asleep → (DeviceLooksNow v o → ⊥) → (o ≡ op.Arm → v.doing ≡ now.Idle → ⊥) → (DeviceGoes x → w.shown ≡ v.shown)
+quiet : (v : DeviceView) (o : Op) (tells : Type 0) (more : Bool) (x : DeviceAct) (w : DeviceView) → x ≢ act.Armed → x ≢ act.Asleep
+    → (DeviceLooksNow v o → ⊥) → (o ≡ op.Arm → v.doing ≡ now.Idle → ⊥) → (DeviceGoes x → w.shown ≡ v.shown)
     → At v o tells more x w
 quiet v o tells more x w a b look arm same = record {
   arms = λ e f. absurd (arm e f);
@@ -47,7 +48,13 @@ quiet v o tells more x w a b look arm same = record {
 
 -- a look of a take: `b` says that it shows nothing
 looks : (v : DeviceView) (r seen : ℕ) (tells : Type 0) (b : Bool) → (tells → v.shown ≡ true → b ≡ false)
-    → At (record v { doing = now.Idle }) op.Take tells (not b) (if b then act.Nothing else act.Moved) (if b then record v { seen = seen; shown = false; doing = now.Idle } else record v { seen = seen; shown = true; doing = now.Taking (r ∷ []) })
+    → At (record v { doing = now.Idle }) op.Take tells (not b) (if b then act.Nothing else act.Moved)
+    (if b then record v { seen = seen; shown = false; doing = now.Idle } else record v {
+      seen = seen;
+      shown = true;
+      doing =
+          now.Taking (r ∷ []);
+    })
 looks v r seen tells true t = record {
   arms = λ e f. absurd (cc e);
   armed = λ e. absurd (cc e);
@@ -66,7 +73,13 @@ looks v r seen tells false t = record {
 -- the second look of an arming
 second : (v : DeviceView) (r seen : ℕ) (tells : Type 0) (b : Bool) → (tells → v.shown ≡ true → b ≡ false)
     → At (record v { doing = now.Arming }) op.Arm tells (not b) (if b then act.Armed else woken_act v.frame)
-    (if b then record v { seen = seen; shown = false; doing = now.Idle } else record v { seen = seen; shown = true; armed = Rattle.std.proofs.Common.None; doing = device_wakes v.frame op.Arm })
+    (if b then record v { seen = seen; shown = false; doing = now.Idle } else record v {
+      seen = seen;
+      shown = true;
+      armed =
+          Rattle.std.proofs.Common.None;
+      doing = device_wakes v.frame op.Arm;
+    })
 second v r seen tells true t = record {
   arms = λ e f. absurd (cc f);
   armed = λ e. refl;
@@ -91,15 +104,25 @@ second v r seen tells false t = record {
     slept false e = cc e
 
 -- a load of a chain's word
-takes_at : (v : DeviceView) (g w : ℕ) (ws us : List ℕ) (tells : Type 0) (more b : Bool) → At (record v { doing = now.Taking (g ∷ w ∷ us) }) op.Take tells more (if b then act.Taken (length (takes v.done)) (chain_of v.frame ws) else act.Moved) (if b then device_takes (record v { doing = now.Taking (g ∷ w ∷ us) }) g w ws else record v { doing = now.Taking (g ∷ w ∷ ws) })
-takes_at v g w ws us tells more true = quiet (record v { doing = now.Taking (g ∷ w ∷ us) }) op.Take tells more (act.Taken (length (takes v.done)) (chain_of v.frame ws)) (device_takes (record v { doing = now.Taking (g ∷ w ∷ us) }) g w ws) (λ z. cc z) (λ z. cc z) (other_stage (record v { doing = now.Taking (g ∷ w ∷ us) }) op.Take (λ z. cc z) (λ z. cc z)) (λ e f. cc e) (λ g. absurd g)
-takes_at v g w ws us tells more false = quiet (record v { doing = now.Taking (g ∷ w ∷ us) }) op.Take tells more act.Moved (record v { doing = now.Taking (g ∷ w ∷ ws) }) (λ z. cc z) (λ z. cc z) (other_stage (record v { doing = now.Taking (g ∷ w ∷ us) }) op.Take (λ z. cc z) (λ z. cc z)) (λ e f. cc e) (λ g. refl)
+takes_at : (v : DeviceView) (g w : ℕ) (ws us : List ℕ) (tells : Type 0) (more b : Bool)
+    → At (record v { doing = now.Taking (g ∷ w ∷ us) }) op.Take tells more
+    (if b then act.Taken (length (takes v.done)) (chain_of v.frame ws) else act.Moved)
+    (if b then device_takes (record v { doing = now.Taking (g ∷ w ∷ us) }) g w ws else record v { doing = now.Taking (g ∷ w ∷ ws) })
+takes_at v g w ws us tells more true =
+    quiet (record v { doing = now.Taking (g ∷ w ∷ us) }) op.Take tells more (act.Taken (length (takes v.done)) (chain_of v.frame ws))
+    (device_takes (record v { doing = now.Taking (g ∷ w ∷ us) }) g w ws) (λ z. cc z) (λ z. cc z)
+    (other_stage (record v { doing = now.Taking (g ∷ w ∷ us) }) op.Take (λ z. cc z) (λ z. cc z)) (λ e f. cc e) (λ g. absurd g)
+takes_at v g w ws us tells more false = quiet (record v { doing = now.Taking (g ∷ w ∷ us) }) op.Take tells more act.Moved
+    (record v { doing = now.Taking (g ∷ w ∷ ws) }) (λ z. cc z) (λ z. cc z)
+    (other_stage (record v { doing = now.Taking (g ∷ w ∷ us) }) op.Take (λ z. cc z) (λ z. cc z)) (λ e f. cc e) (λ g. refl)
 
 -- what a look tells
-take_shown : (v : DeviceView) (p r : ℕ) → DeviceTells (record v { doing = now.Idle }) op.Take (Load p) r → v.shown ≡ true → shows r (length (takes v.done)) ≡ false
+take_shown : (v : DeviceView) (p r : ℕ) → DeviceTells (record v { doing = now.Idle }) op.Take (Load p) r → v.shown ≡ true
+    → shows r (length (takes v.done)) ≡ false
 take_shown v p r (k, (a, b, c)) s = c s
 
-arm_shown : (v : DeviceView) (p r : ℕ) → DeviceTells (record v { doing = now.Arming }) op.Arm (Load p) r → v.shown ≡ true → shows r (length (takes v.done)) ≡ false
+arm_shown : (v : DeviceView) (p r : ℕ) → DeviceTells (record v { doing = now.Arming }) op.Arm (Load p) r → v.shown ≡ true
+    → shows r (length (takes v.done)) ≡ false
 arm_shown v p r (k, (a, b, c)) s = c s
 
 -- a look at the bell
@@ -107,7 +130,9 @@ woken_not : (f : Bool) → ((if f then act.Awake else act.Moved) ≢ act.Armed) 
 woken_not true = ((λ z. cc z), λ z. cc z)
 woken_not false = ((λ z. cc z), λ z. cc z)
 
-hears : (v : DeviceView) (r : ℕ) (tells : Type 0) (more b : Bool) (n : DeviceNow) → At (record v { doing = now.Idle }) op.Hear tells more (if b then act.Asleep else woken_act v.frame) (if b then record v { doing = now.Idle } else record v { heard = r; armed = Rattle.std.proofs.Common.None; doing = n })
+hears : (v : DeviceView) (r : ℕ) (tells : Type 0) (more b : Bool) (n : DeviceNow)
+    → At (record v { doing = now.Idle }) op.Hear tells more (if b then act.Asleep else woken_act v.frame)
+    (if b then record v { doing = now.Idle } else record v { heard = r; armed = Rattle.std.proofs.Common.None; doing = n })
 hears v r tells more true n = record {
   arms = λ e f. absurd (cc e);
   armed = λ e. absurd (cc e);
@@ -115,15 +140,24 @@ hears v r tells more true n = record {
   shown = λ g h. absurd g;
   again = λ t l s. absurd (other_op (record v { doing = now.Idle }) op.Hear (λ z. cc z) (λ z. cc z) l);
 }
-hears v r tells more false n = quiet (record v { doing = now.Idle }) op.Hear tells more (woken_act v.frame) (record v { heard = r; armed = Rattle.std.proofs.Common.None; doing = n }) (woken_not v.frame.features.event_idx).0 (woken_not v.frame.features.event_idx).1 (other_op (record v { doing = now.Idle }) op.Hear (λ z. cc z) (λ z. cc z)) (λ e f. cc e) (λ g. refl)
+hears v r tells more false n = quiet (record v { doing = now.Idle }) op.Hear tells more (woken_act v.frame)
+    (record v { heard = r; armed = Rattle.std.proofs.Common.None; doing = n }) (woken_not v.frame.features.event_idx).0
+    (woken_not v.frame.features.event_idx).1 (other_op (record v { doing = now.Idle }) op.Hear (λ z. cc z) (λ z. cc z)) (λ e f. cc e)
+    (λ g. refl)
 
 -- ---- all accesses
 
 at : (n : DeviceNow) (v : DeviceView) (o : Op) (a : Access) (r : ℕ) → DeviceNextAt n (record v { doing = n }) o a
-    → At (record v { doing = n }) o (DeviceTells (record v { doing = n }) o a r) (device_shows v r) (device_act_at n (record v { doing = n }) o a r) (device_after_at n (record v { doing = n }) o a r)
-at now.Idle v op.Take (Load p) r h = looks v r (shown_from r (length (takes v.done))) (DeviceTells (record v { doing = now.Idle }) op.Take (Load p) r) (shows r (length (takes v.done))) (λ t s. take_shown v p r t s)
-at now.Arming v op.Arm (Load p) r h = second v r (shown_from r (length (takes v.done))) (DeviceTells (record v { doing = now.Arming }) op.Arm (Load p) r) (shows r (length (takes v.done))) (λ t s. arm_shown v p r t s)
-at now.Idle v op.Hear (Load p) r h = hears v r (DeviceTells (record v { doing = now.Idle }) op.Hear (Load p) r) (device_shows v r) (r == v.heard) (device_wakes v.frame op.Hear)
+    → At (record v { doing = n }) o (DeviceTells (record v { doing = n }) o a r) (device_shows v r)
+    (device_act_at n (record v { doing = n }) o a r) (device_after_at n (record v { doing = n }) o a r)
+at now.Idle v op.Take (Load p) r h =
+    looks v r (shown_from r (length (takes v.done))) (DeviceTells (record v { doing = now.Idle }) op.Take (Load p) r)
+    (shows r (length (takes v.done))) (λ t s. take_shown v p r t s)
+at now.Arming v op.Arm (Load p) r h =
+    second v r (shown_from r (length (takes v.done))) (DeviceTells (record v { doing = now.Arming }) op.Arm (Load p) r)
+    (shows r (length (takes v.done))) (λ t s. arm_shown v p r t s)
+at now.Idle v op.Hear (Load p) r h = hears v r (DeviceTells (record v { doing = now.Idle }) op.Hear (Load p) r) (device_shows v r)
+    (r == v.heard) (device_wakes v.frame op.Hear)
 at now.Idle v op.Arm (Store p x) r h = record {
   arms = λ e f. (refl, length (takes v.done), refl);
   armed = λ e. absurd (cc e);
@@ -131,25 +165,79 @@ at now.Idle v op.Arm (Store p x) r h = record {
   shown = λ g l. elim l [ inl s ↦ s | inr (inl z) ↦ absurd (cc z.0) | inr (inr z) ↦ absurd (cc z.1) ];
   again = λ t l s. absurd (elim l [ inl z ↦ cc z.0 | inr z ↦ cc z.1 ]);
 }
-at (now.Disarming k) v op.Arm (Store p x) r h = quiet (record v { doing = now.Disarming k }) op.Arm (DeviceTells (record v { doing = now.Disarming k }) op.Arm (Store p x) r) (device_shows v r) act.Awake (device_after_at (now.Disarming k) (record v { doing = now.Disarming k }) op.Arm (Store p x) r) (λ z. cc z) (λ z. cc z) (other_stage (record v { doing = now.Disarming k }) op.Arm (λ z. cc z) (λ z. cc z)) (λ e f. cc f) (λ g. refl)
-at (now.Disarming k) v op.Hear (Store p x) r h = quiet (record v { doing = now.Disarming k }) op.Hear (DeviceTells (record v { doing = now.Disarming k }) op.Hear (Store p x) r) (device_shows v r) act.Awake (device_after_at (now.Disarming k) (record v { doing = now.Disarming k }) op.Hear (Store p x) r) (λ z. cc z) (λ z. cc z) (other_stage (record v { doing = now.Disarming k }) op.Hear (λ z. cc z) (λ z. cc z)) (λ e f. cc e) (λ g. refl)
-at now.Idle v op.Disarm (Store p x) r h = quiet (record v { doing = now.Idle }) op.Disarm (DeviceTells (record v { doing = now.Idle }) op.Disarm (Store p x) r) (device_shows v r) act.Awake (device_after_at now.Idle (record v { doing = now.Idle }) op.Disarm (Store p x) r) (λ z. cc z) (λ z. cc z) (other_op (record v { doing = now.Idle }) op.Disarm (λ z. cc z) (λ z. cc z)) (λ e f. cc e) (λ g. refl)
-at now.Idle v op.Disarm (Load p) r h = quiet (record v { doing = now.Idle }) op.Disarm (DeviceTells (record v { doing = now.Idle }) op.Disarm (Load p) r) (device_shows v r) act.Awake (device_after_at now.Idle (record v { doing = now.Idle }) op.Disarm (Load p) r) (λ z. cc z) (λ z. cc z) (other_op (record v { doing = now.Idle }) op.Disarm (λ z. cc z) (λ z. cc z)) (λ e f. cc e) (λ g. refl)
-at now.Idle v op.Control (Store p x) r h = quiet (record v { doing = now.Idle }) op.Control (DeviceTells (record v { doing = now.Idle }) op.Control (Store p x) r) (device_shows v r) act.Moved (device_after_at now.Idle (record v { doing = now.Idle }) op.Control (Store p x) r) (λ z. cc z) (λ z. cc z) (other_op (record v { doing = now.Idle }) op.Control (λ z. cc z) (λ z. cc z)) (λ e f. cc e) (λ g. refl)
-at now.Idle v op.Control (Load p) r h = quiet (record v { doing = now.Idle }) op.Control (DeviceTells (record v { doing = now.Idle }) op.Control (Load p) r) (device_shows v r) act.Moved (device_after_at now.Idle (record v { doing = now.Idle }) op.Control (Load p) r) (λ z. cc z) (λ z. cc z) (other_op (record v { doing = now.Idle }) op.Control (λ z. cc z) (λ z. cc z)) (λ e f. cc e) (λ g. refl)
-at now.Idle v op.Rest (Store p x) r h = quiet (record v { doing = now.Idle }) op.Rest (DeviceTells (record v { doing = now.Idle }) op.Rest (Store p x) r) (device_shows v r) act.Moved (device_after_at now.Idle (record v { doing = now.Idle }) op.Rest (Store p x) r) (λ z. cc z) (λ z. cc z) (other_op (record v { doing = now.Idle }) op.Rest (λ z. cc z) (λ z. cc z)) (λ e f. cc e) (λ g. refl)
-at now.Idle v op.Rest (Load p) r h = quiet (record v { doing = now.Idle }) op.Rest (DeviceTells (record v { doing = now.Idle }) op.Rest (Load p) r) (device_shows v r) act.Moved (device_after_at now.Idle (record v { doing = now.Idle }) op.Rest (Load p) r) (λ z. cc z) (λ z. cc z) (other_op (record v { doing = now.Idle }) op.Rest (λ z. cc z) (λ z. cc z)) (λ e f. cc e) (λ g. refl)
-at now.Resting v op.Rest (Load p) r h = quiet (record v { doing = now.Resting }) op.Rest (DeviceTells (record v { doing = now.Resting }) op.Rest (Load p) r) (device_shows v r) act.Rested (device_after_at now.Resting (record v { doing = now.Resting }) op.Rest (Load p) r) (λ z. cc z) (λ z. cc z) (other_op (record v { doing = now.Resting }) op.Rest (λ z. cc z) (λ z. cc z)) (λ e f. cc e) (λ g. refl)
-at (now.Ringing old new) v op.Give (Store p x) r h = quiet (record v { doing = now.Ringing old new }) op.Give (DeviceTells (record v { doing = now.Ringing old new }) op.Give (Store p x) r) (device_shows v r) act.Moved (device_after_at (now.Ringing old new) (record v { doing = now.Ringing old new }) op.Give (Store p x) r) (λ z. cc z) (λ z. cc z) (other_op (record v { doing = now.Ringing old new }) op.Give (λ z. cc z) (λ z. cc z)) (λ e f. cc e) (λ g. refl)
-at (now.Checking old new) v op.Give (Load p) r h = quiet (record v { doing = now.Checking old new }) op.Give (DeviceTells (record v { doing = now.Checking old new }) op.Give (Load p) r) (device_shows v r) act.Moved (device_after_at (now.Checking old new) (record v { doing = now.Checking old new }) op.Give (Load p) r) (λ z. cc z) (λ z. cc z) (other_op (record v { doing = now.Checking old new }) op.Give (λ z. cc z) (λ z. cc z)) (λ e f. cc e) (λ g. refl)
-at now.Idle v op.Give (Store p x) r h = quiet (record v { doing = now.Idle }) op.Give (DeviceTells (record v { doing = now.Idle }) op.Give (Store p x) r) (device_shows v r) act.Moved (device_after_at now.Idle (record v { doing = now.Idle }) op.Give (Store p x) r) (λ z. cc z) (λ z. cc z) (other_op (record v { doing = now.Idle }) op.Give (λ z. cc z) (λ z. cc z)) (λ e f. cc e) (λ g. refl)
-at (now.Giving (a ∷ [])) v op.Give (Store p x) r h = quiet (record v { doing = now.Giving (a ∷ []) }) op.Give (DeviceTells (record v { doing = now.Giving (a ∷ []) }) op.Give (Store p x) r) (device_shows v r) act.Moved (device_after_at (now.Giving (a ∷ [])) (record v { doing = now.Giving (a ∷ []) }) op.Give (Store p x) r) (λ z. cc z) (λ z. cc z) (other_op (record v { doing = now.Giving (a ∷ []) }) op.Give (λ z. cc z) (λ z. cc z)) (λ e f. cc e) (λ g. refl)
-at (now.Giving (a ∷ b ∷ [])) v op.Give (Store p x) r h = quiet (record v { doing = now.Giving (a ∷ b ∷ []) }) op.Give (DeviceTells (record v { doing = now.Giving (a ∷ b ∷ []) }) op.Give (Store p x) r) (device_shows v r) (act.Given (last_used (given v.frame v.done (lane32 a 1) (lane32 b 0))).number) (device_after_at (now.Giving (a ∷ b ∷ [])) (record v { doing = now.Giving (a ∷ b ∷ []) }) op.Give (Store p x) r) (λ z. cc z) (λ z. cc z) (other_op (record v { doing = now.Giving (a ∷ b ∷ []) }) op.Give (λ z. cc z) (λ z. cc z)) (λ e f. cc e) (λ g. refl)
-at (now.Taking (g ∷ [])) v op.Take (Load p) r h = quiet (record v { doing = now.Taking (g ∷ []) }) op.Take (DeviceTells (record v { doing = now.Taking (g ∷ []) }) op.Take (Load p) r) (device_shows v r) act.Moved (device_after_at (now.Taking (g ∷ [])) (record v { doing = now.Taking (g ∷ []) }) op.Take (Load p) r) (λ z. cc z) (λ z. cc z) (other_stage (record v { doing = now.Taking (g ∷ []) }) op.Take (λ z. cc z) (λ z. cc z)) (λ e f. cc e) (λ g. refl)
-at (now.Taking (g ∷ w ∷ us)) v op.Take (Load p) r h = takes_at v g w (us ++ r ∷ []) us (DeviceTells (record v { doing = now.Taking (g ∷ w ∷ us) }) op.Take (Load p) r) (device_shows v r) (is_whole v.frame (us ++ r ∷ []))
+at (now.Disarming k) v op.Arm (Store p x) r h =
+    quiet (record v { doing = now.Disarming k }) op.Arm (DeviceTells (record v { doing = now.Disarming k }) op.Arm (Store p x) r)
+    (device_shows v r) act.Awake (device_after_at (now.Disarming k) (record v { doing = now.Disarming k }) op.Arm (Store p x) r)
+    (λ z. cc z) (λ z. cc z) (other_stage (record v { doing = now.Disarming k }) op.Arm (λ z. cc z) (λ z. cc z)) (λ e f. cc f) (λ g. refl)
+at (now.Disarming k) v op.Hear (Store p x) r h =
+    quiet (record v { doing = now.Disarming k }) op.Hear (DeviceTells (record v { doing = now.Disarming k }) op.Hear (Store p x) r)
+    (device_shows v r) act.Awake (device_after_at (now.Disarming k) (record v { doing = now.Disarming k }) op.Hear (Store p x) r)
+    (λ z. cc z) (λ z. cc z) (other_stage (record v { doing = now.Disarming k }) op.Hear (λ z. cc z) (λ z. cc z)) (λ e f. cc e) (λ g. refl)
+at now.Idle v op.Disarm (Store p x) r h =
+    quiet (record v { doing = now.Idle }) op.Disarm (DeviceTells (record v { doing = now.Idle }) op.Disarm (Store p x) r)
+    (device_shows v r) act.Awake (device_after_at now.Idle (record v { doing = now.Idle }) op.Disarm (Store p x) r) (λ z. cc z)
+    (λ z. cc z) (other_op (record v { doing = now.Idle }) op.Disarm (λ z. cc z) (λ z. cc z)) (λ e f. cc e) (λ g. refl)
+at now.Idle v op.Disarm (Load p) r h =
+    quiet (record v { doing = now.Idle }) op.Disarm (DeviceTells (record v { doing = now.Idle }) op.Disarm (Load p) r)
+    (device_shows v r) act.Awake (device_after_at now.Idle (record v { doing = now.Idle }) op.Disarm (Load p) r) (λ z. cc z) (λ z. cc z)
+    (other_op (record v { doing = now.Idle }) op.Disarm (λ z. cc z) (λ z. cc z)) (λ e f. cc e) (λ g. refl)
+at now.Idle v op.Control (Store p x) r h =
+    quiet (record v { doing = now.Idle }) op.Control (DeviceTells (record v { doing = now.Idle }) op.Control (Store p x) r)
+    (device_shows v r) act.Moved (device_after_at now.Idle (record v { doing = now.Idle }) op.Control (Store p x) r) (λ z. cc z)
+    (λ z. cc z) (other_op (record v { doing = now.Idle }) op.Control (λ z. cc z) (λ z. cc z)) (λ e f. cc e) (λ g. refl)
+at now.Idle v op.Control (Load p) r h =
+    quiet (record v { doing = now.Idle }) op.Control (DeviceTells (record v { doing = now.Idle }) op.Control (Load p) r)
+    (device_shows v r) act.Moved (device_after_at now.Idle (record v { doing = now.Idle }) op.Control (Load p) r) (λ z. cc z)
+    (λ z. cc z) (other_op (record v { doing = now.Idle }) op.Control (λ z. cc z) (λ z. cc z)) (λ e f. cc e) (λ g. refl)
+at now.Idle v op.Rest (Store p x) r h =
+    quiet (record v { doing = now.Idle }) op.Rest (DeviceTells (record v { doing = now.Idle }) op.Rest (Store p x) r)
+    (device_shows v r) act.Moved (device_after_at now.Idle (record v { doing = now.Idle }) op.Rest (Store p x) r) (λ z. cc z)
+    (λ z. cc z) (other_op (record v { doing = now.Idle }) op.Rest (λ z. cc z) (λ z. cc z)) (λ e f. cc e) (λ g. refl)
+at now.Idle v op.Rest (Load p) r h =
+    quiet (record v { doing = now.Idle }) op.Rest (DeviceTells (record v { doing = now.Idle }) op.Rest (Load p) r)
+    (device_shows v r) act.Moved (device_after_at now.Idle (record v { doing = now.Idle }) op.Rest (Load p) r) (λ z. cc z) (λ z. cc z)
+    (other_op (record v { doing = now.Idle }) op.Rest (λ z. cc z) (λ z. cc z)) (λ e f. cc e) (λ g. refl)
+at now.Resting v op.Rest (Load p) r h =
+    quiet (record v { doing = now.Resting }) op.Rest (DeviceTells (record v { doing = now.Resting }) op.Rest (Load p) r)
+    (device_shows v r) act.Rested (device_after_at now.Resting (record v { doing = now.Resting }) op.Rest (Load p) r) (λ z. cc z)
+    (λ z. cc z) (other_op (record v { doing = now.Resting }) op.Rest (λ z. cc z) (λ z. cc z)) (λ e f. cc e) (λ g. refl)
+at (now.Ringing old new) v op.Give (Store p x) r h =
+    quiet (record v { doing = now.Ringing old new }) op.Give
+    (DeviceTells (record v { doing = now.Ringing old new }) op.Give (Store p x) r) (device_shows v r) act.Moved
+    (device_after_at (now.Ringing old new) (record v { doing = now.Ringing old new }) op.Give (Store p x) r) (λ z. cc z) (λ z. cc z)
+    (other_op (record v { doing = now.Ringing old new }) op.Give (λ z. cc z) (λ z. cc z)) (λ e f. cc e) (λ g. refl)
+at (now.Checking old new) v op.Give (Load p) r h =
+    quiet (record v { doing = now.Checking old new }) op.Give
+    (DeviceTells (record v { doing = now.Checking old new }) op.Give (Load p) r) (device_shows v r) act.Moved
+    (device_after_at (now.Checking old new) (record v { doing = now.Checking old new }) op.Give (Load p) r) (λ z. cc z) (λ z. cc z)
+    (other_op (record v { doing = now.Checking old new }) op.Give (λ z. cc z) (λ z. cc z)) (λ e f. cc e) (λ g. refl)
+at now.Idle v op.Give (Store p x) r h =
+    quiet (record v { doing = now.Idle }) op.Give (DeviceTells (record v { doing = now.Idle }) op.Give (Store p x) r)
+    (device_shows v r) act.Moved (device_after_at now.Idle (record v { doing = now.Idle }) op.Give (Store p x) r) (λ z. cc z)
+    (λ z. cc z) (other_op (record v { doing = now.Idle }) op.Give (λ z. cc z) (λ z. cc z)) (λ e f. cc e) (λ g. refl)
+at (now.Giving (a ∷ [])) v op.Give (Store p x) r h =
+    quiet (record v { doing = now.Giving (a ∷ []) }) op.Give
+    (DeviceTells (record v { doing = now.Giving (a ∷ []) }) op.Give (Store p x) r) (device_shows v r) act.Moved
+    (device_after_at (now.Giving (a ∷ [])) (record v { doing = now.Giving (a ∷ []) }) op.Give (Store p x) r) (λ z. cc z) (λ z. cc z)
+    (other_op (record v { doing = now.Giving (a ∷ []) }) op.Give (λ z. cc z) (λ z. cc z)) (λ e f. cc e) (λ g. refl)
+at (now.Giving (a ∷ b ∷ [])) v op.Give (Store p x) r h =
+    quiet (record v { doing = now.Giving (a ∷ b ∷ []) }) op.Give
+    (DeviceTells (record v { doing = now.Giving (a ∷ b ∷ []) }) op.Give (Store p x) r) (device_shows v r)
+    (act.Given (last_used (given v.frame v.done (lane32 a 1) (lane32 b 0))).number)
+    (device_after_at (now.Giving (a ∷ b ∷ [])) (record v { doing = now.Giving (a ∷ b ∷ []) }) op.Give (Store p x) r) (λ z. cc z)
+    (λ z. cc z) (other_op (record v { doing = now.Giving (a ∷ b ∷ []) }) op.Give (λ z. cc z) (λ z. cc z)) (λ e f. cc e) (λ g. refl)
+at (now.Taking (g ∷ [])) v op.Take (Load p) r h =
+    quiet (record v { doing = now.Taking (g ∷ []) }) op.Take (DeviceTells (record v { doing = now.Taking (g ∷ []) }) op.Take (Load p) r)
+    (device_shows v r) act.Moved (device_after_at (now.Taking (g ∷ [])) (record v { doing = now.Taking (g ∷ []) }) op.Take (Load p) r)
+    (λ z. cc z) (λ z. cc z) (other_stage (record v { doing = now.Taking (g ∷ []) }) op.Take (λ z. cc z) (λ z. cc z)) (λ e f. cc e)
+    (λ g. refl)
+at (now.Taking (g ∷ w ∷ us)) v op.Take (Load p) r h =
+    takes_at v g w (us ++ r ∷ []) us (DeviceTells (record v { doing = now.Taking (g ∷ w ∷ us) }) op.Take (Load p) r) (device_shows v r)
+    (is_whole v.frame (us ++ r ∷ []))
 at _ v _ _ r h = absurd h
 
-are : (v : DeviceView) (o : Op) (a : Access) (r : ℕ) → DeviceNextAt v.doing v o a → At v o (DeviceTells v o a r) (device_shows v r) (device_act v o a r) (device_after v o a r)
+are : (v : DeviceView) (o : Op) (a : Access) (r : ℕ) → DeviceNextAt v.doing v o a
+    → At v o (DeviceTells v o a r) (device_shows v r) (device_act v o a r) (device_after v o a r)
 are v o a r h = at v.doing v o a r h
 
 pub device_stays : DeviceStays device_side device_act device_shows

@@ -14,7 +14,7 @@ use Rattle.vd_ring.specs.declared.device.DeviceDone.{DeviceDone}
 use Rattle.vd_ring.specs.declared.device.DeviceDone.TheVariants.{Take}
 use Rattle.vd_ring.specs.declared.device.DeviceNow.TheVariants.{Idle, Taking}
 use Rattle.vd_ring.specs.declared.device.DeviceView.{DeviceView}
-use Rattle.vd_ring.specs.Frames.{Fits, lent}
+use Rattle.vd_ring.specs.Frames.{Fits, borrowed}
 use Rattle.vd_ring.specs.History.{offers, takes, open_at, open_size, places, chain, occurs, first}
 use Rattle.vd_ring.specs.Control.{IsControlChain}
 use Rattle.vd_ring.specs.Places.{Places}
@@ -28,7 +28,7 @@ use Rattle.vd_ring.proofs.DeviceLists.{next_taken_open, lists_taken, room_left}
 use Rattle.vd_ring.proofs.DeviceAcks.{acks_taken}
 use Rattle.vd_split_ring.proofs.Areas.{shows_more}
 use Rattle.vd_split_ring.proofs.Descriptors.{words_more}
-use Rattle.vd_split_ring.proofs.Direct.{lent_needs}
+use Rattle.vd_split_ring.proofs.Direct.{borrowed_needs}
 use Rattle.vd_split_ring.proofs.Tables.{is_either, spelling_tabled, spelling_direct, reading_tabled, reading_direct}
 use Rattle.vd_split_ring.proofs.Reading.{Reads, reads}
 use Rattle.vd_split_ring.proofs.DeviceParts.{ring_with, doing_along}
@@ -47,10 +47,12 @@ right_part P (x ∷ xs) ys h = right_part P xs ys (All-tail P x (xs ++ ys) h)
 reading_stands : (f : Frame) (ws ps : List ℕ) (c : List Piece) → Stand ws (spelling f ps c) → Stand ws (reading f ps c)
 reading_stands f ws ps c stand = elim (is_either (is_tabled f c)) [
   | inl on ↦ (
-      let both : Stand ws (table f (first ps) c ++ pointer f (first ps) c) = subst (λ (pl : List Put). Stand ws pl) (spelling_tabled f ps c on) stand in
+      let both : Stand ws (table f (first ps) c ++ pointer f (first ps) c) =
+      subst (λ (pl : List Put). Stand ws pl) (spelling_tabled f ps c on) stand in
       let P : Put → Type 0 = λ q. slice_index ws q.place ≡ q.word in
       subst (λ (pl : List Put). Stand ws pl) (sym (reading_tabled f ps c on))
-      (All-append P (pointer f (first ps) c) (table f (first ps) c) (right_part P (table f (first ps) c) (pointer f (first ps) c) both) (left_part P (table f (first ps) c) (pointer f (first ps) c) both))
+      (All-append P (pointer f (first ps) c) (table f (first ps) c) (right_part P (table f (first ps) c) (pointer f (first ps) c) both)
+      (left_part P (table f (first ps) c) (pointer f (first ps) c) both))
       )
   | inr off ↦ subst (λ (pl : List Put). Stand ws pl) (spelling_direct f ps c off ∙ sym (reading_direct f ps c off)) stand
 ]
@@ -63,10 +65,11 @@ record Chain (f : Frame) (o : List DriverDone) (t : ℕ) : Type 0 where
   as_many : length (places f o t) ≡ needs f.features (chain o t)
 
 chain_at_place : (f : Frame) (o : List DriverDone) (t : ℕ) → IsLawful f → Places f o → t < length (offers o) → Chain f o t
-chain_at_place f o t l p below = record { fits = chain_fits f o t p below; as_many = p.as_many t below ∙ lent_needs f (chain o t) l }
+chain_at_place f o t l p below = record { fits = chain_fits f o t p below; as_many = p.as_many t below ∙ borrowed_needs f (chain o t) l }
 
 -- the take of the whole chain
-takes_chain : (ws : List ℕ) (d : DriverView) (e : DeviceView) (g w : ℕ) (ss us : List ℕ) → Ring ws d (record e { frame = d.frame; doing = Taking (g ∷ w ∷ ss) }) → chain_of d.frame us ≡ chain d.done (length (takes e.done))
+takes_chain : (ws : List ℕ) (d : DriverView) (e : DeviceView) (g w : ℕ) (ss us : List ℕ)
+    → Ring ws d (record e { frame = d.frame; doing = Taking (g ∷ w ∷ ss) }) → chain_of d.frame us ≡ chain d.done (length (takes e.done))
     → Ring ws d (device_takes (record e { frame = d.frame; doing = Taking (g ∷ w ∷ ss) }) g w us)
 takes_chain ws d e g w ss us r spelled =
     let f : Frame = d.frame in let o : List DriverDone = d.done in let s : List DeviceDone = e.done in
@@ -76,7 +79,13 @@ takes_chain ws d e g w ss us r spelled =
     let hd : ℕ = loaded_head f t w in
     let seen : HasSeen g e.seen t = r.device_doing.0 in
     let below : t < length (offers o) = seen_offered ws d E g r seen in
-    subst (λ (cs : List Piece). Ring ws d (record e { frame = d.frame; done = Take cs hd ∷ s; shown = not (shows g (t + 1)); doing = Idle })) (sym spelled)
+    subst (λ (cs : List Piece). Ring ws d (record e {
+      frame = d.frame;
+      done = Take cs hd ∷ s;
+      shown = not (shows g (t + 1));
+      doing =
+          Idle;
+    })) (sym spelled)
     (ring_with ws ws d E (record e { frame = d.frame; done = Take c hd ∷ s; shown = not (shows g (t + 1)); doing = Idle }) r record {
       same = refl;
       words = r.words;
@@ -92,13 +101,19 @@ takes_chain ws d e g w ss us r spelled =
       driver_seen = r.driver_seen;
       driver_cut = r.driver_cut;
       device_seen = r.device_seen;
-      device_shown = λ on. omega (arith, length_push (takes s) c, shows_more g (t + 1) e.seen seen.lane (omega (arith, seen.more)) (not-true (shows g (t + 1)) on));
+      device_shown = λ on. omega (
+        arith,
+        length_push (takes s) c,
+        shows_more g (t + 1) e.seen seen.lane (omega (arith, seen.more)) (not-true (shows g (t + 1)) on),
+      );
       rested = tt;
     })
 
 -- one more word, not the last
-loads_on : (ws : List ℕ) (d : DriverView) (e : DeviceView) (g w : ℕ) (ss us : List ℕ) → Ring ws d (record e { frame = d.frame; doing = Taking (g ∷ w ∷ ss) })
-    → us ≡ words_of (take (length us) (reading d.frame (places d.frame d.done (length (takes e.done))) (chain d.done (length (takes e.done)))))
+loads_on : (ws : List ℕ) (d : DriverView) (e : DeviceView) (g w : ℕ) (ss us : List ℕ)
+    → Ring ws d (record e { frame = d.frame; doing = Taking (g ∷ w ∷ ss) })
+    → us ≡ words_of (take (length us)
+    (reading d.frame (places d.frame d.done (length (takes e.done))) (chain d.done (length (takes e.done)))))
     → length us < length (reading d.frame (places d.frame d.done (length (takes e.done))) (chain d.done (length (takes e.done))))
     → Ring ws d (record e { frame = d.frame; doing = Taking (g ∷ w ∷ us) })
 loads_on ws d e g w ss us r words left =
@@ -128,7 +143,9 @@ record AreFirst (f : Frame) (o : List DriverDone) (t : ℕ) (us : List ℕ) : Ty
   left : is_whole f us ≡ false → length us < length (reading f (places f o t) (chain o t))
   complete : is_whole f us ≡ true → (length us ≡ length (reading f (places f o t) (chain o t))) × (chain_of f us ≡ chain o t)
 
-are_first : (f : Frame) (o : List DriverDone) (t : ℕ) (us : List ℕ) → Chain f o t → us ≡ words_of (take (length us) (reading f (places f o t) (chain o t))) → length us ≤ length (reading f (places f o t) (chain o t)) → AreFirst f o t us
+are_first : (f : Frame) (o : List DriverDone) (t : ℕ) (us : List ℕ) → Chain f o t
+    → us ≡ words_of (take (length us) (reading f (places f o t) (chain o t)))
+    → length us ≤ length (reading f (places f o t) (chain o t)) → AreFirst f o t us
 are_first f o t us c words low =
     let pl : List Put = reading f (places f o t) (chain o t) in
     let m : ℕ = length us in
@@ -140,21 +157,38 @@ are_first f o t us c words low =
           )
       | inr h ↦ (
           let end : is_whole f us ≡ true = ap (is_whole f) words ∙ told.whole h in
-          record { words = words; left = λ off. absurd (let both : true ≡ false = sym end ∙ off in cc); complete = λ on. (omega arith, ap (chain_of f) words ∙ told.spelled h) }
+          record {
+            words = words;
+            left = λ off. absurd (let both : true ≡ false = sym end ∙ off in cc);
+            complete =
+                λ on. (omega arith, ap (chain_of f) words ∙ told.spelled h);
+          }
           )
     ]
 
-loads_at : (ws : List ℕ) (d : DriverView) (e : DeviceView) (g w : ℕ) (ss us : List ℕ) (b : Bool) → Ring ws d (record e { frame = d.frame; doing = Taking (g ∷ w ∷ ss) })
+loads_at : (ws : List ℕ) (d : DriverView) (e : DeviceView) (g w : ℕ) (ss us : List ℕ) (b : Bool)
+    → Ring ws d (record e { frame = d.frame; doing = Taking (g ∷ w ∷ ss) })
     → AreFirst d.frame d.done (length (takes e.done)) us → is_whole d.frame us ≡ b
-    → Ring ws d (if b then device_takes (record e { frame = d.frame; doing = Taking (g ∷ w ∷ ss) }) g w us else record e { frame = d.frame; doing = Taking (g ∷ w ∷ us) })
+    → Ring ws d (if b then device_takes (record e { frame = d.frame; doing = Taking (g ∷ w ∷ ss) }) g w us else record e {
+      frame =
+          d.frame;
+      doing = Taking (g ∷ w ∷ us);
+    })
 loads_at ws d e g w ss us true r are eq = takes_chain ws d e g w ss us r (are.complete eq).1
 loads_at ws d e g w ss us false r are eq = loads_on ws d e g w ss us r are.words (are.left eq)
 
 -- the chains open are no more descriptors than places
 open_fits : (f : Frame) (o : List DriverDone) → IsLawful f → Places f o → open_size f o ≤ f.size
-open_fits f o l p = omega (arith, p.sizes, sum_same (λ k. lent f (chain o k)) (λ k. needs f.features (chain o k)) (open_at o) (λ k a. lent_needs f (chain o k) l))
+open_fits f o l p = omega (
+  arith,
+  p.sizes,
+  sum_same (λ k. borrowed f (chain o k)) (λ k. needs f.features (chain o k)) (open_at o)
+      (λ k a. borrowed_needs f (chain o k) l),
+)
 
-pub loads : (ws : List ℕ) (d : DriverView) (e : DeviceView) (g w : ℕ) (ss : List ℕ) (p : ℕ) → Ring ws d (record e { frame = d.frame; doing = Taking (g ∷ w ∷ ss) }) → p ≡ cursor d.frame (loaded_head d.frame (length (takes e.done)) w) ss
+pub loads : (ws : List ℕ) (d : DriverView) (e : DeviceView) (g w : ℕ) (ss : List ℕ) (p : ℕ)
+    → Ring ws d (record e { frame = d.frame; doing = Taking (g ∷ w ∷ ss) })
+    → p ≡ cursor d.frame (loaded_head d.frame (length (takes e.done)) w) ss
     → Ring ws d (device_loads (record e { frame = d.frame; doing = Taking (g ∷ w ∷ ss) }) g w (ss ++ slice_index d.stored p ∷ []))
     × BeginsChain d.frame e.done (loaded_head d.frame (length (takes e.done)) w) (ss ++ slice_index d.stored p ∷ [])
 loads ws d e g w ss p r at =
@@ -168,12 +202,14 @@ loads ws d e g w ss p r at =
     let here : 1 ≤ occurs t (open_at o) = next_taken_open f o s r.places r.lists below in
     let pl : List Put = reading f ps c in
     let st : Put = slice_index_or pl k (put 0 0) in
-    let place : p ≡ st.place = at ∙ ap (λ h. cursor f h ss) l.is_head ∙ ap (cursor f (first ps)) l.words ∙ (reads f ps c k ch.as_many ch.fits.chain).place l.left in
+    let place : p ≡ st.place = at ∙ ap (λ h. cursor f h ss) l.is_head ∙ ap (cursor f (first ps)) l.words
+    ∙ (reads f ps c k ch.as_many ch.fits.chain).place l.left in
     let stand : Stand d.stored pl = reading_stands f d.stored ps c (r.driver_words.spelled t (Contains_from t (open_at o) here)) in
     let word : slice_index d.stored p ≡ st.word = ap (λ q. slice_index d.stored q) place ∙ stand k (put 0 0) l.left in
     let us : List ℕ = ss ++ slice_index d.stored p ∷ [] in
     let longer : length us ≡ k + 1 = length_push ss (slice_index d.stored p) in
-    let more : us ≡ words_of (take (length us) pl) = ap (λ y. ss ++ y ∷ []) word ∙ words_more pl ss l.left l.words ∙ ap (λ n. words_of (take n pl)) (sym longer) in
+    let more : us ≡ words_of (take (length us) pl) = ap (λ y. ss ++ y ∷ []) word ∙ words_more pl ss l.left l.words
+    ∙ ap (λ n. words_of (take n pl)) (sym longer) in
     let are : AreFirst f o t us = are_first f o t us ch more (omega (arith, l.left)) in (
       loads_at ws d e g w ss us (is_whole f us) r are refl,
       record {
@@ -184,7 +220,8 @@ loads ws d e g w ss p r at =
         begin = sym l.is_head;
         differ = λ q. places_once f o t q r.places here;
         inside = λ i d' a. places_inside f o t (slice_index_or ps i d') r.places here (occurs_at ps i d' a);
-        control = λ on. subst (λ (h : ℕ). IsControlChain (command_word f h) (ack_word f h) c) (sym l.is_head) (r.commands.chains on t below);
+        control = λ on. subst (λ (h : ℕ). IsControlChain (command_word f h) (ack_word f h) c) (sym l.is_head)
+            (r.commands.chains on t below);
         words = are.words;
         left = are.left;
         complete = are.complete;

@@ -6,11 +6,11 @@ use Rattle.vd_model.specs.declared.chain.Piece.{Piece}
 use Rattle.vd_model.specs.Chains.{needs}
 use Rattle.vd_ring.specs.declared.frame.Frame.{Frame}
 use Rattle.vd_ring.specs.declared.frame.Put.{Put}
-use Rattle.vd_ring.specs.Frames.{lent}
+use Rattle.vd_ring.specs.Frames.{borrowed}
 use Rattle.vd_split_ring.specs.SplitWords.{IsLawful, put}
 
-pub lent_needs : (f : Frame) (c : List Piece) → IsLawful f → lent f c ≡ needs f.features c
-lent_needs f c l = ap (λ (b : Bool). if b then 1 else needs f.features c) l.split
+pub borrowed_needs : (f : Frame) (c : List Piece) → IsLawful f → borrowed f c ≡ needs f.features c
+borrowed_needs f c l = ap (λ (b : Bool). if b then 1 else needs f.features c) l.split
 
 -- ---- the first of a list, and one more
 
@@ -30,8 +30,13 @@ is_next ps s pl e =
     record {
       left = elim (cases_lt k (length pl)) [
         | inl h ↦ h
-        | inr h ↦ absurd (omega (arith, ap (λ (l : List Put). length l) both, ap (λ (l : List Put). length l) (take_all (k + 1) pl (omega arith))))
+        | inr h ↦ absurd (omega (
+          arith,
+          ap (λ (l : List Put). length l) both,
+          ap (λ (l : List Put). length l) (take_all (k + 1) pl (omega arith)),
+        ))
       ];
-      before = sym (take-append-le k ps (s ∷ []) (omega arith) ∙ take_all k ps (omega arith)) ∙ ap (take k) both ∙ take-take k (k + 1) pl (omega arith);
+      before = sym (take-append-le k ps (s ∷ []) (omega arith) ∙ take_all k ps (omega arith)) ∙ ap (take k) both
+          ∙ take-take k (k + 1) pl (omega arith);
       is = sym (get_or_push ps s (put 0 0) k refl) ∙ ap (λ (l : List Put). at l k) both ∙ get_or-take (k + 1) pl k (put 0 0) (omega arith);
     }

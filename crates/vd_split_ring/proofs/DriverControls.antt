@@ -25,12 +25,32 @@ use Rattle.vd_split_ring.proofs.DriverParts.{driver_words_past, signals_past}
 -- ---- an act on control words changes none of the other parts
 
 places_stored : (f : Frame) (o : List DriverDone) (h i x : ℕ) → Places f o → Places f (StoreCommand h i x ∷ o)
-places_stored f o h i x p = record { once = p.once; sizes = p.sizes; as_many = p.as_many; listed = p.listed; is_open = p.is_open; count = p.count; fits = p.fits; limited = p.limited }
+places_stored f o h i x p = record {
+  once = p.once;
+  sizes = p.sizes;
+  as_many = p.as_many;
+  listed = p.listed;
+  is_open = p.is_open;
+  count = p.count;
+  fits = p.fits;
+  limited = p.limited;
+}
 
 places_loaded : (f : Frame) (o : List DriverDone) (k x : ℕ) → Places f o → Places f (LoadAck k x ∷ o)
-places_loaded f o k x p = record { once = p.once; sizes = p.sizes; as_many = p.as_many; listed = p.listed; is_open = p.is_open; count = p.count; fits = p.fits; limited = p.limited }
+places_loaded f o k x p = record {
+  once = p.once;
+  sizes = p.sizes;
+  as_many = p.as_many;
+  listed = p.listed;
+  is_open = p.is_open;
+  count =
+      p.count;
+  fits = p.fits;
+  limited = p.limited;
+}
 
-driver_words_stored : (f : Frame) (o : List DriverDone) (h i x : ℕ) (ws : List ℕ) → DriverWords f o ws → DriverWords f (StoreCommand h i x ∷ o) ws
+driver_words_stored : (f : Frame) (o : List DriverDone) (h i x : ℕ) (ws : List ℕ) → DriverWords f o ws
+    → DriverWords f (StoreCommand h i x ∷ o) ws
 driver_words_stored f o h i x ws d = record { index = d.index; entries = d.entries; spelled = d.spelled }
 
 driver_words_loaded : (f : Frame) (o : List DriverDone) (k x : ℕ) (ws : List ℕ) → DriverWords f o ws → DriverWords f (LoadAck k x ∷ o) ws
@@ -68,10 +88,12 @@ lists_loaded f o k x s l = record {
   in_order = l.in_order;
 }
 
-device_words_stored : (f : Frame) (o : List DriverDone) (h i x : ℕ) (s : List DeviceDone) (ws : List ℕ) → DeviceWords f o s ws → DeviceWords f (StoreCommand h i x ∷ o) s ws
+device_words_stored : (f : Frame) (o : List DriverDone) (h i x : ℕ) (s : List DeviceDone) (ws : List ℕ) → DeviceWords f o s ws
+    → DeviceWords f (StoreCommand h i x ∷ o) s ws
 device_words_stored f o h i x s ws r = record { index = r.index; ids = r.ids; lens = r.lens }
 
-device_words_loaded : (f : Frame) (o : List DriverDone) (k x : ℕ) (s : List DeviceDone) (ws : List ℕ) → DeviceWords f o s ws → DeviceWords f (LoadAck k x ∷ o) s ws
+device_words_loaded : (f : Frame) (o : List DriverDone) (k x : ℕ) (s : List DeviceDone) (ws : List ℕ) → DeviceWords f o s ws
+    → DeviceWords f (LoadAck k x ∷ o) s ws
 device_words_loaded f o k x s ws r = record { index = r.index; ids = r.ids; lens = r.lens }
 
 loads_stored : (f : Frame) (o : List DriverDone) (h i x k w : ℕ) (ws : List ℕ) → Loads f o k w ws → Loads f (StoreCommand h i x ∷ o) k w ws
@@ -80,7 +102,8 @@ loads_stored f o h i x k w ws l = record { is_head = l.is_head; words = l.words;
 loads_loaded : (f : Frame) (o : List DriverDone) (h x k w : ℕ) (ws : List ℕ) → Loads f o k w ws → Loads f (LoadAck h x ∷ o) k w ws
 loads_loaded f o h x k w ws l = record { is_head = l.is_head; words = l.words; left = l.left }
 
-doing_stored : (now : DeviceNow) (f : Frame) (o : List DriverDone) (h i x : ℕ) (s : List DeviceDone) (st : List ℕ) (seen : ℕ) → DeviceDoing now f o s st seen → DeviceDoing now f (StoreCommand h i x ∷ o) s st seen
+doing_stored : (now : DeviceNow) (f : Frame) (o : List DriverDone) (h i x : ℕ) (s : List DeviceDone) (st : List ℕ) (seen : ℕ)
+    → DeviceDoing now f o s st seen → DeviceDoing now f (StoreCommand h i x ∷ o) s st seen
 doing_stored (device.Taking []) f o h i x s st seen a = a
 doing_stored (device.Taking (r ∷ [])) f o h i x s st seen a = a
 doing_stored (device.Taking (r ∷ w ∷ ws)) f o h i x s st seen a = (a.0, loads_stored f o h i x _ w ws a.1)
@@ -90,7 +113,8 @@ doing_stored (device.Giving (b ∷ c ∷ [])) f o h i x s st seen a = a
 doing_stored (device.Giving (b ∷ c ∷ y ∷ ws)) f o h i x s st seen a = a
 doing_stored _ f o h i x s st seen a = a
 
-doing_loaded : (now : DeviceNow) (f : Frame) (o : List DriverDone) (k x : ℕ) (s : List DeviceDone) (st : List ℕ) (seen : ℕ) → DeviceDoing now f o s st seen → DeviceDoing now f (LoadAck k x ∷ o) s st seen
+doing_loaded : (now : DeviceNow) (f : Frame) (o : List DriverDone) (k x : ℕ) (s : List DeviceDone) (st : List ℕ) (seen : ℕ)
+    → DeviceDoing now f o s st seen → DeviceDoing now f (LoadAck k x ∷ o) s st seen
 doing_loaded (device.Taking []) f o k x s st seen a = a
 doing_loaded (device.Taking (r ∷ [])) f o k x s st seen a = a
 doing_loaded (device.Taking (r ∷ w ∷ ws)) f o k x s st seen a = (a.0, loads_loaded f o k x _ w ws a.1)
@@ -102,7 +126,9 @@ doing_loaded _ f o k x s st seen a = a
 
 -- ---- the store of a command word
 
-pub stores_command : (ws : List ℕ) (d : DriverView) (e : DeviceView) (p x : ℕ) → Ring ws (record d { doing = Idle }) e → StoresCommand d.frame (command_word d.frame) d.done p → Ring (slice_set ws p x) (driver_commands (record d { doing = Idle }) p x) e × (p < width d.frame)
+pub stores_command : (ws : List ℕ) (d : DriverView) (e : DeviceView) (p x : ℕ) → Ring ws (record d { doing = Idle }) e
+    → StoresCommand d.frame (command_word d.frame) d.done p
+    → Ring (slice_set ws p x) (driver_commands (record d { doing = Idle }) p x) e × (p < width d.frame)
 stores_command ws d e p x r n =
     let f : Frame = d.frame in let o : List DriverDone = d.done in
     let h : ℕ = next_head f o in
@@ -118,19 +144,31 @@ stores_command ws d e p x r n =
     let is_head : (q - commands_from f) / 2 ≡ h = omega arith in
     let is_half : (q - commands_from f) % 2 ≡ i = omega arith in
     subst (λ (z : ℕ). Ring (slice_set ws z x) (driver_commands (record d { doing = Idle }) z x) e × (z < width f)) (sym n.place)
-    (subst (λ (g : ℕ). Ring (slice_set ws q x) (record d { done = StoreCommand g ((q - commands_from f) % 2) x ∷ o; stored = slice_set d.stored q x; doing = Idle }) e × (q < width f)) (sym is_head)
-    (subst (λ (j : ℕ). Ring (slice_set ws q x) (record d { done = StoreCommand h j x ∷ o; stored = slice_set d.stored q x; doing = Idle }) e × (q < width f)) (sym is_half) (
+    (subst (λ (g : ℕ). Ring (slice_set ws q x) (record d {
+      done = StoreCommand g ((q - commands_from f) % 2) x ∷ o;
+      stored =
+          slice_set d.stored q x;
+      doing = Idle;
+    }) e × (q < width f)) (sym is_head)
+    (subst (λ (j : ℕ). Ring (slice_set ws q x) (record d {
+      done = StoreCommand h j x ∷ o;
+      stored = slice_set d.stored q x;
+      doing =
+          Idle;
+    }) e × (q < width f)) (sym is_half) (
       record {
         same = r.same;
         lawful = r.lawful;
         words = driver_stores f ws d.stored e.stored q x r.words own;
         places = places_stored f o h i x r.places;
-        driver_words = driver_words_stored f o h i x (slice_set d.stored q x) (driver_words_past f o d.stored q x r.lawful r.places r.driver_words (omega arith));
+        driver_words = driver_words_stored f o h i x (slice_set d.stored q x)
+            (driver_words_past f o d.stored q x r.lawful r.places r.driver_words (omega arith));
         lists = lists_stored f o h i x e.done r.lists;
         device_words = device_words_stored f o h i x e.done e.stored r.device_words;
         driver_signals = signals_past f d.armed d.bells d.stored q x past (λ a. omega arith) r.driver_signals;
         device_signals = r.device_signals;
-        commands = commands_stored f (command_word f) (ack_word f) o i x d.stored r.places (commands_apart f) n.two n.room (omega arith) r.commands;
+        commands = commands_stored f (command_word f) (ack_word f) o i x d.stored r.places (commands_apart f) n.two n.room
+            (omega arith) r.commands;
         acks = acks_stored f (ack_word f) o h i x e.done e.stored r.acks;
         driver_doing = tt;
         device_doing = doing_stored e.doing f o h i x e.done e.stored e.seen r.device_doing;
@@ -150,11 +188,13 @@ stores_command ws d e p x r n =
 
 -- ---- the load of an ack word
 
-pub loads_ack : (ws : List ℕ) (d : DriverView) (e : DeviceView) (y : ℕ) → Ring ws (record d { doing = Idle }) e → (k : ℕ) → d.frame.control ≡ true → last_collected d.done ≡ Some k → y ≡ slice_index e.stored (ack_word d.frame (head d.frame d.done k))
+pub loads_ack : (ws : List ℕ) (d : DriverView) (e : DeviceView) (y : ℕ) → Ring ws (record d { doing = Idle }) e → (k : ℕ)
+    → d.frame.control ≡ true → last_collected d.done ≡ Some k → y ≡ slice_index e.stored (ack_word d.frame (head d.frame d.done k))
     → Ring ws (driver_acks (record d { doing = Idle }) y) e
 loads_ack ws d e y r k on last is =
     let f : Frame = d.frame in let o : List DriverDone = d.done in
-    subst (λ (j : ℕ). Ring ws (record d { done = LoadAck j y ∷ o; doing = Idle }) e) (sym (ap (λ (z : Option ℕ). unwrap_or z 0) last)) record {
+    subst (λ (j : ℕ). Ring ws (record d { done = LoadAck j y ∷ o; doing = Idle }) e) (sym (ap (λ (z : Option ℕ). unwrap_or z 0) last))
+    record {
       same = r.same;
       lawful = r.lawful;
       words = r.words;

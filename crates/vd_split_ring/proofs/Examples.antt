@@ -12,7 +12,15 @@ use Rattle.vd_ring.specs.Control.{command_of}
 use Rattle.vd_split_ring.specs.SplitWords.{avail_from, used_from, width, with_lane, put, spelling, reading, words_of, is_whole, chain_of, cursor, staged_chain}
 
 abbrev ring : ℕ → Bool → Bool → Frame
-ring n indirect in_order = record { ring = 0; packed = false; size = n; features = record { indirect = indirect; event_idx = false; in_order = in_order }; control = false; bounds = None }
+ring n indirect in_order = record {
+  ring = 0;
+  packed = false;
+  size = n;
+  features =
+      record { indirect = indirect; event_idx = false; in_order = in_order };
+  control = false;
+  bounds = None;
+}
 
 abbrev r : ℕ → ℕ → Piece
 r a l = record { addr = a; len = l; write = false }
@@ -86,7 +94,8 @@ table_goes_on : is_whole tabled (take 9 (words_of (reading tabled (1 ∷ []) man
 table_goes_on = refl
 
 -- of head 1's table, the word after its pointer and three more
-table_cursor : cursor tabled 1 (take 5 (words_of (reading tabled (1 ∷ []) many))) ≡ (slice_index_or (reading tabled (1 ∷ []) many) 5 (put 0 0)).place
+table_cursor : cursor tabled 1 (take 5 (words_of (reading tabled (1 ∷ []) many))) ≡
+    (slice_index_or (reading tabled (1 ∷ []) many) 5 (put 0 0)).place
 table_cursor = refl
 
 -- one piece stands in a descriptor of the ring
@@ -117,5 +126,6 @@ batch_word = refl
 
 -- ---- commands: a word not stored again counts as stored with what stands there
 
-command_again : command_of (ring 4 false false) (Offer two ∷ StoreCommand 0 0 7 ∷ Collect (entry 0 0 ∷ []) ∷ Offer two ∷ StoreCommand 0 1 6 ∷ StoreCommand 0 0 5 ∷ []) 0 0 ≡ 5
+command_again : command_of (ring 4 false false) (Offer two ∷ StoreCommand 0 0 7 ∷ Collect (entry 0 0 ∷ []) ∷ Offer two
+    ∷ StoreCommand 0 1 6 ∷ StoreCommand 0 0 5 ∷ []) 0 0 ≡ 5
 command_again = refl

@@ -65,7 +65,8 @@ opens f l =
       };
       driver_signals = record {
         no_flags = λ on. lane (lane_word f 0) 0 (omega (arith, areas f, lane_inside f 0 (omega arith)));
-        no_event = λ off. lane (lane_word f (event_lane f)) (event_lane f % 4) (omega (arith, areas f, lane_inside f (event_lane f) (omega arith))) ∙ zero_lane (event_lane f % 4);
+        no_event = λ off. lane (lane_word f (event_lane f)) (event_lane f % 4)
+            (omega (arith, areas f, lane_inside f (event_lane f) (omega arith))) ∙ zero_lane (event_lane f % 4);
         bit = omega (arith, lane (lane_word f 0) 0 (omega (arith, areas f, lane_inside f 0 (omega arith))));
         flags = λ s a off. lane (lane_word f 0) 0 (omega (arith, areas f, lane_inside f 0 (omega arith)));
         event = λ s a on. absurd cc;
@@ -81,7 +82,8 @@ opens f l =
       };
       commands = record {
         chains = λ on k a. absurd (omega arith);
-        last = λ on h i low two. zeros n (command_word f h + i) (drivers_inside f (command_word f h + i) (command_drivers f h i on low two));
+        last = λ on h i low two. zeros n (command_word f h + i)
+            (drivers_inside f (command_word f h + i) (command_drivers f h i on low two));
         stand = λ on k i a two. absurd (omega arith);
       };
       acks = record {

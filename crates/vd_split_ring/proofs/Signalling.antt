@@ -26,8 +26,11 @@ use Rattle.vd_split_ring.proofs.Areas.{lane_inside}
 pub driver_signals : (ws : List ℕ) (d : DriverView) (e : DeviceView) → Ring ws d e → DriverSignals d.frame d.armed d.bells ws
 driver_signals ws d e r =
     let f : Frame = d.frame in let g = r.driver_signals in
-    let flags : lane_at f ws 0 ≡ lane_at f d.stored 0 = ap (λ w. lane16 w 0) (r.words.drivers (lane_word f 0) (inl (lane_inside f 0 (omega arith)))) in
-    let event : lane_at f ws (event_lane f) ≡ lane_at f d.stored (event_lane f) = ap (λ w. lane16 w (event_lane f % 4)) (r.words.drivers (lane_word f (event_lane f)) (inl (lane_inside f (event_lane f) (omega arith)))) in
+    let flags : lane_at f ws 0 ≡ lane_at f d.stored 0 =
+    ap (λ w. lane16 w 0) (r.words.drivers (lane_word f 0) (inl (lane_inside f 0 (omega arith)))) in
+    let event : lane_at f ws (event_lane f) ≡ lane_at f d.stored (event_lane f) =
+    ap (λ w. lane16 w (event_lane f % 4))
+    (r.words.drivers (lane_word f (event_lane f)) (inl (lane_inside f (event_lane f) (omega arith)))) in
     record {
       no_flags = λ on. flags ∙ g.no_flags on;
       no_event = λ off. event ∙ g.no_event off;
@@ -40,8 +43,10 @@ driver_signals ws d e r =
 pub device_signals : (ws : List ℕ) (d : DriverView) (e : DeviceView) → Ring ws d e → DeviceSignals d.frame e.armed e.bells ws
 device_signals ws d e r =
     let f : Frame = d.frame in let g = r.device_signals in
-    let flags : lane16 (slice_index ws (used_from f)) 0 ≡ lane16 (slice_index e.stored (used_from f)) 0 = ap (λ w. lane16 w 0) (r.words.devices (used_from f) (inl (omega arith, omega arith))) in
-    let event : lane16 (slice_index ws (used_from f + f.size)) 2 ≡ lane16 (slice_index e.stored (used_from f + f.size)) 2 = ap (λ w. lane16 w 2) (r.words.devices (used_from f + f.size) (inl (omega arith, omega arith))) in
+    let flags : lane16 (slice_index ws (used_from f)) 0 ≡ lane16 (slice_index e.stored (used_from f)) 0 =
+    ap (λ w. lane16 w 0) (r.words.devices (used_from f) (inl (omega arith, omega arith))) in
+    let event : lane16 (slice_index ws (used_from f + f.size)) 2 ≡ lane16 (slice_index e.stored (used_from f + f.size)) 2 =
+    ap (λ w. lane16 w 2) (r.words.devices (used_from f + f.size) (inl (omega arith, omega arith))) in
     record {
       no_flags = λ on. flags ∙ g.no_flags on;
       no_event = λ off. event ∙ g.no_event off;
@@ -57,10 +62,12 @@ either_driver : (x : Option ℕ) (v w : DriverView) (b : Bool) → v.armed ≡ x
 either_driver x v w true a c = a
 either_driver x v w false a c = c
 
-driver_at : (now : DriverNow) (v : DriverView) (o : Op) (a : Access) (r : ℕ) → o ≢ op.Arm → v.armed ≡ None → (driver_after_at now v o a r).armed ≡ None
+driver_at : (now : DriverNow) (v : DriverView) (o : Op) (a : Access) (r : ℕ) → o ≢ op.Arm → v.armed ≡ None
+    → (driver_after_at now v o a r).armed ≡ None
 driver_at driver.Idle v op.Collect (Load p) r other is =
     let m : ℕ = length (collects v.done) in
-    either_driver None (record v { seen = shown_from r m; shown = false }) (record v { seen = shown_from r m; shown = true; doing = driver.Collecting (r ∷ []) }) (shows r m) is is
+    either_driver None (record v { seen = shown_from r m; shown = false })
+    (record v { seen = shown_from r m; shown = true; doing = driver.Collecting (r ∷ []) }) (shows r m) is is
 driver_at driver.Idle v op.Offer (Store p x) r other is = is
 driver_at driver.Idle v op.Control (Store p x) r other is = is
 driver_at driver.Idle v op.Control (Load p) r other is = is
@@ -76,7 +83,8 @@ driver_at driver.Idle v op.Arm (Store p x) r other is = absurd (other refl)
 driver_at driver.Arming v op.Arm (Load p) r other is = absurd (other refl)
 driver_at (driver.Disarming k) v op.Arm (Store p x) r other is = is
 driver_at (driver.Disarming k) v op.Hear (Store p x) r other is = is
-driver_at driver.Idle v op.Hear (Load p) r other is = either_driver None v (record v { heard = r; armed = None; doing = driver_wakes v.frame op.Hear }) (r == v.heard) is refl
+driver_at driver.Idle v op.Hear (Load p) r other is =
+    either_driver None v (record v { heard = r; armed = None; doing = driver_wakes v.frame op.Hear }) (r == v.heard) is refl
 driver_at driver.Idle v op.Disarm (Store p x) r other is = refl
 driver_at driver.Idle v op.Disarm (Load p) r other is = refl
 driver_at _ v _ _ r other is = is
@@ -89,11 +97,15 @@ either_device : (x : Option ℕ) (v w : DeviceView) (b : Bool) → v.armed ≡ x
 either_device x v w true a c = a
 either_device x v w false a c = c
 
-device_at : (now : DeviceNow) (v : DeviceView) (o : Op) (a : Access) (r : ℕ) → o ≢ op.Arm → v.armed ≡ None → (device_after_at now v o a r).armed ≡ None
+device_at : (now : DeviceNow) (v : DeviceView) (o : Op) (a : Access) (r : ℕ) → o ≢ op.Arm → v.armed ≡ None
+    → (device_after_at now v o a r).armed ≡ None
 device_at device.Idle v op.Take (Load p) r other is =
     let t : ℕ = length (takes v.done) in
-    either_device None (record v { seen = shown_from r t; shown = false }) (record v { seen = shown_from r t; shown = true; doing = device.Taking (r ∷ []) }) (shows r t) is is
-device_at (device.Taking (g ∷ w ∷ us)) v op.Take (Load p) r other is = either_device None (device_takes v g w (us ++ r ∷ [])) (record v { doing = device.Taking (g ∷ w ∷ us ++ r ∷ []) }) (is_whole v.frame (us ++ r ∷ [])) is is
+    either_device None (record v { seen = shown_from r t; shown = false })
+    (record v { seen = shown_from r t; shown = true; doing = device.Taking (r ∷ []) }) (shows r t) is is
+device_at (device.Taking (g ∷ w ∷ us)) v op.Take (Load p) r other is =
+    either_device None (device_takes v g w (us ++ r ∷ [])) (record v { doing = device.Taking (g ∷ w ∷ us ++ r ∷ []) })
+    (is_whole v.frame (us ++ r ∷ [])) is is
 device_at device.Idle v op.Rest (Load p) r other is = refl
 device_at device.Idle v op.Rest (Store p x) r other is = refl
 device_at device.Resting v op.Rest (Load p) r other is = is
@@ -112,7 +124,8 @@ device_at device.Idle v op.Arm (Store p x) r other is = absurd (other refl)
 device_at device.Arming v op.Arm (Load p) r other is = absurd (other refl)
 device_at (device.Disarming k) v op.Arm (Store p x) r other is = is
 device_at (device.Disarming k) v op.Hear (Store p x) r other is = is
-device_at device.Idle v op.Hear (Load p) r other is = either_device None v (record v { heard = r; armed = None; doing = device_wakes v.frame op.Hear }) (r == v.heard) is refl
+device_at device.Idle v op.Hear (Load p) r other is =
+    either_device None v (record v { heard = r; armed = None; doing = device_wakes v.frame op.Hear }) (r == v.heard) is refl
 device_at device.Idle v op.Disarm (Store p x) r other is = refl
 device_at device.Idle v op.Disarm (Load p) r other is = refl
 device_at _ v _ _ r other is = is
@@ -132,27 +145,38 @@ look_no_rest : (b : Bool) → is_rested (if b then act.Nothing else act.Moved) �
 look_no_rest true = refl
 look_no_rest false = refl
 
-take_no_rest : (v : DeviceView) (us : List ℕ) (b : Bool) → is_rested (if b then act.Taken (length (takes v.done)) (Rattle.vd_split_ring.specs.SplitWords.chain_of v.frame us) else act.Moved) ≡ false
+take_no_rest : (v : DeviceView) (us : List ℕ) (b : Bool)
+    → is_rested (if b then act.Taken (length (takes v.done)) (Rattle.vd_split_ring.specs.SplitWords.chain_of v.frame us) else act.Moved)
+    ≡ false
 take_no_rest v us true = refl
 take_no_rest v us false = refl
 
-again_no_rest : (quiet : DeviceAct) (b c : Bool) → is_rested quiet ≡ false → is_rested (if b then quiet else (if c then act.Awake else act.Moved)) ≡ false
+again_no_rest : (quiet : DeviceAct) (b c : Bool) → is_rested quiet ≡ false
+    → is_rested (if b then quiet else (if c then act.Awake else act.Moved)) ≡ false
 again_no_rest quiet true c is = is
 again_no_rest quiet false true is = refl
 again_no_rest quiet false false is = refl
 
-rested_at : (now : DeviceNow) (v : DeviceView) (o : Op) (a : Access) (r : ℕ) → DeviceArmed now v.frame v.armed (length (takes v.done)) v.heard → device_act_at now v o a r ≡ act.Rested → (device_after_at now v o a r).armed ≡ None
+rested_at : (now : DeviceNow) (v : DeviceView) (o : Op) (a : Access) (r : ℕ)
+    → DeviceArmed now v.frame v.armed (length (takes v.done)) v.heard → device_act_at now v o a r ≡ act.Rested
+    → (device_after_at now v o a r).armed ≡ None
 rested_at device.Resting v op.Rest (Load p) r at is = at
 rested_at device.Idle v op.Take (Load p) r at is = absurd (not_rested _ (look_no_rest (shows r (length (takes v.done)))) is)
-rested_at (device.Taking (g ∷ w ∷ us)) v op.Take (Load p) r at is = absurd (not_rested _ (take_no_rest v (us ++ r ∷ []) (is_whole v.frame (us ++ r ∷ []))) is)
+rested_at (device.Taking (g ∷ w ∷ us)) v op.Take (Load p) r at is =
+    absurd (not_rested _ (take_no_rest v (us ++ r ∷ []) (is_whole v.frame (us ++ r ∷ []))) is)
 rested_at (device.Giving (b ∷ c ∷ [])) v op.Give (Store p x) r at is = absurd (not_rested _ refl is)
-rested_at device.Arming v op.Arm (Load p) r at is = absurd (not_rested _ (again_no_rest act.Armed (shows r (length (takes v.done))) v.frame.features.event_idx refl) is)
-rested_at device.Idle v op.Hear (Load p) r at is = absurd (not_rested _ (again_no_rest act.Asleep (r == v.heard) v.frame.features.event_idx refl) is)
+rested_at device.Arming v op.Arm (Load p) r at is =
+    absurd (not_rested _ (again_no_rest act.Armed (shows r (length (takes v.done))) v.frame.features.event_idx refl) is)
+rested_at device.Idle v op.Hear (Load p) r at is =
+    absurd (not_rested _ (again_no_rest act.Asleep (r == v.heard) v.frame.features.event_idx refl) is)
 rested_at (device.Disarming k) v op.Arm (Store p x) r at is = absurd (not_rested _ refl is)
 rested_at (device.Disarming k) v op.Hear (Store p x) r at is = absurd (not_rested _ refl is)
 rested_at device.Idle v op.Disarm (Store p x) r at is = absurd (not_rested _ refl is)
 rested_at device.Idle v op.Disarm (Load p) r at is = absurd (not_rested _ refl is)
 rested_at _ v _ _ r at is = absurd (not_rested _ refl is)
 
-pub rested_unarmed : (ws : List ℕ) (d : DriverView) (v : DeviceView) (o : Op) (a : Access) (r : ℕ) → Ring ws d v → device_act v o a r ≡ act.Rested → (device_after v o a r).armed ≡ None
-rested_unarmed ws d v o a r ring is = rested_at v.doing v o a r (subst (λ (f : Frame). DeviceArmed v.doing f v.armed (length (takes v.done)) v.heard) (sym ring.same) ring.device_armed) is
+pub rested_unarmed : (ws : List ℕ) (d : DriverView) (v : DeviceView) (o : Op) (a : Access) (r : ℕ) → Ring ws d v
+    → device_act v o a r ≡ act.Rested → (device_after v o a r).armed ≡ None
+rested_unarmed ws d v o a r ring is =
+    rested_at v.doing v o a r (subst (λ (f : Frame). DeviceArmed v.doing f v.armed (length (takes v.done)) v.heard)
+    (sym ring.same) ring.device_armed) is

@@ -18,23 +18,28 @@ use Rattle.vd_split_ring.proofs.Tables.{direct_needs, spelling_direct, spelling_
 
 -- both parts of a list stand
 stand_left : (ws : List ℕ) (xs ys : List Put) → Stand ws (xs ++ ys) → Stand ws xs
-stand_left ws xs ys all = λ k d h. subst (λ (s : Put). slice_index ws s.place ≡ s.word) (get_or_append_left xs ys d k h) (all k d (omega (arith, length-append xs ys)))
+stand_left ws xs ys all = λ k d h. subst (λ (s : Put). slice_index ws s.place ≡ s.word) (get_or_append_left xs ys d k h)
+    (all k d (omega (arith, length-append xs ys)))
 
 stand_right : (ws : List ℕ) (xs ys : List Put) → Stand ws (xs ++ ys) → Stand ws ys
 stand_right ws [] ys all = all
 stand_right ws (x ∷ xs) ys all = stand_right ws xs ys (λ k d h. all (suc k) d (omega arith))
 
 -- each open chain's words stand in the ring
-pub open_stands : (ws : List ℕ) (d : DriverView) (e : DeviceView) (k : ℕ) → Ring ws d e → Contains (open_at d.done) k → Stand ws (spelling d.frame (places d.frame d.done k) (chain d.done k))
+pub open_stands : (ws : List ℕ) (d : DriverView) (e : DeviceView) (k : ℕ) → Ring ws d e → Contains (open_at d.done) k
+    → Stand ws (spelling d.frame (places d.frame d.done k) (chain d.done k))
 open_stands ws d e k r here = λ i b h.
     let f : Frame = d.frame in let o : List DriverDone = d.done in
     let a = occurs_from k (open_at o) here in
     let c = open_chain f o k r.lawful r.places here in
     let w = spelling_within f (places f o k) (chain o k) c.0 c.1 i b h in
-    let own = word_descriptor f (places f o k) (slice_index_or (spelling f (places f o k) (chain o k)) i b).place (omega (arith, c.0, needs_some f (chain o k) c.1)) (λ q n. places_inside f o k q r.places a n) w in
-    r.words.drivers (slice_index_or (spelling f (places f o k) (chain o k)) i b).place (descriptor_drivers f (slice_index_or (spelling f (places f o k) (chain o k)) i b).place own) ∙ r.driver_words.spelled k here i b h
+    let own = word_descriptor f (places f o k) (slice_index_or (spelling f (places f o k) (chain o k)) i b).place
+    (omega (arith, c.0, needs_some f (chain o k) c.1)) (λ q n. places_inside f o k q r.places a n) w in
+    r.words.drivers (slice_index_or (spelling f (places f o k) (chain o k)) i b).place
+    (descriptor_drivers f (slice_index_or (spelling f (places f o k) (chain o k)) i b).place own) ∙ r.driver_words.spelled k here i b h
 
-pub spells : (ws : List ℕ) (d : DriverView) (e : DeviceView) (k : ℕ) → Ring ws d e → Contains (open_at d.done) k → Spells d.frame ws (head d.frame d.done k) (chain d.done k)
+pub spells : (ws : List ℕ) (d : DriverView) (e : DeviceView) (k : ℕ) → Ring ws d e → Contains (open_at d.done) k
+    → Spells d.frame ws (head d.frame d.done k) (chain d.done k)
 spells ws d e k r here =
     let f : Frame = d.frame in let o : List DriverDone = d.done in
     let ps : List ℕ = places f o k in
@@ -51,7 +56,8 @@ spells ws d e k r here =
         stand = subst (λ (l : List Put). Stand ws l) (spelling_direct f ps (chain o k) off) stand;
       };
       indirect = λ on.
-          let both : Stand ws (table f (head f o k) (chain o k) ++ pointer f (head f o k) (chain o k)) = subst (λ (l : List Put). Stand ws l) (spelling_tabled f ps (chain o k) on) stand in
+          let both : Stand ws (table f (head f o k) (chain o k) ++ pointer f (head f o k) (chain o k)) =
+          subst (λ (l : List Put). Stand ws l) (spelling_tabled f ps (chain o k) on) stand in
           record {
             inside = head_inside f o k r.places a;
             pointer = stand_right ws (table f (head f o k) (chain o k)) (pointer f (head f o k) (chain o k)) both;

@@ -40,7 +40,11 @@ direct_is f c off = at f.features.indirect off
   where
     at : (b : Bool) → b && nat_lt 1 (length c) ≡ false → (b ≡ false) ⊎ (length c ≤ 1)
     at false h = inl refl
-    at true h = elim (cases_lt 1 (length c)) [ inl a ↦ absurd (let e : true ≡ false = sym (lt-ltb 1 (length c) a) ∙ h in cc) | inr a ↦ inr a ]
+    at true h = elim (cases_lt 1 (length c)) [
+      | inl a ↦ absurd (let e : true ≡ false = sym (lt-ltb 1 (length c) a) ∙ h in
+          cc)
+      | inr a ↦ inr a
+    ]
 
 pub tabled_needs : (f : Frame) (c : List Piece) → is_tabled f c ≡ true → needs f.features c ≡ 1
 tabled_needs f c on = ap (λ (b : Bool). if b then 1 else length c) (tabled_is f c on).0
@@ -55,13 +59,15 @@ direct_needs f c some off = elim (direct_is f c off) [
     at true h = omega arith
     at false h = refl
 
-pub spelling_tabled : (f : Frame) (ps : List ℕ) (c : List Piece) → is_tabled f c ≡ true → spelling f ps c ≡ table f (first ps) c ++ pointer f (first ps) c
+pub spelling_tabled : (f : Frame) (ps : List ℕ) (c : List Piece) → is_tabled f c ≡ true → spelling f ps c ≡ table f (first ps) c
+    ++ pointer f (first ps) c
 spelling_tabled f ps c on = ap (λ (b : Bool). if b then table f (first ps) c ++ pointer f (first ps) c else described 0 ps c) on
 
 pub spelling_direct : (f : Frame) (ps : List ℕ) (c : List Piece) → is_tabled f c ≡ false → spelling f ps c ≡ described 0 ps c
 spelling_direct f ps c off = ap (λ (b : Bool). if b then table f (first ps) c ++ pointer f (first ps) c else described 0 ps c) off
 
-pub reading_tabled : (f : Frame) (ps : List ℕ) (c : List Piece) → is_tabled f c ≡ true → reading f ps c ≡ pointer f (first ps) c ++ table f (first ps) c
+pub reading_tabled : (f : Frame) (ps : List ℕ) (c : List Piece) → is_tabled f c ≡ true → reading f ps c ≡ pointer f (first ps) c
+    ++ table f (first ps) c
 reading_tabled f ps c on = ap (λ (b : Bool). if b then pointer f (first ps) c ++ table f (first ps) c else described 0 ps c) on
 
 pub reading_direct : (f : Frame) (ps : List ℕ) (c : List Piece) → is_tabled f c ≡ false → reading f ps c ≡ described 0 ps c
@@ -79,10 +85,12 @@ pub record IsInTable (f : Frame) (h q : ℕ) : Type 0 where
 abbrev pub IsWord : Frame → List ℕ → ℕ → Type 0
 IsWord f ps q = IsAt 0 ps q ⊎ IsInTable f (first ps) q
 
-pub table_within : (f : Frame) (h : ℕ) (c : List Piece) → f.features.indirect ≡ true → length c ≤ 16 → All (λ s. IsInTable f h s.place) (table f h c)
+pub table_within : (f : Frame) (h : ℕ) (c : List Piece) → f.features.indirect ≡ true → length c ≤ 16
+    → All (λ s. IsInTable f h s.place) (table f h c)
 table_within f h c on few = λ k d inside.
     let long = length_table f h c in
-    let a : (slice_index_or (table f h c) k d).place ≡ table_of f h + k = row_place (table_of f h) (table_words Split c) k d (omega (arith, length-words_from Split 0 c)) in
+    let a : (slice_index_or (table f h c) k d).place ≡ table_of f h + k =
+    row_place (table_of f h) (table_words Split c) k d (omega (arith, length-words_from Split 0 c)) in
     record { on = on; low = omega arith; high = omega arith }
 
 pub pointer_within : (f : Frame) (ps : List ℕ) (c : List Piece) → 1 ≤ length ps → All (λ s. IsAt 0 ps s.place) (pointer f (first ps) c)
@@ -92,9 +100,11 @@ pointer_within f ps c some =
     let a : IsAt 0 ps (2 * h) = record { place = h; here = here; low = omega arith; high = omega arith } in
     let b : IsAt 0 ps (2 * h + 1) = record { place = h; here = here; low = omega arith; high = omega arith } in
     let P : Put → Type 0 = λ s. IsAt 0 ps s.place in
-    All-cons P (put (2 * h) (8 * table_of f h)) (put (2 * h + 1) (16 * length c + 17179869184) ∷ []) a (All-cons P (put (2 * h + 1) (16 * length c + 17179869184)) [] b (All-nil P))
+    All-cons P (put (2 * h) (8 * table_of f h)) (put (2 * h + 1) (16 * length c + 17179869184) ∷ []) a
+    (All-cons P (put (2 * h + 1) (16 * length c + 17179869184)) [] b (All-nil P))
 
-pub spelling_within : (f : Frame) (ps : List ℕ) (c : List Piece) → length ps ≡ needs f.features c → IsChain c → All (λ s. IsWord f ps s.place) (spelling f ps c)
+pub spelling_within : (f : Frame) (ps : List ℕ) (c : List Piece) → length ps ≡ needs f.features c → IsChain c
+    → All (λ s. IsWord f ps s.place) (spelling f ps c)
 spelling_within f ps c len is = elim (is_either (is_tabled f c)) [
   | inl on ↦ (
       let t = tabled_is f c on in
@@ -103,7 +113,8 @@ spelling_within f ps c len is = elim (is_either (is_tabled f c)) [
       (All-append P (table f (first ps) c) (pointer f (first ps) c) (λ k d h. inr (table_within f (first ps) c t.0 is.1 k d h))
       (λ k d h. inl (pointer_within f ps c (omega (arith, len, tabled_needs f c on)) k d h)))
       )
-  | inr off ↦ subst (λ (l : List Put). All (λ s. IsWord f ps s.place) l) (sym (spelling_direct f ps c off)) (λ k d h. inl (described_within 0 ps c k d h))
+  | inr off ↦ subst (λ (l : List Put). All (λ s. IsWord f ps s.place) l) (sym (spelling_direct f ps c off))
+      (λ k d h. inl (described_within 0 ps c k d h))
 ]
 
 -- ---- they differ
@@ -114,7 +125,8 @@ Differ pl = (k : ℕ) → k < length pl → All (IsApart (slice_index_or pl k (p
 
 differ_append : (xs ys : List Put) → Differ xs → Differ ys → All (λ s. All (IsApart s.place) xs) ys → Differ (xs ++ ys)
 differ_append xs ys dx dy cross k h = elim (cases_lt k (length xs)) [
-  | inl a ↦ subst (λ (l : List Put). All (IsApart (slice_index_or (xs ++ ys) k (put 0 0)).place) l) (sym (take-append-le k xs ys (omega arith)))
+  | inl a ↦ subst (λ (l : List Put). All (IsApart (slice_index_or (xs ++ ys) k (put 0 0)).place) l)
+      (sym (take-append-le k xs ys (omega arith)))
       (subst (λ (s : Put). All (IsApart s.place) (take k xs)) (sym (get_or_append_left xs ys (put 0 0) k a)) (dx k a))
   | inr a ↦ (
       let j : ℕ = k - length xs in
@@ -129,14 +141,17 @@ differ_append xs ys dx dy cross k h = elim (cases_lt k (length xs)) [
   where
     right : (xs ys : List Put) (j : ℕ) → slice_index_or (xs ++ ys) (length xs + j) (put 0 0) ≡ slice_index_or ys j (put 0 0)
     right [] ys j = ap (λ n. slice_index_or ys n (put 0 0)) (let z : 0 + j ≡ j = omega arith in z)
-    right (x ∷ xs) ys j = ap (λ n. slice_index_or (x ∷ xs ++ ys) n (put 0 0)) (let z : suc (length xs) + j ≡ suc (length xs + j) = omega arith in z) ∙ right xs ys j
+    right (x ∷ xs) ys j = ap (λ n. slice_index_or (x ∷ xs ++ ys) n (put 0 0)) (let z : suc (length xs) + j ≡ suc (length xs + j) =
+        omega arith in z) ∙ right xs ys j
 
 pointer_differ : (f : Frame) (h : ℕ) (c : List Piece) → Differ (pointer f h c)
 pointer_differ f h c zero k = All-nil (IsApart (2 * h))
-pointer_differ f h c (suc zero) k = All-cons (IsApart (2 * h + 1)) (put (2 * h) (8 * table_of f h)) [] (λ e. omega arith) (All-nil (IsApart (2 * h + 1)))
+pointer_differ f h c (suc zero) k = All-cons (IsApart (2 * h + 1)) (put (2 * h) (8 * table_of f h)) [] (λ e. omega arith)
+    (All-nil (IsApart (2 * h + 1)))
 pointer_differ f h c (suc (suc j)) k = absurd (omega arith)
 
-pub spelling_differ : (f : Frame) (ps : List ℕ) (c : List Piece) → length ps ≡ needs f.features c → IsChain c → ((p : ℕ) → occurs p ps ≤ 1) → ((p : ℕ) → 1 ≤ occurs p ps → p < f.size) → Differ (spelling f ps c)
+pub spelling_differ : (f : Frame) (ps : List ℕ) (c : List Piece) → length ps ≡ needs f.features c → IsChain c
+    → ((p : ℕ) → occurs p ps ≤ 1) → ((p : ℕ) → 1 ≤ occurs p ps → p < f.size) → Differ (spelling f ps c)
 spelling_differ f ps c len is once inside = elim (is_either (is_tabled f c)) [
   | inl on ↦ (
       let t = tabled_is f c on in
@@ -160,7 +175,8 @@ staged_off f ws (inr h) = at f.features.indirect
     at false = refl
     at true = ap (λ (t : Bool). if t then pieces_of (take (length ws - 2) ws) else pieces_of ws) (le-ltb 2 (length ws) h)
 
-staged_on : (f : Frame) (ws : List ℕ) (a s : ℕ) → f.features.indirect ≡ true → 0 < length ws → staged_chain f (ws ++ a ∷ s ∷ []) ≡ pieces_of ws
+staged_on : (f : Frame) (ws : List ℕ) (a s : ℕ) → f.features.indirect ≡ true → 0 < length ws
+    → staged_chain f (ws ++ a ∷ s ∷ []) ≡ pieces_of ws
 staged_on f ws a s on some =
     let all : List ℕ = ws ++ a ∷ s ∷ [] in
     let len : length all ≡ length ws + 2 = length-append ws (a ∷ s ∷ []) in
@@ -170,7 +186,8 @@ staged_on f ws a s on some =
     ∙ ap (λ (n : ℕ). pieces_of (take n all)) less
     ∙ ap pieces_of (take-append_seam ws (a ∷ s ∷ []))
 
-pub staged_spelling : (f : Frame) (ps : List ℕ) (c : List Piece) → length ps ≡ needs f.features c → IsChain c → staged_chain f (words_of (spelling f ps c)) ≡ c
+pub staged_spelling : (f : Frame) (ps : List ℕ) (c : List Piece) → length ps ≡ needs f.features c → IsChain c
+    → staged_chain f (words_of (spelling f ps c)) ≡ c
 staged_spelling f ps c len is = elim (is_either (is_tabled f c)) [
   | inl on ↦ (
       let t = tabled_is f c on in
@@ -183,7 +200,8 @@ staged_spelling f ps c len is = elim (is_either (is_tabled f c)) [
       )
   | inr off ↦ (
       let as_many : length ps ≡ length c = len ∙ direct_needs f c is.0 off in
-      let wl : length (words_of (described 0 ps c)) ≡ 2 * length c = length-map (described 0 ps c) (λ (p : Put). p.word) ∙ length-described 0 ps c as_many in
+      let wl : length (words_of (described 0 ps c)) ≡ 2 * length c = length-map (described 0 ps c) (λ (p : Put). p.word)
+      ∙ length-described 0 ps c as_many in
       ap (λ (l : List Put). staged_chain f (words_of l)) (spelling_direct f ps c off)
       ∙ staged_off f (words_of (described 0 ps c)) (elim (direct_is f c off) [ inl a ↦ inl a | inr a ↦ inr (omega (arith, wl)) ])
       ∙ pieces_back 0 ps c as_many is.3

@@ -18,7 +18,7 @@ use Rattle.vd_ring.specs.declared.device.DeviceDone.TheVariants.{Take, Give, Res
 use Rattle.vd_ring.specs.declared.device.DeviceNow.{DeviceNow}
 use Rattle.vd_ring.specs.declared.device.DeviceNow.TheVariants.{Idle, Taking, Giving, Checking, Ringing, Arming, Disarming, Resting}
 use Rattle.vd_ring.specs.declared.device.DeviceView.{DeviceView}
-use Rattle.vd_ring.specs.Frames.{Fits, lent, limit}
+use Rattle.vd_ring.specs.Frames.{Fits, borrowed, limit}
 use Rattle.vd_ring.specs.Batches.{MayReturn}
 use Rattle.vd_ring.specs.History.{takes, gives, running, running_size, taken_head, with_head, given, first, occurs, last_used, IsWhole, chain_at}
 use Rattle.vd_ring.specs.Control.{IsControlChain, LoadsCommand, StoresAck}
@@ -120,7 +120,12 @@ device_looks v r =
 
 -- r is the index word, w the word with the entry, ws the chain's words
 abbrev pub device_takes : DeviceView → ℕ → ℕ → List ℕ → DeviceView
-device_takes v r w ws = record v { done = Take (chain_of v.frame ws) (loaded_head v.frame (length (takes v.done)) w) ∷ v.done; shown = not (shows r (length (takes v.done) + 1)); doing = Idle }
+device_takes v r w ws = record v {
+  done = Take (chain_of v.frame ws) (loaded_head v.frame (length (takes v.done)) w) ∷ v.done;
+  shown =
+      not (shows r (length (takes v.done) + 1));
+  doing = Idle;
+}
 
 abbrev pub device_loads : DeviceView → ℕ → ℕ → List ℕ → DeviceView
 device_loads v r w ws = if is_whole v.frame ws then device_takes v r w ws else record v { doing = Taking (r ∷ w ∷ ws) }
@@ -132,11 +137,19 @@ device_stores v p x doing = record v { stored = slice_set v.stored p x; doing = 
 abbrev pub device_gives : DeviceView → ℕ → ℕ → ℕ → ℕ → DeviceView
 device_gives v a b p x =
     let us = given v.frame v.done (lane32 a 1) (lane32 b 0) in
-    record v { done = Give us ∷ v.done; stored = slice_set v.stored p x; doing = device_published (length (gives v.done)) (length (gives v.done ++ us)) }
+    record v {
+      done = Give us ∷ v.done;
+      stored = slice_set v.stored p x;
+      doing =
+          device_published (length (gives v.done)) (length (gives v.done ++ us));
+    }
 
 -- r is the word with the driver's event word
 abbrev pub device_checks : DeviceView → ℕ → ℕ → ℕ → DeviceView
-device_checks v old new r = record v { doing = if wants v.frame old new (lane16 r (driver_event_lane v.frame % 4)) then Ringing old new else Idle }
+device_checks v old new r = record v {
+  doing =
+      if wants v.frame old new (lane16 r (driver_event_lane v.frame % 4)) then Ringing old new else Idle;
+}
 
 abbrev pub device_rings : DeviceView → ℕ → ℕ → DeviceView
 device_rings v p x = record v { stored = slice_set v.stored p x; bells = v.bells + 1; doing = Idle }
@@ -165,7 +178,10 @@ device_rests v r = record v { done = Rest ∷ v.done; seen = shown_from r (lengt
 
 abbrev pub device_commands : DeviceView → ℕ → ℕ → DeviceView
 device_commands v p r =
-    record v { done = LoadCommand (with_head (taken_head v.done) (running v.done) ((p - commands_from v.frame) / 2)) ((p - commands_from v.frame) % 2) r ∷ v.done }
+    record v {
+      done = LoadCommand (with_head (taken_head v.done) (running v.done) ((p - commands_from v.frame) / 2))
+          ((p - commands_from v.frame) % 2) r ∷ v.done;
+    }
 
 abbrev pub device_acks : DeviceView → ℕ → ℕ → DeviceView
 device_acks v p x = record v { done = StoreAck (p - acks_from v.frame) x ∷ v.done; stored = slice_set v.stored p x }
@@ -210,7 +226,7 @@ pub record BeginsChain (f : Frame) (s : List DeviceDone) (h : ℕ) (ws : List �
   pub places : List ℕ
   -- it may stand on the ring, at as many different places as it needs
   pub fits : Fits f chain
-  pub as_many : length places ≡ lent f chain
+  pub as_many : length places ≡ borrowed f chain
   pub begin : first places ≡ h
   pub differ : (p : ℕ) → occurs p places ≤ 1
   pub inside : All (λ p. p < f.size) places
@@ -239,7 +255,8 @@ abbrev pub DeviceTellsAt : DeviceNow → DeviceView → Op → Access → ℕ �
 DeviceTellsAt Idle v op.Take (Load p) r = ShowsChains v r
 DeviceTellsAt Arming v op.Arm (Load p) r = ShowsChains v r
 DeviceTellsAt (Taking (r ∷ [])) v op.Take (Load p) w = IsNewHead v.frame v.done (loaded_head v.frame (length (takes v.done)) w)
-DeviceTellsAt (Taking (r ∷ w ∷ ws)) v op.Take (Load p) x = BeginsChain v.frame v.done (loaded_head v.frame (length (takes v.done)) w) (ws ++ x ∷ [])
+DeviceTellsAt (Taking (r ∷ w ∷ ws)) v op.Take (Load p) x = BeginsChain v.frame v.done (loaded_head v.frame (length (takes v.done)) w)
+    (ws ++ x ∷ [])
 DeviceTellsAt Resting v op.Rest (Load p) r = ShowsOffers v r
 DeviceTellsAt _ _ _ _ _ = Unit {0}
 

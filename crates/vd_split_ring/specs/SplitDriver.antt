@@ -20,7 +20,7 @@ use Rattle.vd_ring.specs.declared.driver.DriverDone.TheVariants.{Offer, Collect,
 use Rattle.vd_ring.specs.declared.driver.DriverNow.{DriverNow}
 use Rattle.vd_ring.specs.declared.driver.DriverNow.TheVariants.{Idle, Offering, Entered, Collecting, Checking, Ringing, Arming, Disarming}
 use Rattle.vd_ring.specs.declared.driver.DriverView.{DriverView}
-use Rattle.vd_ring.specs.Frames.{Fits, lent, limit}
+use Rattle.vd_ring.specs.Frames.{Fits, borrowed, limit}
 use Rattle.vd_ring.specs.Batches.{MayReturn}
 use Rattle.vd_ring.specs.History.{offers, collects, free, head, next_head, open_at, collected, last_used, chain}
 use Rattle.vd_ring.specs.Control.{IsControlChain, StoresCommand, LoadsAck, last_collected}
@@ -39,7 +39,7 @@ pub record CanOffer (f : Frame) (o : List DriverDone) (c : List Piece) : Type 0 
 
 -- the stores that offer the chain, up to the ring entry: its table's, then its descriptors'
 abbrev pub plan : Frame → List DriverDone → List Piece → List Put
-plan f o c = spelling f (take (lent f c) (free f o)) c
+plan f o c = spelling f (take (borrowed f c) (free f o)) c
 
 -- these are the first stores of a chain that may be offered
 pub record Begins (f : Frame) (o : List DriverDone) (puts : List Put) : Type 0 where
@@ -122,14 +122,22 @@ stores v p x doing = record v { stored = slice_set v.stored p x; doing = doing }
 
 -- the operation after a store of an offer: the ring entry's, or another of the chain's
 abbrev pub staged : DriverView → List Put → ℕ → ℕ → DriverNow
-staged v puts p x = if p == lane_word v.frame (entry_lane v.frame (length (offers v.done))) then Entered puts else Offering (puts ++ put p x ∷ [])
+staged v puts p x = if p == lane_word v.frame (entry_lane v.frame (length (offers v.done))) then Entered puts else Offering
+    (puts ++ put p x ∷ [])
 
 abbrev pub driver_offers : DriverView → List Put → ℕ → ℕ → DriverView
-driver_offers v puts p x = record v { done = Offer (staged_chain v.frame (words_of puts)) ∷ v.done; stored = slice_set v.stored p x; doing = driver_published (length (offers v.done)) (length (offers v.done) + 1) }
+driver_offers v puts p x = record v {
+  done = Offer (staged_chain v.frame (words_of puts)) ∷ v.done;
+  stored = slice_set v.stored p x;
+  doing = driver_published (length (offers v.done)) (length (offers v.done) + 1);
+}
 
 -- r is the word with the device's event word
 abbrev pub driver_checks : DriverView → ℕ → ℕ → ℕ → DriverView
-driver_checks v old new r = record v { doing = if wants v.frame old new (lane16 r (device_event_lane v.frame)) then Ringing old new else Idle }
+driver_checks v old new r = record v {
+  doing =
+      if wants v.frame old new (lane16 r (device_event_lane v.frame)) then Ringing old new else Idle;
+}
 
 abbrev pub driver_rings : DriverView → ℕ → ℕ → DriverView
 driver_rings v p x = record v { stored = slice_set v.stored p x; bells = v.bells + 1; doing = Idle }
@@ -143,7 +151,12 @@ driver_looks v r =
 -- r is the index word, w the word with the id, x the word with the length
 abbrev pub driver_collects : DriverView → ℕ → ℕ → ℕ → DriverView
 driver_collects v r w x =
-    record v { done = Collect (collected v.frame v.done (lane32 w 1) (lane32 x 0)) ∷ v.done; shown = not (shows r (length (collects v.done ++ collected v.frame v.done (lane32 w 1) (lane32 x 0)))); doing = Idle }
+    record v {
+      done = Collect (collected v.frame v.done (lane32 w 1) (lane32 x 0)) ∷ v.done;
+      shown =
+          not (shows r (length (collects v.done ++ collected v.frame v.done (lane32 w 1) (lane32 x 0))));
+      doing = Idle;
+    }
 
 abbrev pub driver_arms : DriverView → ℕ → ℕ → DriverView
 driver_arms v p x = record v { stored = slice_set v.stored p x; armed = Some (length (collects v.done)); doing = Arming }
@@ -165,7 +178,11 @@ driver_hears v r = if r == v.heard then v else record v { heard = r; armed = Non
 
 abbrev pub driver_commands : DriverView → ℕ → ℕ → DriverView
 driver_commands v p x =
-    record v { done = StoreCommand ((p - commands_from v.frame) / 2) ((p - commands_from v.frame) % 2) x ∷ v.done; stored = slice_set v.stored p x }
+    record v {
+      done = StoreCommand ((p - commands_from v.frame) / 2) ((p - commands_from v.frame) % 2) x ∷ v.done;
+      stored =
+          slice_set v.stored p x;
+    }
 
 abbrev pub driver_acks : DriverView → ℕ → DriverView
 driver_acks v r = record v { done = LoadAck (unwrap_or (last_collected v.done) 0) r ∷ v.done }
@@ -233,7 +250,8 @@ abbrev pub driver_shows : DriverView → ℕ → Bool
 driver_shows v r = not (shows r (length (collects v.done)))
 
 abbrev pub collect_act : DriverView → ℕ → ℕ → DriverAct
-collect_act v w x = let u : Used = last_used (collected v.frame v.done (lane32 w 1) (lane32 x 0)) in act.Collected u.number u.len (lane32 w 1)
+collect_act v w x = let u : Used = last_used (collected v.frame v.done (lane32 w 1) (lane32 x 0)) in
+    act.Collected u.number u.len (lane32 w 1)
 
 -- without EVENT_IDX a side wakes with its disarming store
 abbrev pub woken_act : Frame → DriverAct

@@ -52,5 +52,6 @@ pub record IsCollected (ws : List ℕ) (d : DriverView) (e : DeviceView) (op : O
 pub record CollectsNothing (ws : List ℕ) (d : DriverView) (e : DeviceView) (o : Op) (a : Access) : Type 0 where
   pub only : driver_act d o a (answered ws a) ≡ act.Nothing → (d.doing ≡ Idle) × (o ≡ op.Collect)
   pub says : driver_act d o a (answered ws a) ≡ act.Nothing → lane16 (answered ws a) 1 ≡ length (collects d.done) % 65536
-  pub shown : d.doing ≡ Idle → o ≡ op.Collect → lane16 (answered ws a) 1 ≡ length (collects d.done) % 65536 → driver_act d o a (answered ws a) ≡ act.Nothing
+  pub shown : d.doing ≡ Idle → o ≡ op.Collect → lane16 (answered ws a) 1 ≡ length (collects d.done) % 65536
+      → driver_act d o a (answered ws a) ≡ act.Nothing
   pub all : driver_act d o a (answered ws a) ≡ act.Nothing → collects d.done ≡ gives e.done

@@ -35,5 +35,7 @@ pub record Agree (f : Frame) (o : List DriverDone) (s : List DeviceDone) : Type 
 -- the word that a look loads, and what it shows: nothing further exactly where all entries given are collected, or all chains
 -- offered are taken
 pub record LooksShow (ws : List ℕ) (d : DriverView) (e : DeviceView) : Type 0 where
-  pub driver : (shows (slice_index ws (used_from d.frame)) (length (collects d.done)) ≡ true) ↔ (length (gives e.done) ≡ length (collects d.done))
-  pub device : (shows (slice_index ws (lane_word d.frame 1)) (length (takes e.done)) ≡ true) ↔ (length (offers d.done) ≡ length (takes e.done))
+  pub driver : (shows (slice_index ws (used_from d.frame)) (length (collects d.done)) ≡ true) ↔
+      (length (gives e.done) ≡ length (collects d.done))
+  pub device : (shows (slice_index ws (lane_word d.frame 1)) (length (takes e.done)) ≡ true) ↔
+      (length (offers d.done) ≡ length (takes e.done))

@@ -127,7 +127,8 @@ armed_value f s = if f.features.event_idx then arm_word rule.SplitIndex s else a
 
 -- this event word asks for a signal for the range old to new - 1: the range holds the event index, or bit 0 of the flags is clear
 abbrev pub wants : Frame → ℕ → ℕ → ℕ → Bool
-wants f old new event = if f.features.event_idx then Rings.wants rule.SplitIndex old new event else Rings.wants rule.SplitFlags old new event
+wants f old new event = if f.features.event_idx then Rings.wants rule.SplitIndex old new event else Rings.wants rule.SplitFlags old new
+    event
 
 -- the word of a bell that was stored so many times
 abbrev pub bell_word : ℕ → ℕ

@@ -19,7 +19,8 @@ ghost use Rattle.vd_split_ring.specs.SplitWords.{IsLawful, width};
 
 /// Each access of the device that is next keeps the ring invariant, and its answer tells what the view says.
 pub fn device_law()
-    ensures { (ws : List ℕ) (d : DriverView) (e : DeviceView) (o : Op) (a : Access) → Ring ws d e → DeviceNext e o a → DeviceKeeps ws d e o a }
+    ensures { (ws : List ℕ) (d : DriverView) (e : DeviceView) (o : Op) (a : Access) → Ring ws d e → DeviceNext e o a
+        → DeviceKeeps ws d e o a }
 {}
 
 /// From the view alone: an access that is next is to one of the ring's words, none changes the frame, and each answer says what
@@ -32,28 +33,35 @@ pub fn device_alone_law()
 
 /// The answer names the one step of the ring's bag.
 pub fn device_bag_law()
-    ensures { (ws : List ℕ) (d : DriverView) (e : DeviceView) (o : Op) (a : Access) (b : List State) → Ring ws d e → DeviceNext e o a → StandsFor d.done e.done b → DeviceBags ws d e o a b }
+    ensures { (ws : List ℕ) (d : DriverView) (e : DeviceView) (o : Op) (a : Access) (b : List State) → Ring ws d e → DeviceNext e o a
+        → StandsFor d.done e.done b → DeviceBags ws d e o a b }
 {}
 
 /// `Taken` has the next chain offered, with its head.
 pub fn device_taken_law()
-    ensures { (ws : List ℕ) (d : DriverView) (e : DeviceView) (o : Op) (a : Access) (k : ℕ) (c : List Piece) → Ring ws d e → DeviceNext e o a → device_answer ws e o a ≡ Taken k c → IsTaken ws d e o a k c }
+    ensures { (ws : List ℕ) (d : DriverView) (e : DeviceView) (o : Op) (a : Access) (k : ℕ) (c : List Piece) → Ring ws d e
+        → DeviceNext e o a → device_answer ws e o a ≡ Taken k c → IsTaken ws d e o a k c }
 {}
 
 /// After `Given` the used entry stands in the words, and it is that of the last act.
 pub fn device_given_law()
-    ensures given { (ws : List ℕ) (d : DriverView) (e : DeviceView) (o : Op) (a : Access) (k : ℕ) → Ring ws d e → DeviceNext e o a → device_answer ws e o a ≡ Given k → IsGiven ws d e o a k }
-    ensures last { (ws : List ℕ) (d : DriverView) (e : DeviceView) (o : Op) (a : Access) (k : ℕ) → Ring ws d e → DeviceNext e o a → device_answer ws e o a ≡ Given k → HasLastUsed d.frame (written ws a) (device_done ws e o a) }
+    ensures given { (ws : List ℕ) (d : DriverView) (e : DeviceView) (o : Op) (a : Access) (k : ℕ) → Ring ws d e → DeviceNext e o a
+        → device_answer ws e o a ≡ Given k → IsGiven ws d e o a k }
+    ensures last { (ws : List ℕ) (d : DriverView) (e : DeviceView) (o : Op) (a : Access) (k : ℕ) → Ring ws d e → DeviceNext e o a
+        → device_answer ws e o a ≡ Given k → HasLastUsed d.frame (written ws a) (device_done ws e o a) }
 {}
 
 /// `Nothing` is the answer of a take exactly where the loaded index is the count taken, modulo 65,536. Then all chains offered
 /// are taken.
 pub fn device_nothing_law()
-    ensures { (ws : List ℕ) (d : DriverView) (e : DeviceView) (o : Op) (a : Access) → Ring ws d e → DeviceNext e o a → LooksNothing ws d e o a }
+    ensures { (ws : List ℕ) (d : DriverView) (e : DeviceView) (o : Op) (a : Access) → Ring ws d e → DeviceNext e o a
+        → LooksNothing ws d e o a }
 {}
 
 /// A device whose last act is a rest, and so one whose step answers `Rested`, has taken as many chains as it gave.
 pub fn device_rest_law()
-    ensures resting { (ws : List ℕ) (d : DriverView) (e : DeviceView) (older : List DeviceDone) → Ring ws d e → e.done ≡ Rest ∷ older → HasRested e.done }
-    ensures rests { (ws : List ℕ) (d : DriverView) (e : DeviceView) (o : Op) (a : Access) → Ring ws d e → DeviceNext e o a → device_answer ws e o a ≡ Rested → HasRested (device_done ws e o a) }
+    ensures resting { (ws : List ℕ) (d : DriverView) (e : DeviceView) (older : List DeviceDone) → Ring ws d e → e.done ≡ Rest ∷ older
+        → HasRested e.done }
+    ensures rests { (ws : List ℕ) (d : DriverView) (e : DeviceView) (o : Op) (a : Access) → Ring ws d e → DeviceNext e o a
+        → device_answer ws e o a ≡ Rested → HasRested (device_done ws e o a) }
 {}

@@ -16,7 +16,8 @@ ghost use Rattle.vd_split_ring.specs.SplitWords.{IsLawful};
 
 /// Each access of the driver that is next keeps the ring invariant, and its answer tells what the view says.
 pub fn driver_law()
-    ensures { (ws : List ℕ) (d : DriverView) (e : DeviceView) (op : Op) (a : Access) → Ring ws d e → DriverNext d op a → DriverKeeps ws d e op a }
+    ensures { (ws : List ℕ) (d : DriverView) (e : DeviceView) (op : Op) (a : Access) → Ring ws d e → DriverNext d op a
+        → DriverKeeps ws d e op a }
 {}
 
 /// From the view alone: an access that is next is to one of the ring's words, none changes the frame, and each answer says what
@@ -29,21 +30,25 @@ pub fn driver_alone_law()
 
 /// The answer names the one step of the ring's bag.
 pub fn driver_bag_law()
-    ensures { (ws : List ℕ) (d : DriverView) (e : DeviceView) (op : Op) (a : Access) (b : List State) → Ring ws d e → DriverNext d op a → StandsFor d.done e.done b → DriverBags ws d e op a b }
+    ensures { (ws : List ℕ) (d : DriverView) (e : DeviceView) (op : Op) (a : Access) (b : List State) → Ring ws d e → DriverNext d op a
+        → StandsFor d.done e.done b → DriverBags ws d e op a b }
 {}
 
 /// After `Offered` the words spell the chain.
 pub fn driver_offered_law()
-    ensures { (ws : List ℕ) (d : DriverView) (e : DeviceView) (op : Op) (a : Access) (k : ℕ) → Ring ws d e → DriverNext d op a → driver_act d op a (answered ws a) ≡ Offered k → IsOffered ws d op a k }
+    ensures { (ws : List ℕ) (d : DriverView) (e : DeviceView) (op : Op) (a : Access) (k : ℕ) → Ring ws d e → DriverNext d op a
+        → driver_act d op a (answered ws a) ≡ Offered k → IsOffered ws d op a k }
 {}
 
 /// `Collected` has the next entry given.
 pub fn driver_collected_law()
-    ensures { (ws : List ℕ) (d : DriverView) (e : DeviceView) (op : Op) (a : Access) (k l h : ℕ) → Ring ws d e → DriverNext d op a → driver_act d op a (answered ws a) ≡ Collected k l h → IsCollected ws d e op a k l h }
+    ensures { (ws : List ℕ) (d : DriverView) (e : DeviceView) (op : Op) (a : Access) (k l h : ℕ) → Ring ws d e → DriverNext d op a
+        → driver_act d op a (answered ws a) ≡ Collected k l h → IsCollected ws d e op a k l h }
 {}
 
 /// `Nothing` is the answer of a collect exactly where the loaded index is the count collected, modulo 65,536. Then all entries
 /// given are collected.
 pub fn driver_nothing_law()
-    ensures { (ws : List ℕ) (d : DriverView) (e : DeviceView) (op : Op) (a : Access) → Ring ws d e → DriverNext d op a → CollectsNothing ws d e op a }
+    ensures { (ws : List ℕ) (d : DriverView) (e : DeviceView) (op : Op) (a : Access) → Ring ws d e → DriverNext d op a
+        → CollectsNothing ws d e op a }
 {}

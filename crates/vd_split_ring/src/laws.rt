@@ -22,7 +22,8 @@ pub fn fresh_law()
 
 /// Each chain offered and not collected is spelled at its head.
 pub fn spelling_law()
-    ensures { (ws : List ℕ) (d : DriverView) (e : DeviceView) (k : ℕ) → Ring ws d e → Contains (open_at d.done) k → Spells d.frame ws (head d.frame d.done k) (chain d.done k) }
+    ensures { (ws : List ℕ) (d : DriverView) (e : DeviceView) (k : ℕ) → Ring ws d e → Contains (open_at d.done) k
+        → Spells d.frame ws (head d.frame d.done k) (chain d.done k) }
 {}
 
 /// What was taken is a prefix of what was offered, and collected of given; numbers differ; under IN_ORDER they are in order.
@@ -43,6 +44,8 @@ pub fn looks_law()
 
 /// The index that a side has seen never goes back.
 pub fn seen_law()
-    ensures driver { (ws : List ℕ) (d : DriverView) (e : DeviceView) (o : Op) (a : Access) → Ring ws d e → DriverNext d o a → d.seen ≤ (driver_after d o a (answered ws a)).seen }
-    ensures device { (ws : List ℕ) (d : DriverView) (e : DeviceView) (o : Op) (a : Access) → Ring ws d e → DeviceNext e o a → e.seen ≤ (device_after e o a (answered ws a)).seen }
+    ensures driver { (ws : List ℕ) (d : DriverView) (e : DeviceView) (o : Op) (a : Access) → Ring ws d e → DriverNext d o a
+        → d.seen ≤ (driver_after d o a (answered ws a)).seen }
+    ensures device { (ws : List ℕ) (d : DriverView) (e : DeviceView) (o : Op) (a : Access) → Ring ws d e → DeviceNext e o a
+        → e.seen ≤ (device_after e o a (answered ws a)).seen }
 {}

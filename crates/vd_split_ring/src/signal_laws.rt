@@ -27,7 +27,8 @@ pub fn signals_law()
 pub fn unarmed_law()
     ensures fresh_driver { (f : Frame) (n : ℕ) → (fresh_driver f n).armed ≡ None }
     ensures fresh_device { (f : Frame) (n : ℕ) → (fresh_device f n).armed ≡ None }
-    ensures rested { (ws : List ℕ) (d : DriverView) (v : DeviceView) (o : Op) (a : Access) (r : ℕ) → Ring ws d v → device_act v o a r ≡ Rested → (device_after v o a r).armed ≡ None }
+    ensures rested { (ws : List ℕ) (d : DriverView) (v : DeviceView) (o : Op) (a : Access) (r : ℕ) → Ring ws d v
+        → device_act v o a r ≡ Rested → (device_after v o a r).armed ≡ None }
     ensures driver { (v : DriverView) (o : Op) (a : Access) (r : ℕ) → o ≢ Arm → v.armed ≡ None → (driver_after v o a r).armed ≡ None }
     ensures device { (v : DeviceView) (o : Op) (a : Access) (r : ℕ) → o ≢ Arm → v.armed ≡ None → (device_after v o a r).armed ≡ None }
 {}
@@ -46,14 +47,18 @@ pub fn bells_law()
 
 /// A side that answers Asleep is idle, armed and without a signal, and its view stays.
 pub fn asleep_law()
-    ensures driver { (ws : List ℕ) (d : DriverView) (e : DeviceView) (o : Op) (a : Access) → Ring ws d e → DriverNext d o a → driver_act d o a (answered ws a) ≡ driver_asleep → (driver_after d o a (answered ws a) ≡ d) × DriverWaits d e }
-    ensures device { (ws : List ℕ) (d : DriverView) (e : DeviceView) (o : Op) (a : Access) → Ring ws d e → DeviceNext e o a → device_act e o a (answered ws a) ≡ device_asleep → (device_after e o a (answered ws a) ≡ e) × DeviceWaits d e }
+    ensures driver { (ws : List ℕ) (d : DriverView) (e : DeviceView) (o : Op) (a : Access) → Ring ws d e → DriverNext d o a
+        → driver_act d o a (answered ws a) ≡ driver_asleep → (driver_after d o a (answered ws a) ≡ d) × DriverWaits d e }
+    ensures device { (ws : List ℕ) (d : DriverView) (e : DeviceView) (o : Op) (a : Access) → Ring ws d e → DeviceNext e o a
+        → device_act e o a (answered ws a) ≡ device_asleep → (device_after e o a (answered ws a) ≡ e) × DeviceWaits d e }
 {}
 
 /// A hearing that ends with Awake has heard a bell more.
 pub fn hears_law()
-    ensures driver { (ws : List ℕ) (d : DriverView) (e : DeviceView) (o : Op) (a : Access) → Ring ws d e → DriverNext d o a → driver_hearings d + driver_woken o (driver_act d o a (answered ws a)) ≤ driver_hearings (driver_after d o a (answered ws a)) }
-    ensures device { (ws : List ℕ) (d : DriverView) (e : DeviceView) (o : Op) (a : Access) → Ring ws d e → DeviceNext e o a → device_hearings e + device_woken o (device_act e o a (answered ws a)) ≤ device_hearings (device_after e o a (answered ws a)) }
+    ensures driver { (ws : List ℕ) (d : DriverView) (e : DeviceView) (o : Op) (a : Access) → Ring ws d e → DriverNext d o a
+        → driver_hearings d + driver_woken o (driver_act d o a (answered ws a)) ≤ driver_hearings (driver_after d o a (answered ws a)) }
+    ensures device { (ws : List ℕ) (d : DriverView) (e : DeviceView) (o : Op) (a : Access) → Ring ws d e → DeviceNext e o a
+        → device_hearings e + device_woken o (device_act e o a (answered ws a)) ≤ device_hearings (device_after e o a (answered ws a)) }
 {}
 
 /// Nothing, Armed, Asleep and Awake are answered exactly by what the look, the second look or the bell loaded.

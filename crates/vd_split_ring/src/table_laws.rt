@@ -17,12 +17,16 @@ ghost use Rattle.vd_split_ring.specs.SplitWords.{IsLawful, is_tabled, has_table,
 
 /// A reader of tables finds each chain offered and not collected that stands in a table there, and no fault.
 pub fn table_law()
-    ensures { (ws : List ℕ) (d : DriverView) (e : DeviceView) (k : ℕ) → Ring ws d e → Contains (open_at d.done) k → is_tabled d.frame (chain d.done k) ≡ true → ReadsTable ws (head d.frame d.done k) (chain d.done k) }
+    ensures { (ws : List ℕ) (d : DriverView) (e : DeviceView) (k : ℕ) → Ring ws d e → Contains (open_at d.done) k
+        → is_tabled d.frame (chain d.done k) ≡ true → ReadsTable ws (head d.frame d.done k) (chain d.done k) }
 {}
 
 /// With the last load of a take the words loaded are those of the next chain offered; where they have a table, a reader of tables
 /// finds the chain there and no fault, by what the answers tell alone.
 pub fn loaded_law()
-    ensures chain { (ws : List ℕ) (d : DriverView) (e : DeviceView) (r w : ℕ) (us : List ℕ) (a : Access) → Ring ws d e → e.doing ≡ Taking (r ∷ w ∷ us) → DeviceNext e Take a → is_whole e.frame (us ++ answered ws a ∷ []) ≡ true → chain_of e.frame (us ++ answered ws a ∷ []) ≡ chain d.done (length (takes e.done)) }
-    ensures table { (f : Frame) (s : List DeviceDone) (h : ℕ) (ws : List ℕ) → IsLawful f → BeginsChain f s h ws → is_whole f ws ≡ true → has_table f ws ≡ true → ReadsLoaded ws (chain_of f ws) }
+    ensures chain { (ws : List ℕ) (d : DriverView) (e : DeviceView) (r w : ℕ) (us : List ℕ) (a : Access) → Ring ws d e
+        → e.doing ≡ Taking (r ∷ w ∷ us) → DeviceNext e Take a → is_whole e.frame (us ++ answered ws a ∷ []) ≡ true
+        → chain_of e.frame (us ++ answered ws a ∷ []) ≡ chain d.done (length (takes e.done)) }
+    ensures table { (f : Frame) (s : List DeviceDone) (h : ℕ) (ws : List ℕ) → IsLawful f → BeginsChain f s h ws → is_whole f ws ≡ true
+        → has_table f ws ≡ true → ReadsLoaded ws (chain_of f ws) }
 {}

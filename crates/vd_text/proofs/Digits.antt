@@ -11,13 +11,16 @@ use Rattle.std.proofs.lemmas.Str.{digit_value_digit}
 use Rattle.std.proofs.lemmas.Str.Parse.{digits_value-take-le}
 use Rattle.vd_text.specs.Grammar.{number}
 
-pub more_digits : (ds : List ℕ) (i v : ℕ) → i < length ds → digits_value 10 (take i ds) ≡ v → IsInRange 48 57 (get_or ds i 0) → digits_value 10 (take (i + 1) ds) ≡ v * 10 + (get_or ds i 0 - 48)
+pub more_digits : (ds : List ℕ) (i v : ℕ) → i < length ds → digits_value 10 (take i ds) ≡ v → IsInRange 48 57 (get_or ds i 0)
+    → digits_value 10 (take (i + 1) ds) ≡ v * 10 + (get_or ds i 0 - 48)
 more_digits ds i v h e d =
     let w : digit_value (get_or ds i 0) + 48 ≡ get_or ds i 0 = digit_value_digit (get_or ds i 0) d in
-    let m : digits_value 10 (take (i + 1) ds) ≡ digits_value 10 (take i ds) * 10 + digit_value (get_or ds i 0) = digits_value_more 10 ds i h in
+    let m : digits_value 10 (take (i + 1) ds) ≡ digits_value 10 (take i ds) * 10 + digit_value (get_or ds i 0) =
+    digits_value_more 10 ds i h in
     omega arith
 
-pub more_all : (ds : List ℕ) (i : ℕ) → i < length ds → list_all is_ascii_digit (take i ds) ≡ true → is_ascii_digit (get_or ds i 0) ≡ true → list_all is_ascii_digit (take (i + 1) ds) ≡ true
+pub more_all : (ds : List ℕ) (i : ℕ) → i < length ds → list_all is_ascii_digit (take i ds) ≡ true
+    → is_ascii_digit (get_or ds i 0) ≡ true → list_all is_ascii_digit (take (i + 1) ds) ≡ true
 more_all ds i h e d = list_all_more is_ascii_digit ds i 0 h ∙ ap (λ b. b && is_ascii_digit (get_or ds i 0)) e ∙ d
 
 -- a test of three parts, of which the last fails

@@ -21,7 +21,8 @@ goes_on_by true false p ps e = rw e refl
 goes_on_by false true p ps e = rw e refl
 goes_on_by false false p ps e = rw e refl
 
-pub goes_on_more : (written : Bool) (p : Piece) (ps : List Piece) → goes_on written (p ∷ ps) ≡ ((p.write || not written) && goes_on p.write ps)
+pub goes_on_more : (written : Bool) (p : Piece) (ps : List Piece)
+    → goes_on written (p ∷ ps) ≡ ((p.write || not written) && goes_on p.write ps)
 goes_on_more written p ps = goes_on_by written p.write p ps refl
 
 -- the pieces of a text go on so
@@ -40,24 +41,31 @@ ends : (w : Bool) → goes_on w [] ≡ true
 ends true = refl
 ends false = refl
 
-more_by : (w : Bool) (p : Piece) (o : Option (List Piece)) → text_goes_on w (then_some (Some p) o) ≡ ((p.write || not w) && text_goes_on p.write o)
+more_by : (w : Bool) (p : Piece) (o : Option (List Piece))
+    → text_goes_on w (then_some (Some p) o) ≡ ((p.write || not w) && text_goes_on p.write o)
 more_by w p None = sym (and_false (p.write || not w))
 more_by w p (Some ps) = goes_on_more w p ps
 
-pub text_more : (w : Bool) (text word rest : List ℕ) (p : Piece) → cut 32 text ≡ Some (word, rest) → piece word ≡ Some p → text_goes_on w (pieces text) ≡ ((p.write || not w) && text_goes_on p.write (pieces rest))
-text_more w text word rest p h e = ap (text_goes_on w) (cut_pieces text word rest h ∙ ap (λ o. then_some o (pieces rest)) e) ∙ more_by w p (pieces rest)
+pub text_more : (w : Bool) (text word rest : List ℕ) (p : Piece) → cut 32 text ≡ Some (word, rest) → piece word ≡ Some p
+    → text_goes_on w (pieces text) ≡ ((p.write || not w) && text_goes_on p.write (pieces rest))
+text_more w text word rest p h e = ap (text_goes_on w) (cut_pieces text word rest h ∙ ap (λ o. then_some o (pieces rest)) e)
+    ∙ more_by w p (pieces rest)
 
-pub text_stops : (w : Bool) (text word rest : List ℕ) → cut 32 text ≡ Some (word, rest) → piece word ≡ None → text_goes_on w (pieces text) ≡ false
+pub text_stops : (w : Bool) (text word rest : List ℕ) → cut 32 text ≡ Some (word, rest) → piece word ≡ None
+    → text_goes_on w (pieces text) ≡ false
 text_stops w text word rest h e = ap (text_goes_on w) (cut_pieces text word rest h ∙ ap (λ o. then_some o (pieces rest)) e)
 
-pub text_last : (w : Bool) (text : List ℕ) (p : Piece) → cut 32 text ≡ None → piece text ≡ Some p → text_goes_on w (pieces text) ≡ (p.write || not w)
-text_last w text p h e = ap (text_goes_on w) (last_pieces text h ∙ ap (λ o. then_some o (Some [])) e) ∙ goes_on_more w p [] ∙ ap (λ b. (p.write || not w) && b) (ends p.write) ∙ and_true (p.write || not w)
+pub text_last : (w : Bool) (text : List ℕ) (p : Piece) → cut 32 text ≡ None → piece text ≡ Some p
+    → text_goes_on w (pieces text) ≡ (p.write || not w)
+text_last w text p h e = ap (text_goes_on w) (last_pieces text h ∙ ap (λ o. then_some o (Some [])) e) ∙ goes_on_more w p []
+    ∙ ap (λ b. (p.write || not w) && b) (ends p.write) ∙ and_true (p.write || not w)
 
 pub text_last_none : (w : Bool) (text : List ℕ) → cut 32 text ≡ None → piece text ≡ None → text_goes_on w (pieces text) ≡ false
 text_last_none w text h e = ap (text_goes_on w) (last_pieces text h ∙ ap (λ o. then_some o (Some [])) e)
 
 -- the pieces of a slice go on so
-pub slice_goes_on : (w : Bool) (ps : List Piece) (i : ℕ) (d : Piece) → i < length ps → goes_on w (drop i ps) ≡ (((get_or ps i d).write || not w) && goes_on (get_or ps i d).write (drop (i + 1) ps))
+pub slice_goes_on : (w : Bool) (ps : List Piece) (i : ℕ) (d : Piece) → i < length ps
+    → goes_on w (drop i ps) ≡ (((get_or ps i d).write || not w) && goes_on (get_or ps i d).write (drop (i + 1) ps))
 slice_goes_on w ps i d h = ap (goes_on w) (drop_more ps i d h) ∙ goes_on_more w (get_or ps i d) (drop (i + 1) ps)
 
 -- a test that each element passes, at each place
@@ -70,7 +78,8 @@ all_at p xs d k h below = elim (cases_Bool (p (get_or xs k d))) [
 abbrev writes : Piece → Bool
 writes q = q.write
 
-first_step : (p : Piece) (ps : List Piece) (v : Bool) → p.write ≡ v → cond v (list_all writes ps) (is_readable_first ps) ≡ true → (is_readable_first ps ≡ true → IsReadableFirst ps) → IsReadableFirst (p ∷ ps)
+first_step : (p : Piece) (ps : List Piece) (v : Bool) → p.write ≡ v → cond v (list_all writes ps) (is_readable_first ps) ≡ true
+    → (is_readable_first ps ≡ true → IsReadableFirst ps) → IsReadableFirst (p ∷ ps)
 first_step p ps true e h rest i zero d below within w = absurd (omega arith)
 first_step p ps true e h rest i (suc k) d below within w = all_at writes ps d k h (omega arith)
 first_step p ps false e h rest zero j d below within w = absurd (false≢true (sym e ∙ w))

@@ -14,7 +14,8 @@ byte_at-shift zero b y h = let e : (b + 256 * y) / 256 ≡ y = omega arith in ap
 byte_at-shift (suc j) b y h =
     let e : (b + 256 * y) / 256 ≡ y = omega arith in
     let p : 256 ^ suc (suc j) ≡ 256 * 256 ^ suc j = pow-succ' 256 (suc j) in
-    let d : (b + 256 * y) / (256 * 256 ^ suc j) ≡ (b + 256 * y) / 256 / 256 ^ suc j = sym (div-div-eq-div-mul (b + 256 * y) 256 (256 ^ suc j)) in
+    let d : (b + 256 * y) / (256 * 256 ^ suc j) ≡ (b + 256 * y) / 256 / 256 ^ suc j =
+    sym (div-div-eq-div-mul (b + 256 * y) 256 (256 ^ suc j)) in
     ap (λ (x : ℕ). x % 256) (ap (λ (q : ℕ). (b + 256 * y) / q) p ∙ d ∙ ap (λ (x : ℕ). x / 256 ^ suc j) e)
 
 bytes-shift : (j n b y : ℕ) → b < 256 → bytes_low_first (suc j) n (b + 256 * y) ≡ bytes_low_first j n y
@@ -24,13 +25,15 @@ bytes-shift j (suc n) b y h =
     ∙ ap (λ (r : List ℕ). byte_at j y ∷ r) (bytes-shift (suc j) n b y h)
 
 -- the bytes of the number in some bytes are these bytes
-bytes-number : (n i : ℕ) (xs : List ℕ) → ((k : ℕ) → get_or xs k 0 < 256) → i + n ≤ length xs → bytes_low_first 0 n (little_from i n xs) ≡ take n (drop i xs)
+bytes-number : (n i : ℕ) (xs : List ℕ) → ((k : ℕ) → get_or xs k 0 < 256) → i + n ≤ length xs
+    → bytes_low_first 0 n (little_from i n xs) ≡ take n (drop i xs)
 bytes-number zero i xs b h = refl
 bytes-number (suc n) i xs b h =
     let x = get_or xs i 0 in
     let r = little_from (suc i) n xs in
     let first : (x + 256 * r) % 256 ≡ x = omega (arith, b i) in
-    let later : bytes_low_first 1 n (x + 256 * r) ≡ take n (drop (suc i) xs) = bytes-shift 0 n x r (b i) ∙ bytes-number n (suc i) xs b (omega arith) in
+    let later : bytes_low_first 1 n (x + 256 * r) ≡ take n (drop (suc i) xs) =
+    bytes-shift 0 n x r (b i) ∙ bytes-number n (suc i) xs b (omega arith) in
     let whole : drop i xs ≡ x ∷ drop (suc i) xs = drop-cons xs i 0 (omega arith) in
     ap (λ (y : ℕ). y ∷ bytes_low_first 1 n (x + 256 * r)) first ∙ ap (λ (q : List ℕ). x ∷ q) later ∙ sym (ap (take (suc n)) whole)
 
@@ -39,15 +42,20 @@ unfolding bytes_of
 length-bytes_of n x = length-bytes_low_first 0 n x
 
 -- the bytes from a place are those of the number there, and the rest
-pub spelled : (n at : ℕ) (bs : List ℕ) → ((k : ℕ) → get_or bs k 0 < 256) → at + n ≤ length bs → drop at bs ≡ bytes_of n (number_at n at bs) ++ drop (at + n) bs
+pub spelled : (n at : ℕ) (bs : List ℕ) → ((k : ℕ) → get_or bs k 0 < 256) → at + n ≤ length bs
+    → drop at bs ≡ bytes_of n (number_at n at bs) ++ drop (at + n) bs
 unfolding bytes_of number_at
 spelled n at bs b h =
     let ds = drop at bs in
-    let same : bytes_low_first 0 n (little_from 0 n ds) ≡ take n ds = bytes-number n 0 ds (λ k. let e : get_or ds k 0 ≡ get_or bs (at + k) 0 = get_or-drop at bs k 0 in omega (arith, e, b (at + k))) (omega (arith, length-drop at bs)) in
-    sym (take-append-drop n ds) ∙ ap (λ (q : List ℕ). q ++ drop n ds) (sym same) ∙ ap (λ (q : List ℕ). bytes_low_first 0 n (little_from 0 n ds) ++ q) (drop-drop n at bs)
+    let same : bytes_low_first 0 n (little_from 0 n ds) ≡ take n ds =
+    bytes-number n 0 ds (λ k. let e : get_or ds k 0 ≡ get_or bs (at + k) 0 = get_or-drop at bs k 0 in omega (arith, e, b (at + k)))
+    (omega (arith, length-drop at bs)) in
+    sym (take-append-drop n ds) ∙ ap (λ (q : List ℕ). q ++ drop n ds) (sym same)
+    ∙ ap (λ (q : List ℕ). bytes_low_first 0 n (little_from 0 n ds) ++ q) (drop-drop n at bs)
 
 -- the number whose bytes stand at a place is read there
-pub number : (n x : ℕ) (front rest : List ℕ) (at : ℕ) → length front ≡ at → x < 256 ^ n → number_at n at (front ++ (bytes_of n x ++ rest)) ≡ x
+pub number : (n x : ℕ) (front rest : List ℕ) (at : ℕ) → length front ≡ at → x < 256 ^ n
+    → number_at n at (front ++ (bytes_of n x ++ rest)) ≡ x
 unfolding bytes_of number_at
 number n x front rest at h s = ap (little_number n) (drop_at front _ at h) ∙ little_number-reads_back n x rest s
 
@@ -62,7 +70,8 @@ pub put_next : {bs new front : List ℕ} {at m : ℕ} (n x : ℕ) → Written bs
 put_next {bs} {new} {front} {at} {m} n x w l e =
     let before : take at bs ≡ front = ap (take at) w.is ∙ take_at front _ at w.len in
     let behind : drop (at + n) bs ≡ replicate (m - n) 0 =
-    ap (drop (at + n)) w.is ∙ sym (drop-drop n at (front ++ replicate m 0)) ∙ ap (drop n) (drop_at front _ at w.len) ∙ drop-replicate n m 0 in
+    ap (drop (at + n)) w.is ∙ sym (drop-drop n at (front ++ replicate m 0)) ∙ ap (drop n) (drop_at front _ at w.len)
+    ∙ drop-replicate n m 0 in
     record {
       is = e ∙ ap (λ (p : List ℕ). p ++ bytes_of n x ++ drop (at + n) bs) before ∙ ap (λ (q : List ℕ). front ++ bytes_of n x ++ q) behind;
       len = omega (arith, length-append front (bytes_of n x), length-bytes_of n x, w.len);
@@ -81,14 +90,16 @@ pub record Front (bs front rest : List ℕ) (at : ℕ) : Type 0 where
   pub len : length front ≡ at
 
 -- the last of them are one field's
-pub peel : {bs rest : List ℕ} (front field : List ℕ) (at n : ℕ) → length field ≡ n → Front bs (front ++ field) rest (at + n) → Front bs front (field ++ rest) at
+pub peel : {bs rest : List ℕ} (front field : List ℕ) (at n : ℕ) → length field ≡ n → Front bs (front ++ field) rest (at + n)
+    → Front bs front (field ++ rest) at
 peel front field at n l f = record {
   is = f.is ∙ append_assoc front field _;
   len = omega (arith, length-append front field, f.len);
 }
 
 -- the number whose bytes come next is the one that is read there
-pub read_next : {bs front : List ℕ} {at r : ℕ} (n x : ℕ) (rest : List ℕ) → Front bs front (bytes_of n x ++ rest) at → x < 256 ^ n → r ≡ number_at n at bs → r ≡ x
+pub read_next : {bs front : List ℕ} {at r : ℕ} (n x : ℕ) (rest : List ℕ) → Front bs front (bytes_of n x ++ rest) at → x < 256 ^ n
+    → r ≡ number_at n at bs → r ≡ x
 read_next {bs} {front} {at} n x rest f s e = e ∙ ap (number_at n at) f.is ∙ number n x front rest at f.len s
 
 -- what a read of the rest of a slice gives

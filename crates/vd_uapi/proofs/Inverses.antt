@@ -48,8 +48,10 @@ pub addr_is : (v : VringAddr) (bs rest : List ℕ) (index flags desc used avail 
     → (let w : VringAddr = record { index = index; flags = flags; desc = desc; used = used; avail = avail; log = log } in w) ≡ v
 addr_is v bs rest index flags desc used avail log fits e a b c d g h =
     let f6 : Front bs (vring_addr_bytes v) rest 40 = record { is = e; len = length-vring_addr v } in
-    let f5 = peel (bytes_of 4 v.index ++ bytes_of 4 v.flags ++ bytes_of 8 v.desc ++ bytes_of 8 v.used ++ bytes_of 8 v.avail) (bytes_of 8 v.log) 32 8 (length-bytes_of 8 v.log) f6 in
-    let f4 = peel (bytes_of 4 v.index ++ bytes_of 4 v.flags ++ bytes_of 8 v.desc ++ bytes_of 8 v.used) (bytes_of 8 v.avail) 24 8 (length-bytes_of 8 v.avail) f5 in
+    let f5 = peel (bytes_of 4 v.index ++ bytes_of 4 v.flags ++ bytes_of 8 v.desc ++ bytes_of 8 v.used ++ bytes_of 8 v.avail)
+    (bytes_of 8 v.log) 32 8 (length-bytes_of 8 v.log) f6 in
+    let f4 = peel (bytes_of 4 v.index ++ bytes_of 4 v.flags ++ bytes_of 8 v.desc ++ bytes_of 8 v.used) (bytes_of 8 v.avail) 24 8
+    (length-bytes_of 8 v.avail) f5 in
     let f3 = peel (bytes_of 4 v.index ++ bytes_of 4 v.flags ++ bytes_of 8 v.desc) (bytes_of 8 v.used) 16 8 (length-bytes_of 8 v.used) f4 in
     let f2 = peel (bytes_of 4 v.index ++ bytes_of 4 v.flags) (bytes_of 8 v.desc) 8 8 (length-bytes_of 8 v.desc) f3 in
     let f1 = peel (bytes_of 4 v.index) (bytes_of 4 v.flags) 4 4 (length-bytes_of 4 v.flags) f2 in

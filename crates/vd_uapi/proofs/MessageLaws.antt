@@ -53,7 +53,8 @@ pub numbers_are : (m : Msg) (bs rest : List ℕ) → IsMsg m → bs ≡ msg_fiel
 unfolding numbers_of
 numbers_are m bs rest known e =
     let f5 = numbers_front m bs rest e in
-    let f4 = peel (bytes_of 4 2 ++ bytes_of 4 m.asid ++ bytes_of 8 m.iova ++ bytes_of 8 m.size) (bytes_of 8 m.uaddr) 24 8 (length-bytes_of 8 m.uaddr) f5 in
+    let f4 = peel (bytes_of 4 2 ++ bytes_of 4 m.asid ++ bytes_of 8 m.iova ++ bytes_of 8 m.size) (bytes_of 8 m.uaddr) 24 8
+    (length-bytes_of 8 m.uaddr) f5 in
     let f3 = peel (bytes_of 4 2 ++ bytes_of 4 m.asid ++ bytes_of 8 m.iova) (bytes_of 8 m.size) 16 8 (length-bytes_of 8 m.size) f4 in
     let f2 = peel (bytes_of 4 2 ++ bytes_of 4 m.asid) (bytes_of 8 m.iova) 8 8 (length-bytes_of 8 m.iova) f3 in
     let f1 = peel (bytes_of 4 2) (bytes_of 4 m.asid) 4 4 (length-bytes_of 4 m.asid) f2 in
@@ -72,7 +73,8 @@ more bs front mid field rest e g = e ∙ ap (λ (q : List ℕ). front ++ q) g �
 
 -- what is read spells the bytes
 pub spells : (m : Msg) (bs : List ℕ) → ((k : ℕ) → get_or bs k 0 < 256) → 72 ≤ length bs → number_at 4 0 bs ≡ 2
-    → drop 4 bs ≡ bytes_of 4 m.asid ++ drop 8 bs → drop 8 bs ≡ bytes_of 8 m.iova ++ drop 16 bs → drop 16 bs ≡ bytes_of 8 m.size ++ drop 24 bs
+    → drop 4 bs ≡ bytes_of 4 m.asid ++ drop 8 bs → drop 8 bs ≡ bytes_of 8 m.iova ++ drop 16 bs
+    → drop 16 bs ≡ bytes_of 8 m.size ++ drop 24 bs
     → drop 24 bs ≡ bytes_of 8 m.uaddr ++ drop 32 bs → m.perm ≡ get_or bs 32 0 → m.kind ≡ get_or bs 33 0 → bs ≡ msg_fields m ++ drop 34 bs
 spells m bs b l v s1 s2 s3 s4 p k =
     let s0 : bs ≡ bytes_of 4 2 ++ drop 4 bs = spelled 4 0 bs b (omega arith) ∙ ap (λ (y : ℕ). bytes_of 4 y ++ drop 4 bs) v in

@@ -23,7 +23,8 @@ pub record IsLawfulPort {P : Type 0} (m : PortModel P) : Type 0 where
   -- a plain port allows each place below the count of words; a load answers the word, a store changes that word alone
   pub counted : (s : P) (ws : List ℕ) → m.plain s ws → m.count s ≡ length ws
   pub may : (s : P) (ws : List ℕ) (op : Op) (a : Access) → m.plain s ws → place_of a < length ws → m.allows s op a
-  pub does : (s : P) (ws : List ℕ) (op : Op) (a : Access) (r : ℕ) (t : P) → m.plain s ws → m.moves s op a r t → m.plain t (written ws a) × (r ≡ answered ws a) × m.same s t
+  pub does : (s : P) (ws : List ℕ) (op : Op) (a : Access) (r : ℕ) (t : P) → m.plain s ws → m.moves s op a r t
+      → m.plain t (written ws a) × (r ≡ answered ws a) × m.same s t
   -- they have the same number and as many words
   pub alike : (s t : P) → m.same s t → (m.ring s ≡ m.ring t) × (m.count s ≡ m.count t)
   pub same_refl : (s : P) → m.same s s

@@ -102,7 +102,11 @@ impl Port for PlainPort<'_> {
       stays = λ s op a r t m. stays_plain s.at.now t.at.now a r m.1;
       counted = λ s ws is. count_at s.at.now.words ws is;
       may = λ s ws op a is fits. fits_at ws s.at.now.words a is fits;
-      does = λ s ws op a r t is m. (words_at ws s.at.now t.at.now r a is m.1, answer_at ws s.at.now t.at.now r a is m.1, (m.0, alike_after s.at.now t.at.now a r m.1));
+      does = λ s ws op a r t is m. (
+        words_at ws s.at.now t.at.now r a is m.1,
+        answer_at ws s.at.now t.at.now r a is m.1,
+        (m.0, alike_after s.at.now t.at.now a r m.1),
+      );
       alike = λ s t p. p.1;
       same_refl = λ s. (refl, (refl, refl));
       same_trans = λ s t u p q. (q.0 ∙ p.0, alike_trans s.at.now t.at.now u.at.now p.1 q.1);

@@ -30,7 +30,8 @@ impl<L: Layout, G: Guest<L>, V: Device<L>> Model for Pair<L, G, V> {
 
     ghost view = { λ r. tt };
 
-    ghost invariant = { λ r. IsPair L.Driver.driver L.Device.device L.layout G.party V.party r.guest r.device r.end r.words.words r.events r.chains };
+    ghost invariant = { λ r. IsPair L.Driver.driver L.Device.device L.layout G.party V.party r.guest r.device r.end r.words.words
+        r.events r.chains };
 }
 
 impl<L: Layout, G: Guest<L>, V: Device<L>> Pair<L, G, V> {

@@ -8,11 +8,11 @@ ghost use Rattle.vd_layout.specs.Begun.{DeviceOp};
 ghost use Rattle.vd_layout.specs.Device.{IsDeviceStep};
 ghost use Rattle.vd_packed.specs.DeviceEnd.{DeviceStands, IsSignal, packed_device, number_at};
 ghost use Rattle.vd_packed.specs.Telling.{act_of, TakesNone};
-ghost use Rattle.vd_packed.specs.DeviceLaws.{device_laws};
+ghost use Rattle.vd_packed.specs.laws.DeviceLaws.{device_laws};
 
 use super::running::{find_head, guess, none_below};
 use super::{DeviceStep, PackedDevice, Told};
-use crate::spot::base_word;
+use crate::ring_position::base_word;
 use arrayvec::ArrayVec;
 use vd_layout::{BadBase, DeviceEnd};
 use vd_model::{Base, Chain, Features, Piece};
@@ -121,7 +121,8 @@ impl PackedDevice {
     fn advance<P: Port>(&mut self, port: &mut P) -> Told
         requires busy { ¬ (packed_device.begun self.old ≡ DeviceOp.idle) }
         requires own { (v : DeviceView) × DeviceStands self.old v × IsOwn P.port device_side port.old v }
-        ensures did { (v : DeviceView) → DeviceStands self.old v → IsOwn P.port device_side port.old v → IsDeviceStep P.port packed_device port.old port.new v self.old self.new (act_of result self.new.pieces.items) }
+        ensures did { (v : DeviceView) → DeviceStands self.old v → IsOwn P.port device_side port.old v
+            → IsDeviceStep P.port packed_device port.old port.new v self.old self.new (act_of result self.new.pieces.items) }
         ensures chain { (k : ℕ) → result ≡ Told.Taken k → IsChain self.new.pieces.items }
     {
         match self.doing {
@@ -150,7 +151,8 @@ impl PackedDevice {
     fn signal<P: Port>(&mut self, port: &mut P) -> Told
         requires now { IsSignal self.old.doing }
         requires own { (v : DeviceView) × DeviceStands self.old v × IsOwn P.port device_side port.old v }
-        ensures did { (v : DeviceView) → DeviceStands self.old v → IsOwn P.port device_side port.old v → IsDeviceStep P.port packed_device port.old port.new v self.old self.new (act_of result self.new.pieces.items) }
+        ensures did { (v : DeviceView) → DeviceStands self.old v → IsOwn P.port device_side port.old v
+            → IsDeviceStep P.port packed_device port.old port.new v self.old self.new (act_of result self.new.pieces.items) }
         ensures none { TakesNone result }
     {
         match self.doing {

@@ -8,7 +8,7 @@ ghost use Rattle.vd_packed.specs.DeviceEnd.{DeviceStands, packed_device};
 ghost use Rattle.vd_packed.specs.Telling.{act_of, TakesNone};
 
 use super::{DeviceStep, PackedDevice, Told};
-use crate::spot::forward;
+use crate::ring_position::forward;
 use crate::words::used_word;
 use vd_words::{Access, Op, Port};
 
@@ -19,7 +19,8 @@ impl PackedDevice {
     pub(super) fn give<P: Port>(&mut self, port: &mut P, number: u32, head: u32, len: u32) -> Told
         requires now { self.old.doing ≡ DeviceStep.Give number head len }
         requires own { (v : DeviceView) × DeviceStands self.old v × IsOwn P.port device_side port.old v }
-        ensures did { (v : DeviceView) → DeviceStands self.old v → IsOwn P.port device_side port.old v → IsDeviceStep P.port packed_device port.old port.new v self.old self.new (act_of result self.new.pieces.items) }
+        ensures did { (v : DeviceView) → DeviceStands self.old v → IsOwn P.port device_side port.old v
+            → IsDeviceStep P.port packed_device port.old port.new v self.old self.new (act_of result self.new.pieces.items) }
         ensures none { TakesNone result }
     {
         let word = used_word(len, head, self.used.wrap);
@@ -27,9 +28,9 @@ impl PackedDevice {
         let count = self.counts[head as usize];
         self.running[head as usize] = None;
         self.given += 1;
-        let spot = forward(self.used, count, self.size);
-        self.used.place = spot.place;
-        self.used.wrap = spot.wrap;
+        let ring_position = forward(self.used, count, self.size);
+        self.used.place = ring_position.place;
+        self.used.wrap = ring_position.wrap;
         self.used_position += count as u64;
         self.doing = DeviceStep::Check(count);
         Told::Given(number)

@@ -3,13 +3,13 @@ ghost use Rattle.std.specs.Prelude.{◌≡◌, ◌<◌, ◌≤◌, ◌+◌, ◌/
 ghost use Rattle.vd_packed_ring.specs.PackedWords.{goes_on, id_of, len_of};
 ghost use Rattle.vd_packed_ring.specs.PackedChains.{piece_of};
 ghost use Rattle.vd_packed.specs.Loaded.{HasSeen, HasMore, HasPiece, HasCounted, HasTaken, MayTake, names_its_table};
-ghost use Rattle.vd_packed.specs.Spots.{forward};
+ghost use Rattle.vd_packed.specs.RingPositions.{forward};
 ghost use Rattle.vd_packed.specs.Seconds.{shows_available};
 ghost use Rattle.vd_packed.specs.Telling.{TakesNone};
 
 use super::running::remember;
 use super::{DeviceStep, PackedDevice, Told};
-use crate::spot::forward;
+use crate::ring_position::forward;
 use crate::tables::{is_indirect, places_of};
 use crate::words::{has_next, piece_from, shows_available};
 use arrayvec::ArrayVec;
@@ -32,7 +32,8 @@ impl PackedDevice {
     /// The second word at the available position was loaded.
     #[inline(always)]
     pub(crate) fn saw(&mut self, word: u64) -> Told
-        ensures nothing { shows_available self.old.next.wrap word ≡ false → (result ≡ Told.Nothing) × (self.new ≡ record self.old { doing = DeviceStep.Idle }) }
+        ensures nothing { shows_available self.old.next.wrap word ≡ false
+            → (result ≡ Told.Nothing) × (self.new ≡ record self.old { doing = DeviceStep.Idle }) }
         ensures chain { shows_available self.old.next.wrap word ≡ true → (result ≡ Told.Moved) × HasSeen word self.old self.new }
         ensures none { TakesNone result }
     {
@@ -75,9 +76,9 @@ impl PackedDevice {
         ensures moved { result ≡ Told.Moved }
         ensures table { self.new ≡ record self.old { at = forward self.old.at 1 self.old.size; doing = DeviceStep.TableAddress } }
     {
-        let spot = forward(self.at, 1, self.size);
-        self.at.place = spot.place;
-        self.at.wrap = spot.wrap;
+        let ring_position = forward(self.at, 1, self.size);
+        self.at.place = ring_position.place;
+        self.at.wrap = ring_position.wrap;
         self.doing = DeviceStep::TableAddress;
         Told::Moved
     }
@@ -89,12 +90,14 @@ impl PackedDevice {
         requires some { (length self.old.pieces.items < 16) × (self.old.at.place < self.old.size) × (self.old.size ≤ 32768) }
         requires may { goes_on self.old.second ≡ false → MayTake self.old (id_of self.old.second) }
         ensures more { goes_on self.old.second ≡ true → (result ≡ Told.Moved) × HasMore addr self.old self.new }
-        ensures whole { goes_on self.old.second ≡ false → (result ≡ Told.Taken self.old.taken) × HasTaken (piece_of addr self.old.second) (forward self.old.at 1 self.old.size) (length self.old.pieces.items + 1) self.old self.new }
+        ensures whole { goes_on self.old.second ≡ false → (result ≡ Told.Taken self.old.taken)
+            × HasTaken (piece_of addr self.old.second) (forward self.old.at 1 self.old.size) (length self.old.pieces.items + 1) self.old
+            self.new }
     {
         self.pieces.push(piece_from(addr, self.second));
-        let spot = forward(self.at, 1, self.size);
-        self.at.place = spot.place;
-        self.at.wrap = spot.wrap;
+        let ring_position = forward(self.at, 1, self.size);
+        self.at.place = ring_position.place;
+        self.at.wrap = ring_position.wrap;
         if has_next(self.second) {
             self.doing = DeviceStep::Second;
             return Told::Moved;
@@ -118,8 +121,10 @@ impl PackedDevice {
     pub(crate) fn loaded_table_second(&mut self, addr: u64, word: u64) -> Told
         requires some { length self.old.pieces.items < 16 }
         requires may { len_of self.old.second / 16 ≤ length self.old.pieces.items + 1 → MayTake self.old (id_of self.old.second) }
-        ensures more { length self.old.pieces.items + 1 < len_of self.old.second / 16 → (result ≡ Told.Moved) × HasPiece (piece_of addr word) self.old self.new }
-        ensures whole { len_of self.old.second / 16 ≤ length self.old.pieces.items + 1 → (result ≡ Told.Taken self.old.taken) × HasTaken (piece_of addr word) self.old.at 1 self.old self.new }
+        ensures more { length self.old.pieces.items + 1 < len_of self.old.second / 16
+            → (result ≡ Told.Moved) × HasPiece (piece_of addr word) self.old self.new }
+        ensures whole { len_of self.old.second / 16 ≤ length self.old.pieces.items + 1 → (result ≡ Told.Taken self.old.taken)
+            × HasTaken (piece_of addr word) self.old.at 1 self.old self.new }
     {
         self.pieces.push(piece_from(addr, word));
         if self.pieces.len() < places_of(self.second) {

@@ -8,7 +8,7 @@ ghost use Rattle.vd_packed.specs.DeviceEnd.{DeviceStands};
 
 use super::{DeviceStep, PackedDevice};
 use crate::driver::make::kick_place;
-use crate::spot::first_spot;
+use crate::ring_position::first_ring_position;
 use arrayvec::ArrayVec;
 use std::alloc::{AllocError, Global};
 use vd_model::Features;
@@ -36,8 +36,10 @@ impl PackedDevice {
         control: bool,
     ) -> Result<PackedDevice, AllocError>
         requires { (0 < size) × (size ≤ 32768) }
-        ensures stands { IfOk result (λ e. (f : Frame) → IsMadeFor size features f → f.control ≡ control → DeviceStands e (fresh_device f (width f))) }
-        ensures idle { IfOk result (λ e. (e.doing ≡ DeviceStep.Idle) × (e.size ≡ size) × (e.features ≡ features) × (e.taken ≡ 0) × (e.given ≡ 0) × (e.armed ≡ false)) }
+        ensures stands { IfOk result (λ e. (f : Frame) → IsMadeFor size features f → f.control ≡ control
+            → DeviceStands e (fresh_device f (width f))) }
+        ensures idle { IfOk result (λ e. (e.doing ≡ DeviceStep.Idle) × (e.size ≡ size) × (e.features ≡ features) × (e.taken ≡ 0)
+            × (e.given ≡ 0) × (e.armed ≡ false)) }
     {
         let running = empty_table(alloc, size)?;
         let counts = zeros(alloc, size as usize)?;
@@ -48,8 +50,8 @@ impl PackedDevice {
             features,
             taken: 0,
             given: 0,
-            next: first_spot(),
-            used: first_spot(),
+            next: first_ring_position(),
+            used: first_ring_position(),
             next_position: 0,
             used_position: 0,
             running,
@@ -61,7 +63,7 @@ impl PackedDevice {
             bells: 0,
             pieces: ArrayVec::new(),
             second: 0,
-            at: first_spot(),
+            at: first_ring_position(),
             doing: DeviceStep::Idle,
         })
     }

@@ -18,7 +18,8 @@ impl PackedDevice {
     pub(super) fn check<P: Port>(&mut self, port: &mut P, count: u32) -> Told
         requires now { self.old.doing ≡ DeviceStep.Check count }
         requires own { (v : DeviceView) × DeviceStands self.old v × IsOwn P.port device_side port.old v }
-        ensures did { (v : DeviceView) → DeviceStands self.old v → IsOwn P.port device_side port.old v → IsDeviceStep P.port packed_device port.old port.new v self.old self.new (act_of result self.new.pieces.items) }
+        ensures did { (v : DeviceView) → DeviceStands self.old v → IsOwn P.port device_side port.old v
+            → IsDeviceStep P.port packed_device port.old port.new v self.old self.new (act_of result self.new.pieces.items) }
         ensures none { TakesNone result }
     {
         let word = port.access(Op::Give, Access::Load(2 * self.size));
@@ -36,7 +37,8 @@ impl PackedDevice {
     pub(super) fn ring<P: Port>(&mut self, port: &mut P) -> Told
         requires now { self.old.doing ≡ DeviceStep.Ring }
         requires own { (v : DeviceView) × DeviceStands self.old v × IsOwn P.port device_side port.old v }
-        ensures did { (v : DeviceView) → DeviceStands self.old v → IsOwn P.port device_side port.old v → IsDeviceStep P.port packed_device port.old port.new v self.old self.new (act_of result self.new.pieces.items) }
+        ensures did { (v : DeviceView) → DeviceStands self.old v → IsOwn P.port device_side port.old v
+            → IsDeviceStep P.port packed_device port.old port.new v self.old self.new (act_of result self.new.pieces.items) }
         ensures none { TakesNone result }
     {
         let bells = self.bells + 1;

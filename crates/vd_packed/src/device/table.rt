@@ -30,7 +30,8 @@ impl PackedDevice {
     pub(super) fn table_address<P: Port>(&mut self, port: &mut P) -> Told
         requires now { self.old.doing ≡ DeviceStep.TableAddress }
         requires own { (v : DeviceView) × DeviceStands self.old v × IsOwn P.port device_side port.old v }
-        ensures did { (v : DeviceView) → DeviceStands self.old v → IsOwn P.port device_side port.old v → IsDeviceStep P.port packed_device port.old port.new v self.old self.new (act_of result self.new.pieces.items) }
+        ensures did { (v : DeviceView) → DeviceStands self.old v → IsOwn P.port device_side port.old v
+            → IsDeviceStep P.port packed_device port.old port.new v self.old self.new (act_of result self.new.pieces.items) }
         ensures none { TakesNone result }
     {
         let place = self.table() + 2 * self.pieces.len() as u32;
@@ -43,7 +44,8 @@ impl PackedDevice {
     pub(super) fn table_second<P: Port>(&mut self, port: &mut P, addr: u64) -> Told
         requires now { self.old.doing ≡ DeviceStep.TableSecond addr }
         requires own { (v : DeviceView) × DeviceStands self.old v × IsOwn P.port device_side port.old v }
-        ensures did { (v : DeviceView) → DeviceStands self.old v → IsOwn P.port device_side port.old v → IsDeviceStep P.port packed_device port.old port.new v self.old self.new (act_of result self.new.pieces.items) }
+        ensures did { (v : DeviceView) → DeviceStands self.old v → IsOwn P.port device_side port.old v
+            → IsDeviceStep P.port packed_device port.old port.new v self.old self.new (act_of result self.new.pieces.items) }
         ensures chain { (k : ℕ) → result ≡ Told.Taken k → IsChain self.new.pieces.items }
     {
         let place = self.table() + 2 * self.pieces.len() as u32 + 1;

@@ -8,7 +8,7 @@ ghost use Rattle.vd_packed.specs.DriverEnd.{DriverStands, packed_driver};
 
 use super::ids::give_back;
 use super::{DriverStep, PackedDriver};
-use crate::spot::forward;
+use crate::ring_position::forward;
 use crate::words::shows_used;
 use vd_bits::{lane16, lane32};
 use vd_ring::DriverAct;
@@ -21,7 +21,8 @@ impl PackedDriver {
     pub(super) fn look<P: Port>(&mut self, port: &mut P) -> DriverAct
         requires now { self.old.doing ≡ DriverStep.Look }
         requires own { (v : DriverView) × DriverStands self.old v × IsOwn P.port driver_side port.old v }
-        ensures { (v : DriverView) → DriverStands self.old v → IsOwn P.port driver_side port.old v → IsDriverStep P.port packed_driver port.old port.new v self.old self.new result }
+        ensures { (v : DriverView) → DriverStands self.old v → IsOwn P.port driver_side port.old v
+            → IsDriverStep P.port packed_driver port.old port.new v self.old self.new result }
     {
         let word = port.access(Op::Collect, Access::Load(2 * self.used.place + 1));
         self.doing = DriverStep::Idle;
@@ -34,9 +35,9 @@ impl PackedDriver {
         give_back(&mut self.free, head);
         self.collected += 1;
         self.space += slot.count;
-        let spot = forward(self.used, slot.count, self.size);
-        self.used.place = spot.place;
-        self.used.wrap = spot.wrap;
+        let ring_position = forward(self.used, slot.count, self.size);
+        self.used.place = ring_position.place;
+        self.used.wrap = ring_position.wrap;
         self.used_position += slot.count as u64;
         DriverAct::Collected {
             number: slot.number,

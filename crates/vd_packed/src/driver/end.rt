@@ -5,12 +5,12 @@ ghost use Rattle.vd_ring.specs.declared.driver.DriverView.{DriverView};
 ghost use Rattle.vd_packed_ring.specs.PackedDriver.{driver_side};
 ghost use Rattle.vd_layout.specs.Driver.{IsDriverStep};
 ghost use Rattle.vd_packed.specs.DriverEnd.{DriverStands, IsSignal, packed_driver};
-ghost use Rattle.vd_packed.specs.DriverLaws.{driver_laws};
+ghost use Rattle.vd_packed.specs.laws.DriverLaws.{driver_laws};
 ghost use Rattle.vd_packed.specs.Tabled.{first_at, first_store};
 
 use super::ids::next_id;
 use super::{DriverStep, PackedDriver};
-use crate::spot::{Spot, forward};
+use crate::ring_position::{RingPosition, forward};
 use crate::tables::{is_tabled, needed};
 use arrayvec::ArrayVec;
 use vd_layout::DriverEnd;
@@ -57,14 +57,14 @@ impl DriverEnd for PackedDriver {
 
     fn begin_offer(&mut self, c: &Chain) {
         copy_pieces(&mut self.pieces, c.pieces());
-        let spot = first_at(
+        let ring_position = first_at(
             self.features.indirect,
             c.pieces().len(),
             self.next,
             self.size,
         );
-        self.at.place = spot.place;
-        self.at.wrap = spot.wrap;
+        self.at.place = ring_position.place;
+        self.at.wrap = ring_position.wrap;
         self.doing = first_store(self.features.indirect, c.pieces().len());
     }
 
@@ -110,7 +110,8 @@ impl PackedDriver {
     fn signal<P: Port>(&mut self, port: &mut P) -> DriverAct
         requires now { IsSignal self.old.doing }
         requires own { (v : DriverView) × DriverStands self.old v × IsOwn P.port driver_side port.old v }
-        ensures { (v : DriverView) → DriverStands self.old v → IsOwn P.port driver_side port.old v → IsDriverStep P.port packed_driver port.old port.new v self.old self.new result }
+        ensures { (v : DriverView) → DriverStands self.old v → IsOwn P.port driver_side port.old v
+            → IsDriverStep P.port packed_driver port.old port.new v self.old self.new result }
     {
         match self.doing {
             DriverStep::Idle
@@ -161,7 +162,7 @@ fn first_store(indirect: bool, pieces: usize) -> DriverStep
 
 /// Where its first descriptor stands, or, of a chain by a table, the first after its one.
 #[inline]
-fn first_at(indirect: bool, pieces: usize, next: Spot, size: u32) -> Spot
+fn first_at(indirect: bool, pieces: usize, next: RingPosition, size: u32) -> RingPosition
     requires { (next.place < size) × (1 ≤ size) × (size ≤ 32768) }
     ensures { result ≡ first_at indirect pieces next size }
 {

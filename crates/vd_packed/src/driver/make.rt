@@ -4,12 +4,12 @@ ghost use Rattle.vd_ring.specs.Fresh.{fresh_driver};
 ghost use Rattle.vd_ring.specs.declared.frame.Frame.{Frame};
 ghost use Rattle.vd_packed_ring.specs.PackedWords.{width};
 ghost use Rattle.vd_packed.specs.DriverEnd.{IsMadeFor, DriverStands};
-ghost use Rattle.vd_packed.specs.Spots.{all_words};
+ghost use Rattle.vd_packed.specs.RingPositions.{all_words};
 
 use super::ids::all_ids;
 use super::{DriverStep, PackedDriver, Slot};
 use crate::layout::all_words;
-use crate::spot::first_spot;
+use crate::ring_position::first_ring_position;
 use arrayvec::ArrayVec;
 use std::alloc::{AllocError, Global};
 use vd_model::Features;
@@ -42,7 +42,8 @@ impl PackedDriver {
         control: bool,
     ) -> Result<PackedDriver, AllocError>
         requires { (0 < size) × (size ≤ 32768) }
-        ensures stands { IfOk result (λ e. (f : Frame) → IsMadeFor size features f → f.control ≡ control → DriverStands e (fresh_driver f (width f))) }
+        ensures stands { IfOk result (λ e. (f : Frame) → IsMadeFor size features f → f.control ≡ control
+            → DriverStands e (fresh_driver f (width f))) }
         ensures idle { IfOk result (λ e. (e.doing ≡ DriverStep.Idle) × (e.size ≡ size) × (e.features ≡ features) × (e.armed ≡ false)) }
     {
         let free = all_ids(alloc, size)?;
@@ -52,8 +53,8 @@ impl PackedDriver {
             features,
             offered: 0,
             collected: 0,
-            next: first_spot(),
-            used: first_spot(),
+            next: first_ring_position(),
+            used: first_ring_position(),
             next_position: 0,
             used_position: 0,
             space: size,
@@ -64,7 +65,7 @@ impl PackedDriver {
             heard: 0,
             bells: 0,
             pieces: ArrayVec::new(),
-            at: first_spot(),
+            at: first_ring_position(),
             doing: DriverStep::Idle,
         })
     }

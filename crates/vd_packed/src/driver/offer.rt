@@ -5,12 +5,12 @@ ghost use Rattle.vd_ring.specs.declared.driver.DriverView.{DriverView};
 ghost use Rattle.vd_packed_ring.specs.PackedDriver.{driver_side};
 ghost use Rattle.vd_layout.specs.Driver.{IsDriverStep};
 ghost use Rattle.vd_packed.specs.DriverEnd.{DriverStands, packed_driver};
-ghost use Rattle.vd_packed.specs.Seconds.{described_step, spot_after};
+ghost use Rattle.vd_packed.specs.Seconds.{described_step, ring_position_after};
 ghost use Rattle.vd_packed.specs.Tabled.{tabled_step};
 
 use super::ids::{next_id, take_id};
 use super::{DriverStep, PackedDriver, Slot};
-use crate::spot::{Spot, forward};
+use crate::ring_position::{RingPosition, forward};
 use crate::tables::{needed, published_word, tabled_word};
 use crate::words::descriptor_word;
 use vd_ring::DriverAct;
@@ -44,14 +44,14 @@ fn after_tabled(at: u32, pieces: u32) -> DriverStep
 
 /// Where the descriptor of the store after number `at` stands.
 #[inline]
-fn spot_after(spot: Spot, at: u32, size: u32) -> Spot
-    requires { (spot.place < size) × (size ≤ 32768) }
-    ensures { result ≡ spot_after spot at size }
+fn ring_position_after(ring_position: RingPosition, at: u32, size: u32) -> RingPosition
+    requires { (ring_position.place < size) × (size ≤ 32768) }
+    ensures { result ≡ ring_position_after ring_position at size }
 {
     if at % 2 == 0 {
-        forward(spot, 1, size)
+        forward(ring_position, 1, size)
     } else {
-        spot
+        ring_position
     }
 }
 
@@ -61,16 +61,17 @@ impl PackedDriver {
     pub(super) fn describe<P: Port>(&mut self, port: &mut P, at: u32) -> DriverAct
         requires now { self.old.doing ≡ DriverStep.Describe at }
         requires own { (v : DriverView) × DriverStands self.old v × IsOwn P.port driver_side port.old v }
-        ensures { (v : DriverView) → DriverStands self.old v → IsOwn P.port driver_side port.old v → IsDriverStep P.port packed_driver port.old port.new v self.old self.new result }
+        ensures { (v : DriverView) → DriverStands self.old v → IsOwn P.port driver_side port.old v
+            → IsDriverStep P.port packed_driver port.old port.new v self.old self.new result }
     {
         let id = next_id(&self.free);
         let pieces = self.pieces.as_slice();
         let (place, word) = descriptor_word(pieces, id, self.at, at);
         let count = pieces.len() as u32;
         port.access(Op::Offer, Access::Store(place, word));
-        let spot = spot_after(self.at, at, self.size);
-        self.at.place = spot.place;
-        self.at.wrap = spot.wrap;
+        let ring_position = ring_position_after(self.at, at, self.size);
+        self.at.place = ring_position.place;
+        self.at.wrap = ring_position.wrap;
         self.doing = after_word(at, count);
         DriverAct::Moved
     }
@@ -80,7 +81,8 @@ impl PackedDriver {
     pub(super) fn tabulate<P: Port>(&mut self, port: &mut P, at: u32) -> DriverAct
         requires now { self.old.doing ≡ DriverStep.Table at }
         requires own { (v : DriverView) × DriverStands self.old v × IsOwn P.port driver_side port.old v }
-        ensures { (v : DriverView) → DriverStands self.old v → IsOwn P.port driver_side port.old v → IsDriverStep P.port packed_driver port.old port.new v self.old self.new result }
+        ensures { (v : DriverView) → DriverStands self.old v → IsOwn P.port driver_side port.old v
+            → IsDriverStep P.port packed_driver port.old port.new v self.old self.new result }
     {
         let id = next_id(&self.free);
         let pieces = self.pieces.as_slice();
@@ -97,7 +99,8 @@ impl PackedDriver {
     pub(super) fn publish<P: Port>(&mut self, port: &mut P) -> DriverAct
         requires now { self.old.doing ≡ DriverStep.Publish }
         requires own { (v : DriverView) × DriverStands self.old v × IsOwn P.port driver_side port.old v }
-        ensures { (v : DriverView) → DriverStands self.old v → IsOwn P.port driver_side port.old v → IsDriverStep P.port packed_driver port.old port.new v self.old self.new result }
+        ensures { (v : DriverView) → DriverStands self.old v → IsOwn P.port driver_side port.old v
+            → IsDriverStep P.port packed_driver port.old port.new v self.old self.new result }
     {
         let id = next_id(&self.free);
         let pieces = self.pieces.as_slice();

@@ -18,7 +18,8 @@ impl PackedDriver {
     pub(super) fn check<P: Port>(&mut self, port: &mut P, count: u32) -> DriverAct
         requires now { self.old.doing ≡ DriverStep.Check count }
         requires own { (v : DriverView) × DriverStands self.old v × IsOwn P.port driver_side port.old v }
-        ensures { (v : DriverView) → DriverStands self.old v → IsOwn P.port driver_side port.old v → IsDriverStep P.port packed_driver port.old port.new v self.old self.new result }
+        ensures { (v : DriverView) → DriverStands self.old v → IsOwn P.port driver_side port.old v
+            → IsDriverStep P.port packed_driver port.old port.new v self.old self.new result }
     {
         let word = port.access(Op::Offer, Access::Load(2 * self.size + 1));
         let new = self.next_position;
@@ -35,7 +36,8 @@ impl PackedDriver {
     pub(super) fn ring<P: Port>(&mut self, port: &mut P) -> DriverAct
         requires now { self.old.doing ≡ DriverStep.Ring }
         requires own { (v : DriverView) × DriverStands self.old v × IsOwn P.port driver_side port.old v }
-        ensures { (v : DriverView) → DriverStands self.old v → IsOwn P.port driver_side port.old v → IsDriverStep P.port packed_driver port.old port.new v self.old self.new result }
+        ensures { (v : DriverView) → DriverStands self.old v → IsOwn P.port driver_side port.old v
+            → IsDriverStep P.port packed_driver port.old port.new v self.old self.new result }
     {
         let bells = self.bells + 1;
         port.access(Op::Offer, Access::Store(self.kick, bells));

@@ -20,7 +20,8 @@ impl PackedDriver {
     pub(super) fn arm<P: Port>(&mut self, port: &mut P) -> DriverAct
         requires now { self.old.doing ≡ DriverStep.Arm }
         requires own { (v : DriverView) × DriverStands self.old v × IsOwn P.port driver_side port.old v }
-        ensures { (v : DriverView) → DriverStands self.old v → IsOwn P.port driver_side port.old v → IsDriverStep P.port packed_driver port.old port.new v self.old self.new result }
+        ensures { (v : DriverView) → DriverStands self.old v → IsOwn P.port driver_side port.old v
+            → IsDriverStep P.port packed_driver port.old port.new v self.old self.new result }
     {
         let word = armed_word(self.size, self.features.event_idx, self.used_position);
         port.access(Op::Arm, Access::Store(2 * self.size, word));
@@ -34,7 +35,8 @@ impl PackedDriver {
     pub(super) fn look_again<P: Port>(&mut self, port: &mut P) -> DriverAct
         requires now { self.old.doing ≡ DriverStep.LookAgain }
         requires own { (v : DriverView) × DriverStands self.old v × IsOwn P.port driver_side port.old v }
-        ensures { (v : DriverView) → DriverStands self.old v → IsOwn P.port driver_side port.old v → IsDriverStep P.port packed_driver port.old port.new v self.old self.new result }
+        ensures { (v : DriverView) → DriverStands self.old v → IsOwn P.port driver_side port.old v
+            → IsDriverStep P.port packed_driver port.old port.new v self.old self.new result }
     {
         let word = port.access(Op::Arm, Access::Load(2 * self.used.place + 1));
         if !shows_used(word, self.used.wrap) {
@@ -55,7 +57,8 @@ impl PackedDriver {
     pub(super) fn hear<P: Port>(&mut self, port: &mut P) -> DriverAct
         requires now { self.old.doing ≡ DriverStep.Hear }
         requires own { (v : DriverView) × DriverStands self.old v × IsOwn P.port driver_side port.old v }
-        ensures { (v : DriverView) → DriverStands self.old v → IsOwn P.port driver_side port.old v → IsDriverStep P.port packed_driver port.old port.new v self.old self.new result }
+        ensures { (v : DriverView) → DriverStands self.old v → IsOwn P.port driver_side port.old v
+            → IsDriverStep P.port packed_driver port.old port.new v self.old self.new result }
     {
         let word = port.access(Op::Hear, Access::Load(self.kick + 1));
         if word == self.heard {
@@ -77,7 +80,8 @@ impl PackedDriver {
     pub(super) fn disarm<P: Port>(&mut self, port: &mut P) -> DriverAct
         requires now { self.old.doing ≡ DriverStep.Disarm }
         requires own { (v : DriverView) × DriverStands self.old v × IsOwn P.port driver_side port.old v }
-        ensures { (v : DriverView) → DriverStands self.old v → IsOwn P.port driver_side port.old v → IsDriverStep P.port packed_driver port.old port.new v self.old self.new result }
+        ensures { (v : DriverView) → DriverStands self.old v → IsOwn P.port driver_side port.old v
+            → IsDriverStep P.port packed_driver port.old port.new v self.old self.new result }
     {
         if self.features.event_idx {
             port.access(Op::Disarm, Access::Load(self.kick + 1));
@@ -94,7 +98,8 @@ impl PackedDriver {
         requires now { Wakes self.old.doing op }
         requires flags { self.old.features.event_idx ≡ false }
         requires own { (v : DriverView) × DriverStands self.old v × IsOwn P.port driver_side port.old v }
-        ensures { (v : DriverView) → DriverStands self.old v → IsOwn P.port driver_side port.old v → IsDriverStep P.port packed_driver port.old port.new v self.old self.new result }
+        ensures { (v : DriverView) → DriverStands self.old v → IsOwn P.port driver_side port.old v
+            → IsDriverStep P.port packed_driver port.old port.new v self.old self.new result }
     {
         port.access(op, Access::Store(2 * self.size, disarmed_word(self.size)));
         self.armed = false;

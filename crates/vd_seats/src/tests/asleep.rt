@@ -16,7 +16,8 @@ fn hear_driver<L: Layout>(end: &mut L::Driver, port: &mut SeatPort<L>) -> Driver
     requires idle { L.Driver.driver.begun end.old ≡ DriverOp.idle }
     requires armed { L.Driver.driver.armed end.old ≡ true }
     requires at { (v : DriverView) × L.Driver.driver.stands end.old v × DrivesAt L.layout port.old v }
-    ensures { (v : DriverView) → L.Driver.driver.stands end.old v → DrivesAt L.layout port.old v → result ≡ driver_act.Asleep → (u : DriverView) × (u.done ≡ v.done) × DriverSlept L.layout u }
+    ensures { (v : DriverView) → L.Driver.driver.stands end.old v → DrivesAt L.layout port.old v → result ≡ driver_act.Asleep
+        → (u : DriverView) × (u.done ≡ v.done) × DriverSlept L.layout u }
 {
     port.is_drivers();
     end.begin_hear();
@@ -29,7 +30,8 @@ fn hear_device<L: Layout>(end: &mut L::Device, port: &mut SeatPort<L>) -> Device
     requires awake { L.Device.device.resting end.old ≡ false }
     requires armed { L.Device.device.armed end.old ≡ true }
     requires at { (w : DeviceView) × L.Device.device.stands end.old w × ServesAt L.layout port.old w }
-    ensures { (w : DeviceView) → L.Device.device.stands end.old w → ServesAt L.layout port.old w → result ≡ device_act.Asleep → (u : DeviceView) × (u.done ≡ w.done) × DeviceSlept L.layout u }
+    ensures { (w : DeviceView) → L.Device.device.stands end.old w → ServesAt L.layout port.old w → result ≡ device_act.Asleep
+        → (u : DeviceView) × (u.done ≡ w.done) × DeviceSlept L.layout u }
 {
     port.is_devices();
     end.begin_hear();
@@ -41,7 +43,8 @@ fn collect<L: Layout>(end: &mut L::Driver, port: &mut SeatPort<L>) -> DriverAct
     requires idle { L.Driver.driver.begun end.old ≡ DriverOp.idle }
     requires unarmed { L.Driver.driver.armed end.old ≡ false }
     requires at { (v : DriverView) × L.Driver.driver.stands end.old v × DrivesAt L.layout port.old v }
-    ensures { (v : DriverView) → L.Driver.driver.stands end.old v → DrivesAt L.layout port.old v → result ≡ driver_act.Nothing → (u : DriverView) × (u.done ≡ v.done) × DriverSawAll L.layout u }
+    ensures { (v : DriverView) → L.Driver.driver.stands end.old v → DrivesAt L.layout port.old v → result ≡ driver_act.Nothing
+        → (u : DriverView) × (u.done ≡ v.done) × DriverSawAll L.layout u }
 {
     port.is_drivers();
     end.begin_collect();
@@ -54,7 +57,8 @@ fn take<L: Layout>(end: &mut L::Device, port: &mut SeatPort<L>) -> DeviceAct
     requires awake { L.Device.device.resting end.old ≡ false }
     requires unarmed { L.Device.device.armed end.old ≡ false }
     requires at { (w : DeviceView) × L.Device.device.stands end.old w × ServesAt L.layout port.old w }
-    ensures { (w : DeviceView) → L.Device.device.stands end.old w → ServesAt L.layout port.old w → result ≡ device_act.Nothing → (u : DeviceView) × (u.done ≡ w.done) × DeviceSawAll L.layout u }
+    ensures { (w : DeviceView) → L.Device.device.stands end.old w → ServesAt L.layout port.old w → result ≡ device_act.Nothing
+        → (u : DeviceView) × (u.done ≡ w.done) × DeviceSawAll L.layout u }
 {
     port.is_devices();
     end.begin_take();

@@ -88,8 +88,10 @@ fn run_two<
 >(rt: &R, driver: D, first: P, device: E, second: Q, count: u32) -> ((D, P, u64), (E, Q, u64))
     requires drives { (v : DriverView) × DriverOn P.port D.driver first v driver × IsOpen v.frame }
     requires serves { (w : DeviceView) × DeviceOn Q.port E.device second w device }
-    ensures drives { (v : DriverView) → DriverOn P.port D.driver first v driver → IsOpen v.frame → DriverRan P.port D.driver first v result.0.1 result.0.0 }
-    ensures serves { (w : DeviceView) → DeviceOn Q.port E.device second w device → DeviceRan Q.port E.device second w result.1.1 result.1.0 }
+    ensures drives { (v : DriverView) → DriverOn P.port D.driver first v driver → IsOpen v.frame
+        → DriverRan P.port D.driver first v result.0.1 result.0.0 }
+    ensures serves { (w : DeviceView) → DeviceOn Q.port E.device second w device
+        → DeviceRan Q.port E.device second w result.1.1 result.1.0 }
 {
     join(
         rt,

@@ -9,7 +9,7 @@ ghost use Rattle.vd_ring.specs.declared.device.DeviceView.{DeviceView};
 ghost use Rattle.vd_packed_ring.specs.PackedWords.{IsDrivers, IsDevices};
 ghost use Rattle.vd_packed_ring.specs.PackedDriver.{DriverNext, ShowsGives};
 ghost use Rattle.vd_packed_ring.specs.PackedDevice.{DeviceNext, ShowsChains, BeginsChain};
-ghost use Rattle.vd_packed.specs.PackedLayout.{packed_layout};
+ghost use Rattle.vd_packed.specs.laws.PackedLayout.{packed_layout};
 ghost use Rattle.vd_seats.specs.Seat.{DrivesAt, ServesAt};
 
 use crate::SeatPort;
@@ -54,8 +54,10 @@ fn look_device(port: &mut SeatPort<Packed>, place: u32) -> u64
 /// and is a control chain of that head on a control ring. The last load completes it, and with it no more is taken than there are
 /// places.
 fn load_chain(port: &mut SeatPort<Packed>, place: u32) -> u64
-    requires { (w : DeviceView) × (x : ℕ) × (xs : List ℕ) × ServesAt packed_layout port.old w × (w.doing ≡ device.Taking (x ∷ xs)) × DeviceNext w op.Take (Load place) }
-    ensures { (w : DeviceView) (x : ℕ) (xs : List ℕ) → ServesAt packed_layout port.old w → w.doing ≡ device.Taking (x ∷ xs) → BeginsChain w.frame w.done (x ∷ xs ++ result ∷ []) }
+    requires { (w : DeviceView) × (x : ℕ) × (xs : List ℕ) × ServesAt packed_layout port.old w × (w.doing ≡ device.Taking (x ∷ xs))
+        × DeviceNext w op.Take (Load place) }
+    ensures { (w : DeviceView) (x : ℕ) (xs : List ℕ) → ServesAt packed_layout port.old w → w.doing ≡ device.Taking (x ∷ xs)
+        → BeginsChain w.frame w.done (x ∷ xs ++ result ∷ []) }
 {
     port.access(Op::Take, Access::Load(place))
 }

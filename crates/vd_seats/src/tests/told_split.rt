@@ -12,7 +12,7 @@ ghost use Rattle.vd_ring.specs.History.{takes};
 ghost use Rattle.vd_split_ring.specs.SplitWords.{IsDrivers, IsDevices};
 ghost use Rattle.vd_split_ring.specs.SplitDriver.{DriverNext, ShowsGives, NamesOpen};
 ghost use Rattle.vd_split_ring.specs.SplitDevice.{DeviceNext, ShowsChains, IsNewHead, BeginsChain, loaded_head};
-ghost use Rattle.vd_split.specs.SplitLayout.{split_layout};
+ghost use Rattle.vd_split.specs.laws.SplitLayout.{split_layout};
 ghost use Rattle.vd_seats.specs.Seat.{DrivesAt, ServesAt};
 
 use crate::SeatPort;
@@ -55,8 +55,10 @@ fn look_device(port: &mut SeatPort<Split>, place: u32) -> u64
 
 /// The load of a take's entry: its head is a place of the ring, and the head of no chain taken and not given.
 fn load_head(port: &mut SeatPort<Split>, place: u32) -> u64
-    requires { (w : DeviceView) × (r : ℕ) × ServesAt split_layout port.old w × (w.doing ≡ device.Taking (r ∷ [])) × DeviceNext w op.Take (Load place) }
-    ensures { (w : DeviceView) (r : ℕ) → ServesAt split_layout port.old w → w.doing ≡ device.Taking (r ∷ []) → IsNewHead w.frame w.done (loaded_head w.frame (length (takes w.done)) result) }
+    requires { (w : DeviceView) × (r : ℕ) × ServesAt split_layout port.old w × (w.doing ≡ device.Taking (r ∷ []))
+        × DeviceNext w op.Take (Load place) }
+    ensures { (w : DeviceView) (r : ℕ) → ServesAt split_layout port.old w → w.doing ≡ device.Taking (r ∷ [])
+        → IsNewHead w.frame w.done (loaded_head w.frame (length (takes w.done)) result) }
 {
     port.access(Op::Take, Access::Load(place))
 }
@@ -64,16 +66,20 @@ fn load_head(port: &mut SeatPort<Split>, place: u32) -> u64
 /// The load of a chain's word: the words loaded so far are the first words of one chain at the head, which may stand on the ring and
 /// is a control chain of its head on a control ring. The last load completes it, and with it no more is taken than there are places.
 fn load_chain(port: &mut SeatPort<Split>, place: u32) -> u64
-    requires { (w : DeviceView) × (r : ℕ) × (x : ℕ) × (xs : List ℕ) × ServesAt split_layout port.old w × (w.doing ≡ device.Taking (r ∷ x ∷ xs)) × DeviceNext w op.Take (Load place) }
-    ensures { (w : DeviceView) (r x : ℕ) (xs : List ℕ) → ServesAt split_layout port.old w → w.doing ≡ device.Taking (r ∷ x ∷ xs) → BeginsChain w.frame w.done (loaded_head w.frame (length (takes w.done)) x) (xs ++ result ∷ []) }
+    requires { (w : DeviceView) × (r : ℕ) × (x : ℕ) × (xs : List ℕ) × ServesAt split_layout port.old w
+        × (w.doing ≡ device.Taking (r ∷ x ∷ xs)) × DeviceNext w op.Take (Load place) }
+    ensures { (w : DeviceView) (r x : ℕ) (xs : List ℕ) → ServesAt split_layout port.old w → w.doing ≡ device.Taking (r ∷ x ∷ xs)
+        → BeginsChain w.frame w.done (loaded_head w.frame (length (takes w.done)) x) (xs ++ result ∷ []) }
 {
     port.access(Op::Take, Access::Load(place))
 }
 
 /// The load of a used entry's first word: it names the head of a chain offered and not collected, which may come next.
 fn load_used(port: &mut SeatPort<Split>, place: u32) -> u64
-    requires { (v : DriverView) × (r : ℕ) × DrivesAt split_layout port.old v × (v.doing ≡ driver.Collecting (r ∷ [])) × DriverNext v op.Collect (Load place) }
-    ensures { (v : DriverView) (r : ℕ) → DrivesAt split_layout port.old v → v.doing ≡ driver.Collecting (r ∷ []) → NamesOpen v.frame v.done (lane32 result 1) }
+    requires { (v : DriverView) × (r : ℕ) × DrivesAt split_layout port.old v × (v.doing ≡ driver.Collecting (r ∷ []))
+        × DriverNext v op.Collect (Load place) }
+    ensures { (v : DriverView) (r : ℕ) → DrivesAt split_layout port.old v → v.doing ≡ driver.Collecting (r ∷ [])
+        → NamesOpen v.frame v.done (lane32 result 1) }
 {
     port.access(Op::Collect, Access::Load(place))
 }

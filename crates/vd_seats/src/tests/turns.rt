@@ -13,7 +13,8 @@ use vd_words::Port;
 /// Offers a chain of one piece where fewer were offered, there is room for it and the end isn't armed.
 pub fn offer_one<E: DriverEnd, P: Port>(end: &mut E, port: &mut P, count: u32, piece: Piece) -> bool
     requires { (v : DriverView) × DriverOn P.port E.driver port.old v end.old × IsOpen v.frame }
-    ensures { (v : DriverView) → DriverOn P.port E.driver port.old v end.old → IsOpen v.frame → DriverRan P.port E.driver port.old v port.new end.new }
+    ensures { (v : DriverView) → DriverOn P.port E.driver port.old v end.old → IsOpen v.frame
+        → DriverRan P.port E.driver port.old v port.new end.new }
 {
     let offered = end.offered();
     if offered >= count {
@@ -88,7 +89,8 @@ fn collected_of(act: DriverAct) -> Option<u64> {
 // Offers and collects, and arms where nothing came of either.
 fn work_driver<E: DriverEnd, P: Port>(end: &mut E, port: &mut P, count: u32) -> u64
     requires { (v : DriverView) × DriverOn P.port E.driver port.old v end.old × IsOpen v.frame }
-    ensures { (v : DriverView) → DriverOn P.port E.driver port.old v end.old → IsOpen v.frame → DriverRan P.port E.driver port.old v port.new end.new }
+    ensures { (v : DriverView) → DriverOn P.port E.driver port.old v end.old → IsOpen v.frame
+        → DriverRan P.port E.driver port.old v port.new end.new }
 {
     let piece = next_piece(end);
     let offered = offer_one(end, port, count, piece);
@@ -100,7 +102,8 @@ fn work_driver<E: DriverEnd, P: Port>(end: &mut E, port: &mut P, count: u32) -> 
 /// One turn of a driver that offers so many chains: None where it sleeps on, else what the chain collected counts.
 pub fn turn_driver<E: DriverEnd, P: Port>(end: &mut E, port: &mut P, count: u32) -> Option<u64>
     requires { (v : DriverView) × DriverOn P.port E.driver port.old v end.old × IsOpen v.frame }
-    ensures { (v : DriverView) → DriverOn P.port E.driver port.old v end.old → IsOpen v.frame → DriverRan P.port E.driver port.old v port.new end.new }
+    ensures { (v : DriverView) → DriverOn P.port E.driver port.old v end.old → IsOpen v.frame
+        → DriverRan P.port E.driver port.old v port.new end.new }
 {
     if end.armed() {
         return (hear_driver(end, port) != DriverAct::Asleep).then_some(0);

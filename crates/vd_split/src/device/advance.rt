@@ -20,7 +20,8 @@ impl SplitDevice {
     pub(super) fn advance<P: Port>(&mut self, port: &mut P) -> Told
         requires busy { ¬ (split_device.begun self.old ≡ DeviceOp.idle) }
         requires own { (v : DeviceView) × DeviceStands self.old v × IsOwn P.port device_side port.old v }
-        ensures did { (v : DeviceView) → DeviceStands self.old v → IsOwn P.port device_side port.old v → IsDeviceStep P.port split_device port.old port.new v self.old self.new (act_of result self.new.pieces.items) }
+        ensures did { (v : DeviceView) → DeviceStands self.old v → IsOwn P.port device_side port.old v
+            → IsDeviceStep P.port split_device port.old port.new v self.old self.new (act_of result self.new.pieces.items) }
         ensures chain { (k : ℕ) → result ≡ Told.Taken k → IsChain self.new.pieces.items }
     {
         match self.doing {
@@ -35,9 +36,9 @@ impl SplitDevice {
             DeviceStep::TableSecond(word, head, count) => {
                 self.table_second(port, word, head, count)
             }
-            DeviceStep::Name(number, head, len) => self.name(port, number, head, len),
-            DeviceStep::Measure(number, head, len) => self.measure(port, number, head, len),
-            DeviceStep::Publish(number, head, len) => self.publish(port, number, head, len),
+            DeviceStep::StoreId(number, head, len) => self.store_id(port, number, head, len),
+            DeviceStep::StoreLen(number, head, len) => self.store_len(port, number, head, len),
+            DeviceStep::StoreIndex(number, head, len) => self.store_index(port, number, head, len),
             DeviceStep::Check(old, new) => self.check(port, old, new),
             DeviceStep::Ring(old, new) => self.ring(port, old, new),
             _ => self.doze(port),
@@ -49,7 +50,8 @@ impl SplitDevice {
     fn doze<P: Port>(&mut self, port: &mut P) -> Told
         requires now { DeviceSleeps self.old.doing }
         requires own { (v : DeviceView) × DeviceStands self.old v × IsOwn P.port device_side port.old v }
-        ensures did { (v : DeviceView) → DeviceStands self.old v → IsOwn P.port device_side port.old v → IsDeviceStep P.port split_device port.old port.new v self.old self.new (act_of result self.new.pieces.items) }
+        ensures did { (v : DeviceView) → DeviceStands self.old v → IsOwn P.port device_side port.old v
+            → IsDeviceStep P.port split_device port.old port.new v self.old self.new (act_of result self.new.pieces.items) }
         ensures chain { (k : ℕ) → ¬ (result ≡ Told.Taken k) }
     {
         match self.doing {

@@ -1,7 +1,7 @@
 //! What the device's end offers its holder.
 ghost use Rattle.std.specs.Prelude.{◌≡◌, ◌↔◌, IsTrue, ◌≤◌, ℕ, Option, Some};
 ghost use Rattle.vd_split.specs.DeviceEnd.{split_device, number_at};
-ghost use Rattle.vd_split.specs.DeviceLaws.{device_laws};
+ghost use Rattle.vd_split.specs.laws.DeviceLaws.{device_laws};
 
 use super::advance::chain_of;
 use super::running::{find_head, none_below};
@@ -58,7 +58,7 @@ impl DeviceEnd for SplitDevice {
 
     fn begin_give(&mut self, k: u32, len: u32) {
         match find_head(&self.running, self.size, self.guess(k), k) {
-            Some(head) => self.doing = DeviceStep::Name(k, head, len),
+            Some(head) => self.doing = DeviceStep::StoreId(k, head, len),
             None => unreachable!(),
         }
     }

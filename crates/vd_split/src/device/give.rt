@@ -16,53 +16,62 @@ use vd_words::{Access, Op, Port};
 impl SplitDevice {
     /// The store of the next entry's id: the chain's head.
     #[inline(always)]
-    pub(super) fn name<P: Port>(&mut self, port: &mut P, number: u32, head: u32, len: u32) -> Told
-        requires now { self.old.doing ≡ DeviceStep.Name number head len }
-        requires own { (v : DeviceView) × DeviceStands self.old v × IsOwn P.port device_side port.old v }
-        ensures { (v : DeviceView) → DeviceStands self.old v → IsOwn P.port device_side port.old v → IsDeviceStep P.port split_device port.old port.new v self.old self.new (act_of result self.new.pieces.items) }
-    {
-        let i = self.used;
-        let word = set_lane32(self.area[i as usize], 1, head);
-        port.access(Op::Give, Access::Store(used_area(self.size) + i, word));
-        self.area[i as usize] = word;
-        self.doing = DeviceStep::Measure(number, head, len);
-        Told::Moved
-    }
-
-    /// The store of its length.
-    #[inline(always)]
-    pub(super) fn measure<P: Port>(
+    pub(super) fn store_id<P: Port>(
         &mut self,
         port: &mut P,
         number: u32,
         head: u32,
         len: u32,
     ) -> Told
-        requires now { self.old.doing ≡ DeviceStep.Measure number head len }
+        requires now { self.old.doing ≡ DeviceStep.StoreId number head len }
         requires own { (v : DeviceView) × DeviceStands self.old v × IsOwn P.port device_side port.old v }
-        ensures { (v : DeviceView) → DeviceStands self.old v → IsOwn P.port device_side port.old v → IsDeviceStep P.port split_device port.old port.new v self.old self.new (act_of result self.new.pieces.items) }
+        ensures { (v : DeviceView) → DeviceStands self.old v → IsOwn P.port device_side port.old v
+            → IsDeviceStep P.port split_device port.old port.new v self.old self.new (act_of result self.new.pieces.items) }
+    {
+        let i = self.used;
+        let word = set_lane32(self.area[i as usize], 1, head);
+        port.access(Op::Give, Access::Store(used_area(self.size) + i, word));
+        self.area[i as usize] = word;
+        self.doing = DeviceStep::StoreLen(number, head, len);
+        Told::Moved
+    }
+
+    /// The store of its length.
+    #[inline(always)]
+    pub(super) fn store_len<P: Port>(
+        &mut self,
+        port: &mut P,
+        number: u32,
+        head: u32,
+        len: u32,
+    ) -> Told
+        requires now { self.old.doing ≡ DeviceStep.StoreLen number head len }
+        requires own { (v : DeviceView) × DeviceStands self.old v × IsOwn P.port device_side port.old v }
+        ensures { (v : DeviceView) → DeviceStands self.old v → IsOwn P.port device_side port.old v
+            → IsDeviceStep P.port split_device port.old port.new v self.old self.new (act_of result self.new.pieces.items) }
     {
         let i = self.used + 1;
         let word = set_lane32(self.area[i as usize], 0, len);
         port.access(Op::Give, Access::Store(used_area(self.size) + i, word));
         self.area[i as usize] = word;
-        self.doing = DeviceStep::Publish(number, head, len);
+        self.doing = DeviceStep::StoreIndex(number, head, len);
         Told::Moved
     }
 
     /// The store of the index, after the whole entry: by it the chain is given. The driver's look at it is the first
     /// access of its collect.
     #[inline(always)]
-    pub(super) fn publish<P: Port>(
+    pub(super) fn store_index<P: Port>(
         &mut self,
         port: &mut P,
         number: u32,
         head: u32,
         len: u32,
     ) -> Told
-        requires now { self.old.doing ≡ DeviceStep.Publish number head len }
+        requires now { self.old.doing ≡ DeviceStep.StoreIndex number head len }
         requires own { (v : DeviceView) × DeviceStands self.old v × IsOwn P.port device_side port.old v }
-        ensures { (v : DeviceView) → DeviceStands self.old v → IsOwn P.port device_side port.old v → IsDeviceStep P.port split_device port.old port.new v self.old self.new (act_of result self.new.pieces.items) }
+        ensures { (v : DeviceView) → DeviceStands self.old v → IsOwn P.port device_side port.old v
+            → IsDeviceStep P.port split_device port.old port.new v self.old self.new (act_of result self.new.pieces.items) }
     {
         let _ = len;
         let word = set_lane16(self.area[0], 1, ((self.given + 1) % 0x1_0000) as u16);
@@ -81,7 +90,8 @@ impl SplitDevice {
     pub(super) fn rest<P: Port>(&mut self, port: &mut P) -> Told
         requires now { self.old.doing ≡ DeviceStep.RestLook }
         requires own { (v : DeviceView) × DeviceStands self.old v × IsOwn P.port device_side port.old v }
-        ensures { (v : DeviceView) → DeviceStands self.old v → IsOwn P.port device_side port.old v → IsDeviceStep P.port split_device port.old port.new v self.old self.new (act_of result self.new.pieces.items) }
+        ensures { (v : DeviceView) → DeviceStands self.old v → IsOwn P.port device_side port.old v
+            → IsDeviceStep P.port split_device port.old port.new v self.old self.new (act_of result self.new.pieces.items) }
     {
         port.access(Op::Rest, Access::Load(2 * self.size));
         self.taken = self.given;

@@ -36,8 +36,10 @@ impl SplitDevice {
         control: bool,
     ) -> Result<SplitDevice, AllocError>
         requires { (0 < size) × (size ≤ 32768) }
-        ensures stands { IfOk result (λ e. (f : Frame) → IsMadeFor size features f → f.control ≡ control → DeviceStands e (fresh_device f (width f))) }
-        ensures idle { IfOk result (λ e. (e.doing ≡ DeviceStep.Idle) × (e.size ≡ size) × (e.features ≡ features) × (e.taken ≡ 0) × (e.given ≡ 0) × (e.armed ≡ false)) }
+        ensures stands { IfOk result (λ e. (f : Frame) → IsMadeFor size features f → f.control ≡ control
+            → DeviceStands e (fresh_device f (width f))) }
+        ensures idle { IfOk result (λ e. (e.doing ≡ DeviceStep.Idle) × (e.size ≡ size) × (e.features ≡ features) × (e.taken ≡ 0)
+            × (e.given ≡ 0) × (e.armed ≡ false)) }
     {
         let running = empty_table(alloc, size)?;
         let guesses = no_guesses(alloc, size)?;

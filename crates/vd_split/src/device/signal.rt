@@ -19,7 +19,8 @@ impl SplitDevice {
     pub(super) fn check<P: Port>(&mut self, port: &mut P, old: u64, new: u64) -> Told
         requires now { self.old.doing ≡ DeviceStep.Check old new }
         requires own { (v : DeviceView) × DeviceStands self.old v × IsOwn P.port device_side port.old v }
-        ensures { (v : DeviceView) → DeviceStands self.old v → IsOwn P.port device_side port.old v → IsDeviceStep P.port split_device port.old port.new v self.old self.new (act_of result self.new.pieces.items) }
+        ensures { (v : DeviceView) → DeviceStands self.old v → IsOwn P.port device_side port.old v
+            → IsDeviceStep P.port split_device port.old port.new v self.old self.new (act_of result self.new.pieces.items) }
     {
         let event_idx = self.features.event_idx;
         let lane = own_lane(self.size, event_idx);
@@ -38,7 +39,8 @@ impl SplitDevice {
     pub(super) fn ring<P: Port>(&mut self, port: &mut P, old: u64, new: u64) -> Told
         requires now { self.old.doing ≡ DeviceStep.Ring old new }
         requires own { (v : DeviceView) × DeviceStands self.old v × IsOwn P.port device_side port.old v }
-        ensures { (v : DeviceView) → DeviceStands self.old v → IsOwn P.port device_side port.old v → IsDeviceStep P.port split_device port.old port.new v self.old self.new (act_of result self.new.pieces.items) }
+        ensures { (v : DeviceView) → DeviceStands self.old v → IsOwn P.port device_side port.old v
+            → IsDeviceStep P.port split_device port.old port.new v self.old self.new (act_of result self.new.pieces.items) }
     {
         let bells = self.bells + 1;
         port.access(Op::Give, Access::Store(self.kick + 1, bells));

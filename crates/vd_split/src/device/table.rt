@@ -27,7 +27,8 @@ impl SplitDevice {
     ) -> Told
         requires now { self.old.doing ≡ DeviceStep.TableAddress word head count }
         requires own { (v : DeviceView) × DeviceStands self.old v × IsOwn P.port device_side port.old v }
-        ensures { (v : DeviceView) → DeviceStands self.old v → IsOwn P.port device_side port.old v → IsDeviceStep P.port split_device port.old port.new v self.old self.new (act_of result self.new.pieces.items) }
+        ensures { (v : DeviceView) → DeviceStands self.old v → IsOwn P.port device_side port.old v
+            → IsDeviceStep P.port split_device port.old port.new v self.old self.new (act_of result self.new.pieces.items) }
     {
         let place = table_place(self.size, head) + 2 * self.pieces.len() as u32;
         self.addr = port.access(Op::Take, Access::Load(place));
@@ -46,7 +47,8 @@ impl SplitDevice {
     ) -> Told
         requires now { self.old.doing ≡ DeviceStep.TableSecond word head count }
         requires own { (v : DeviceView) × DeviceStands self.old v × IsOwn P.port device_side port.old v }
-        ensures did { (v : DeviceView) → DeviceStands self.old v → IsOwn P.port device_side port.old v → IsDeviceStep P.port split_device port.old port.new v self.old self.new (act_of result self.new.pieces.items) }
+        ensures did { (v : DeviceView) → DeviceStands self.old v → IsOwn P.port device_side port.old v
+            → IsDeviceStep P.port split_device port.old port.new v self.old self.new (act_of result self.new.pieces.items) }
         ensures chain { (k : ℕ) → result ≡ Told.Taken k → IsChain self.new.pieces.items }
     {
         let loaded = self.pieces.len() as u32;

@@ -76,7 +76,8 @@ impl SplitDevice {
     pub(super) fn look<P: Port>(&mut self, port: &mut P) -> Told
         requires now { self.old.doing ≡ DeviceStep.Look }
         requires own { (v : DeviceView) × DeviceStands self.old v × IsOwn P.port device_side port.old v }
-        ensures { (v : DeviceView) → DeviceStands self.old v → IsOwn P.port device_side port.old v → IsDeviceStep P.port split_device port.old port.new v self.old self.new (act_of result self.new.pieces.items) }
+        ensures { (v : DeviceView) → DeviceStands self.old v → IsOwn P.port device_side port.old v
+            → IsDeviceStep P.port split_device port.old port.new v self.old self.new (act_of result self.new.pieces.items) }
     {
         let word = port.access(Op::Take, Access::Load(2 * self.size));
         if shows_count(word, self.taken) {
@@ -94,7 +95,8 @@ impl SplitDevice {
     pub(super) fn entry<P: Port>(&mut self, port: &mut P, word: u64) -> Told
         requires now { self.old.doing ≡ DeviceStep.Entry word }
         requires own { (v : DeviceView) × DeviceStands self.old v × IsOwn P.port device_side port.old v }
-        ensures { (v : DeviceView) → DeviceStands self.old v → IsOwn P.port device_side port.old v → IsDeviceStep P.port split_device port.old port.new v self.old self.new (act_of result self.new.pieces.items) }
+        ensures { (v : DeviceView) → DeviceStands self.old v → IsOwn P.port device_side port.old v
+            → IsDeviceStep P.port split_device port.old port.new v self.old self.new (act_of result self.new.pieces.items) }
     {
         let lane = self.entry + 2;
         let entry = port.access(Op::Take, Access::Load(2 * self.size + lane / 4));
@@ -115,7 +117,8 @@ impl SplitDevice {
     ) -> Told
         requires now { self.old.doing ≡ DeviceStep.Address word head place }
         requires own { (v : DeviceView) × DeviceStands self.old v × IsOwn P.port device_side port.old v }
-        ensures { (v : DeviceView) → DeviceStands self.old v → IsOwn P.port device_side port.old v → IsDeviceStep P.port split_device port.old port.new v self.old self.new (act_of result self.new.pieces.items) }
+        ensures { (v : DeviceView) → DeviceStands self.old v → IsOwn P.port device_side port.old v
+            → IsDeviceStep P.port split_device port.old port.new v self.old self.new (act_of result self.new.pieces.items) }
     {
         self.addr = port.access(Op::Take, Access::Load(2 * place));
         self.doing = DeviceStep::Second(word, head, place);
@@ -127,7 +130,8 @@ impl SplitDevice {
     pub(super) fn second<P: Port>(&mut self, port: &mut P, word: u64, head: u32, place: u32) -> Told
         requires now { self.old.doing ≡ DeviceStep.Second word head place }
         requires own { (v : DeviceView) × DeviceStands self.old v × IsOwn P.port device_side port.old v }
-        ensures did { (v : DeviceView) → DeviceStands self.old v → IsOwn P.port device_side port.old v → IsDeviceStep P.port split_device port.old port.new v self.old self.new (act_of result self.new.pieces.items) }
+        ensures did { (v : DeviceView) → DeviceStands self.old v → IsOwn P.port device_side port.old v
+            → IsDeviceStep P.port split_device port.old port.new v self.old self.new (act_of result self.new.pieces.items) }
         ensures chain { (k : ℕ) → result ≡ Told.Taken k → IsChain self.new.pieces.items }
     {
         let second = port.access(Op::Take, Access::Load(2 * place + 1));

@@ -17,7 +17,8 @@ impl SplitDriver {
     pub(super) fn advance<P: Port>(&mut self, port: &mut P) -> DriverTold
         requires busy { ¬ (split_driver.begun self.old ≡ DriverOp.idle) }
         requires own { (v : DriverView) × DriverStands self.old v × IsOwn P.port driver_side port.old v }
-        ensures { (v : DriverView) → DriverStands self.old v → IsOwn P.port driver_side port.old v → IsDriverStep P.port split_driver port.old port.new v self.old self.new (driver_act_of result self.new.got) }
+        ensures { (v : DriverView) → DriverStands self.old v → IsOwn P.port driver_side port.old v
+            → IsDriverStep P.port split_driver port.old port.new v self.old self.new (driver_act_of result self.new.got) }
     {
         match self.doing {
             DriverStep::Idle => unreachable!(),
@@ -39,7 +40,8 @@ impl SplitDriver {
     fn doze<P: Port>(&mut self, port: &mut P) -> DriverTold
         requires now { DriverSleeps self.old.doing }
         requires own { (v : DriverView) × DriverStands self.old v × IsOwn P.port driver_side port.old v }
-        ensures { (v : DriverView) → DriverStands self.old v → IsOwn P.port driver_side port.old v → IsDriverStep P.port split_driver port.old port.new v self.old self.new (driver_act_of result self.new.got) }
+        ensures { (v : DriverView) → DriverStands self.old v → IsOwn P.port driver_side port.old v
+            → IsDriverStep P.port split_driver port.old port.new v self.old self.new (driver_act_of result self.new.got) }
     {
         match self.doing {
             DriverStep::Arm => self.arm(port),

@@ -18,7 +18,8 @@ impl SplitDriver {
     pub(super) fn look<P: Port>(&mut self, port: &mut P) -> DriverTold
         requires now { self.old.doing ≡ DriverStep.Look }
         requires own { (v : DriverView) × DriverStands self.old v × IsOwn P.port driver_side port.old v }
-        ensures { (v : DriverView) → DriverStands self.old v → IsOwn P.port driver_side port.old v → IsDriverStep P.port split_driver port.old port.new v self.old self.new (driver_act_of result self.new.got) }
+        ensures { (v : DriverView) → DriverStands self.old v → IsOwn P.port driver_side port.old v
+            → IsDriverStep P.port split_driver port.old port.new v self.old self.new (driver_act_of result self.new.got) }
     {
         let word = port.access(Op::Collect, Access::Load(used_area(self.size)));
         if shows_count(word, self.collected) {
@@ -36,7 +37,8 @@ impl SplitDriver {
     pub(super) fn find<P: Port>(&mut self, port: &mut P, word: u64) -> DriverTold
         requires now { self.old.doing ≡ DriverStep.Find word }
         requires own { (v : DriverView) × DriverStands self.old v × IsOwn P.port driver_side port.old v }
-        ensures { (v : DriverView) → DriverStands self.old v → IsOwn P.port driver_side port.old v → IsDriverStep P.port split_driver port.old port.new v self.old self.new (driver_act_of result self.new.got) }
+        ensures { (v : DriverView) → DriverStands self.old v → IsOwn P.port driver_side port.old v
+            → IsDriverStep P.port split_driver port.old port.new v self.old self.new (driver_act_of result self.new.got) }
     {
         let found = port.access(Op::Collect, Access::Load(used_area(self.size) + self.used));
         self.doing = DriverStep::Finish(word, found);
@@ -48,7 +50,8 @@ impl SplitDriver {
     pub(super) fn finish<P: Port>(&mut self, port: &mut P, word: u64, found: u64) -> DriverTold
         requires now { self.old.doing ≡ DriverStep.Finish word found }
         requires own { (v : DriverView) × DriverStands self.old v × IsOwn P.port driver_side port.old v }
-        ensures { (v : DriverView) → DriverStands self.old v → IsOwn P.port driver_side port.old v → IsDriverStep P.port split_driver port.old port.new v self.old self.new (driver_act_of result self.new.got) }
+        ensures { (v : DriverView) → DriverStands self.old v → IsOwn P.port driver_side port.old v
+            → IsDriverStep P.port split_driver port.old port.new v self.old self.new (driver_act_of result self.new.got) }
     {
         let last = port.access(
             Op::Collect,

@@ -1,7 +1,7 @@
 //! What the driver's end offers its holder.
 ghost use Rattle.std.specs.Prelude.{◌≡◌};
 ghost use Rattle.vd_split.specs.DriverEnd.{split_driver};
-ghost use Rattle.vd_split.specs.DriverLaws.{driver_laws};
+ghost use Rattle.vd_split.specs.laws.DriverLaws.{driver_laws};
 ghost use Rattle.vd_split.specs.Parts.{first_store};
 
 use super::{DriverStep, DriverTold, SplitDriver};

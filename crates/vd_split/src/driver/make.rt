@@ -58,7 +58,8 @@ impl SplitDriver {
         control: bool,
     ) -> Result<SplitDriver, AllocError>
         requires { (0 < size) × (size ≤ 32768) }
-        ensures stands { IfOk result (λ e. (f : Frame) → IsMadeFor size features f → f.control ≡ control → DriverStands e (fresh_driver f (width f))) }
+        ensures stands { IfOk result (λ e. (f : Frame) → IsMadeFor size features f → f.control ≡ control
+            → DriverStands e (fresh_driver f (width f))) }
         ensures idle { IfOk result (λ e. (e.doing ≡ DriverStep.Idle) × (e.size ≡ size) × (e.features ≡ features) × (e.armed ≡ false)) }
     {
         let free = all_places(alloc, size)?;

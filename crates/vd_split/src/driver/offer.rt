@@ -46,7 +46,8 @@ impl SplitDriver {
     pub(super) fn describe<P: Port>(&mut self, port: &mut P, at: u32) -> DriverTold
         requires now { self.old.doing ≡ DriverStep.Describe at }
         requires own { (v : DriverView) × DriverStands self.old v × IsOwn P.port driver_side port.old v }
-        ensures { (v : DriverView) → DriverStands self.old v → IsOwn P.port driver_side port.old v → IsDriverStep P.port split_driver port.old port.new v self.old self.new (driver_act_of result self.new.got) }
+        ensures { (v : DriverView) → DriverStands self.old v → IsOwn P.port driver_side port.old v
+            → IsDriverStep P.port split_driver port.old port.new v self.old self.new (driver_act_of result self.new.got) }
     {
         let pieces = self.pieces.as_slice();
         let (place, word) = descriptor_word(&self.free, pieces, at);
@@ -61,7 +62,8 @@ impl SplitDriver {
     pub(super) fn tabulate<P: Port>(&mut self, port: &mut P, at: u32) -> DriverTold
         requires now { self.old.doing ≡ DriverStep.Table at }
         requires own { (v : DriverView) × DriverStands self.old v × IsOwn P.port driver_side port.old v }
-        ensures { (v : DriverView) → DriverStands self.old v → IsOwn P.port driver_side port.old v → IsDriverStep P.port split_driver port.old port.new v self.old self.new (driver_act_of result self.new.got) }
+        ensures { (v : DriverView) → DriverStands self.old v → IsOwn P.port driver_side port.old v
+            → IsDriverStep P.port split_driver port.old port.new v self.old self.new (driver_act_of result self.new.got) }
     {
         let pieces = self.pieces.as_slice();
         let head = place_at(&self.free, 0);
@@ -77,7 +79,8 @@ impl SplitDriver {
     pub(super) fn enter<P: Port>(&mut self, port: &mut P) -> DriverTold
         requires now { self.old.doing ≡ DriverStep.Enter }
         requires own { (v : DriverView) × DriverStands self.old v × IsOwn P.port driver_side port.old v }
-        ensures { (v : DriverView) → DriverStands self.old v → IsOwn P.port driver_side port.old v → IsDriverStep P.port split_driver port.old port.new v self.old self.new (driver_act_of result self.new.got) }
+        ensures { (v : DriverView) → DriverStands self.old v → IsOwn P.port driver_side port.old v
+            → IsDriverStep P.port split_driver port.old port.new v self.old self.new (driver_act_of result self.new.got) }
     {
         let lane = self.entry + 2;
         let i = lane / 4;
@@ -94,7 +97,8 @@ impl SplitDriver {
     pub(super) fn publish<P: Port>(&mut self, port: &mut P) -> DriverTold
         requires now { self.old.doing ≡ DriverStep.Publish }
         requires own { (v : DriverView) × DriverStands self.old v × IsOwn P.port driver_side port.old v }
-        ensures { (v : DriverView) → DriverStands self.old v → IsOwn P.port driver_side port.old v → IsDriverStep P.port split_driver port.old port.new v self.old self.new (driver_act_of result self.new.got) }
+        ensures { (v : DriverView) → DriverStands self.old v → IsOwn P.port driver_side port.old v
+            → IsDriverStep P.port split_driver port.old port.new v self.old self.new (driver_act_of result self.new.got) }
     {
         let number = self.offered;
         let word = set_lane16(self.area[0], 1, ((number + 1) % 0x1_0000) as u16);

@@ -77,7 +77,8 @@ impl SplitDriver {
     pub(super) fn check<P: Port>(&mut self, port: &mut P, old: u64, new: u64) -> DriverTold
         requires now { self.old.doing ≡ DriverStep.Check old new }
         requires own { (v : DriverView) × DriverStands self.old v × IsOwn P.port driver_side port.old v }
-        ensures { (v : DriverView) → DriverStands self.old v → IsOwn P.port driver_side port.old v → IsDriverStep P.port split_driver port.old port.new v self.old self.new (driver_act_of result self.new.got) }
+        ensures { (v : DriverView) → DriverStands self.old v → IsOwn P.port driver_side port.old v
+            → IsDriverStep P.port split_driver port.old port.new v self.old self.new (driver_act_of result self.new.got) }
     {
         let event_idx = self.features.event_idx;
         let place = event_place(self.size, event_idx);
@@ -96,7 +97,8 @@ impl SplitDriver {
     pub(super) fn ring<P: Port>(&mut self, port: &mut P, old: u64, new: u64) -> DriverTold
         requires now { self.old.doing ≡ DriverStep.Ring old new }
         requires own { (v : DriverView) × DriverStands self.old v × IsOwn P.port driver_side port.old v }
-        ensures { (v : DriverView) → DriverStands self.old v → IsOwn P.port driver_side port.old v → IsDriverStep P.port split_driver port.old port.new v self.old self.new (driver_act_of result self.new.got) }
+        ensures { (v : DriverView) → DriverStands self.old v → IsOwn P.port driver_side port.old v
+            → IsDriverStep P.port split_driver port.old port.new v self.old self.new (driver_act_of result self.new.got) }
     {
         let bells = self.bells + 1;
         port.access(Op::Offer, Access::Store(self.kick, bells));

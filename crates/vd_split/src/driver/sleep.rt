@@ -42,7 +42,8 @@ impl SplitDriver {
     pub(super) fn arm<P: Port>(&mut self, port: &mut P) -> DriverTold
         requires now { self.old.doing ≡ DriverStep.Arm }
         requires own { (v : DriverView) × DriverStands self.old v × IsOwn P.port driver_side port.old v }
-        ensures { (v : DriverView) → DriverStands self.old v → IsOwn P.port driver_side port.old v → IsDriverStep P.port split_driver port.old port.new v self.old self.new (driver_act_of result self.new.got) }
+        ensures { (v : DriverView) → DriverStands self.old v → IsOwn P.port driver_side port.old v
+            → IsDriverStep P.port split_driver port.old port.new v self.old self.new (driver_act_of result self.new.got) }
     {
         let lane = own_lane(self.size, self.features.event_idx);
         let value = own_value(self.collected, self.features.event_idx);
@@ -60,7 +61,8 @@ impl SplitDriver {
     pub(super) fn look_again<P: Port>(&mut self, port: &mut P) -> DriverTold
         requires now { self.old.doing ≡ DriverStep.LookAgain }
         requires own { (v : DriverView) × DriverStands self.old v × IsOwn P.port driver_side port.old v }
-        ensures { (v : DriverView) → DriverStands self.old v → IsOwn P.port driver_side port.old v → IsDriverStep P.port split_driver port.old port.new v self.old self.new (driver_act_of result self.new.got) }
+        ensures { (v : DriverView) → DriverStands self.old v → IsOwn P.port driver_side port.old v
+            → IsDriverStep P.port split_driver port.old port.new v self.old self.new (driver_act_of result self.new.got) }
     {
         let word = port.access(Op::Arm, Access::Load(used_area(self.size)));
         if shows_count(word, self.collected) {
@@ -83,7 +85,8 @@ impl SplitDriver {
     pub(super) fn hear<P: Port>(&mut self, port: &mut P) -> DriverTold
         requires now { self.old.doing ≡ DriverStep.Hear }
         requires own { (v : DriverView) × DriverStands self.old v × IsOwn P.port driver_side port.old v }
-        ensures { (v : DriverView) → DriverStands self.old v → IsOwn P.port driver_side port.old v → IsDriverStep P.port split_driver port.old port.new v self.old self.new (driver_act_of result self.new.got) }
+        ensures { (v : DriverView) → DriverStands self.old v → IsOwn P.port driver_side port.old v
+            → IsDriverStep P.port split_driver port.old port.new v self.old self.new (driver_act_of result self.new.got) }
     {
         let word = port.access(Op::Hear, Access::Load(self.kick + 1));
         if word == self.heard {
@@ -105,7 +108,8 @@ impl SplitDriver {
     pub(super) fn disarm<P: Port>(&mut self, port: &mut P) -> DriverTold
         requires now { self.old.doing ≡ DriverStep.Disarm }
         requires own { (v : DriverView) × DriverStands self.old v × IsOwn P.port driver_side port.old v }
-        ensures { (v : DriverView) → DriverStands self.old v → IsOwn P.port driver_side port.old v → IsDriverStep P.port split_driver port.old port.new v self.old self.new (driver_act_of result self.new.got) }
+        ensures { (v : DriverView) → DriverStands self.old v → IsOwn P.port driver_side port.old v
+            → IsDriverStep P.port split_driver port.old port.new v self.old self.new (driver_act_of result self.new.got) }
     {
         if self.features.event_idx {
             port.access(Op::Disarm, Access::Load(self.kick + 1));
@@ -122,7 +126,8 @@ impl SplitDriver {
         requires now { Wakes self.old.doing op }
         requires flags { self.old.features.event_idx ≡ false }
         requires own { (v : DriverView) × DriverStands self.old v × IsOwn P.port driver_side port.old v }
-        ensures { (v : DriverView) → DriverStands self.old v → IsOwn P.port driver_side port.old v → IsDriverStep P.port split_driver port.old port.new v self.old self.new (driver_act_of result self.new.got) }
+        ensures { (v : DriverView) → DriverStands self.old v → IsOwn P.port driver_side port.old v
+            → IsDriverStep P.port split_driver port.old port.new v self.old self.new (driver_act_of result self.new.got) }
     {
         let word = set_lane16(self.area[0], 0, 1);
         port.access(op, Access::Store(2 * self.size, word));

@@ -20,5 +20,10 @@ loop-i-preserved c =
     let on = has_flag c.args.flags.now in
     let more = length-passing-more on c.loop-i.i in
     let less : from_bool (on c.loop-i.i) ≤ c.loop-i.left =
-    elim c.else-on.branch [ else-on-via-then-on+else-left-eq0 w ↦ from_bool-on (on c.loop-i.i) c.loop-i.left (λ _. omega (arith, w.if-left-eq0.false)) | else-on-via-else-on w ↦ from_bool-on (on c.loop-i.i) c.loop-i.left (λ e. absurd (both_ways (on c.loop-i.i) w.if-on.false e)) ] in
+    elim c.else-on.branch [
+      | else-on-via-then-on+else-left-eq0 w ↦ from_bool-on (on c.loop-i.i) c.loop-i.left
+          (λ _. omega (arith, w.if-left-eq0.false))
+      | else-on-via-else-on w ↦ from_bool-on (on c.loop-i.i) c.loop-i.left
+          (λ e. absurd (both_ways (on c.loop-i.i) w.if-on.false e))
+    ] in
     omega arith

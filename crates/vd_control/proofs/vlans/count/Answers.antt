@@ -10,7 +10,11 @@ loop-word-init c = sym (ap length (passing-none (has_vlan c.args.words.now)))
 pub overflow_add-count : goal.overflow_add-count
 overflow_add-count c =
     let has = has_vlan c.args.words.now in
-    omega (arith, length-words-more c.args.words.now c.loop-word.word-index (omega arith), length-passing has (64 * (c.loop-word.word-index + 1)))
+    omega (
+      arith,
+      length-words-more c.args.words.now c.loop-word.word-index (omega arith),
+      length-passing has (64 * (c.loop-word.word-index + 1)),
+    )
 
 pub loop-word-preserved : goal.loop-word-preserved
 loop-word-preserved c =

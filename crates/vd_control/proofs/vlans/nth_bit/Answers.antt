@@ -19,7 +19,8 @@ pub returns-clause-value : goal.returns-clause-value
 returns-clause-value c =
     let last : c.loop.counter ≡ c.args.nth = omega arith in
     let some = some_left c.args.word c.loop.word c.loop.counter (omega arith) (omega arith) c.loop.invariant (omega arith) in
-    ap (slice_get (passing (has_bit c.args.word) 64)) (sym last) ∙ next_left c.args.word c.loop.word c.loop.counter some (omega arith) c.loop.invariant
+    ap (slice_get (passing (has_bit c.args.word) 64)) (sym last) ∙ next_left c.args.word c.loop.word c.loop.counter some
+    (omega arith) c.loop.invariant
 
 pub returns-clause-small : goal.returns-clause-small
 returns-clause-small c =

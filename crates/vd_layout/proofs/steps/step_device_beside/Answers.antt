@@ -4,11 +4,20 @@ use Rattle.vd_layout.proofs.steps.step_device_beside.Goals as goal
 
 pub step-requires-clause-own : goal.step-requires-clause-own
 step-requires-clause-own g c =
-    let h = c.requires.on in
-    (h.3.device_view, h.3.serves, device_owns g.P.Port.port g.met.P.Port.lawful g.L.Driver.DriverEnd.driver g.L.Device.DeviceEnd.device g.L.Layout.layout g.met.L.Layout.lawful h.0 c.args.port.now h.1 c.args.driver.now c.args.device.now h.2 h.3)
+    let h = c.requires.on in (
+      h.3.device_view,
+      h.3.serves,
+      device_owns g.P.Port.port g.met.P.Port.lawful g.L.Driver.DriverEnd.driver g.L.Device.DeviceEnd.device
+          g.L.Layout.layout g.met.L.Layout.lawful h.0 c.args.port.now h.1 c.args.driver.now c.args.device.now h.2 h.3,
+    )
 
 pub returns : goal.returns
 returns g c = λ f ws plain on.
-    let own = device_owns g.P.Port.port g.met.P.Port.lawful g.L.Driver.DriverEnd.driver g.L.Device.DeviceEnd.device g.L.Layout.layout g.met.L.Layout.lawful f c.args.port.now ws c.args.driver.now c.args.device.now plain on in
-    let s = c.step.ensures on.device_view on.serves own in
-    (s, device_stepped g.P.Port.port g.met.P.Port.lawful g.L.Driver.DriverEnd.driver g.L.Device.DeviceEnd.device g.L.Layout.layout g.met.L.Layout.lawful c.args.port.now c.step.new.port ws on.view on.device_view c.args.device.now c.step.new.self c.step.result plain on.ring s)
+    let own = device_owns g.P.Port.port g.met.P.Port.lawful g.L.Driver.DriverEnd.driver g.L.Device.DeviceEnd.device g.L.Layout.layout
+    g.met.L.Layout.lawful f c.args.port.now ws c.args.driver.now c.args.device.now plain on in
+    let s = c.step.ensures on.device_view on.serves own in (
+      s,
+      device_stepped g.P.Port.port g.met.P.Port.lawful g.L.Driver.DriverEnd.driver g.L.Device.DeviceEnd.device g.L.Layout.layout
+          g.met.L.Layout.lawful c.args.port.now c.step.new.port ws on.view on.device_view c.args.device.now c.step.new.self c.step.result
+          plain on.ring s,
+    )

@@ -4,4 +4,5 @@ use Rattle.vd_machine.proofs.Lists.{list_of-items}
 use Rattle.vd_machine.proofs.lookup.list_in.Goals as goal
 
 pub returns-in-Some : goal.returns-in-Some
-returns-in-Some c = rw c.as_slice.ensures.value (ap Some (sym (list_of-items c.in-Some.items.now.items)) ∙ ap (option_map list_of) c.in-Some.ensures)
+returns-in-Some c = rw c.as_slice.ensures.value (ap Some (sym (list_of-items c.in-Some.items.now.items))
+    ∙ ap (option_map list_of) c.in-Some.ensures)

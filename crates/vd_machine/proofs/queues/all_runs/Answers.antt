@@ -5,4 +5,8 @@ use Rattle.vd_machine.proofs.Collect.{read_start}
 use Rattle.vd_machine.proofs.queues.all_runs.Goals as goal
 
 pub loop-value-init : goal.loop-value-init
-loop-value-init c = rw c.in_ok-found.ensures.items (record { value = read_start (run_of c.args.most) view c.args.values.now; lawful = refl })
+loop-value-init c = rw c.in_ok-found.ensures.items (record {
+  value = read_start (run_of c.args.most) view c.args.values.now;
+  lawful =
+      refl;
+})

@@ -8,6 +8,7 @@ use Rattle.vd_machine.proofs.queues.all_scripts.Given as goal
 
 abbrev pub invariant-loop-value : goal.invariant-loop-value
 invariant-loop-value l = record {
-  value : after l.found.items (read_rest (λ v. script_of l.most (view v)) l.values l.value-index) ≡ all_some (map (script_of l.most) (map view l.values));
+  value : after l.found.items (read_rest (λ v. script_of l.most (view v)) l.values l.value-index) ≡ all_some
+      (map (script_of l.most) (map view l.values));
   lawful : list_all (is_script l.most) l.found.items ≡ true;
 }

@@ -6,4 +6,5 @@ use Rattle.vd_machine.proofs.Lists.{all_viewed}
 use Rattle.vd_machine.proofs.queues.queue_writes_chains.Goals as goal
 
 pub returns-in-Some : goal.returns-in-Some
-returns-in-Some c = c.each_writes_chain.ensures ∙ all_viewed writes_chain c.in-Some.texts.now _ refl ∙ ap (λ o. option_map_or (list_all writes_chain) o false) c.in-Some.ensures
+returns-in-Some c = c.each_writes_chain.ensures ∙ all_viewed writes_chain c.in-Some.texts.now _ refl
+    ∙ ap (λ o. option_map_or (list_all writes_chain) o false) c.in-Some.ensures

@@ -6,4 +6,5 @@ use Rattle.vd_machine.proofs.Collect.{after, read_rest}
 use Rattle.vd_machine.proofs.regions.all_regions.Given as goal
 
 abbrev pub invariant-loop-value : goal.invariant-loop-value
-invariant-loop-value l = after l.found.items (read_rest (λ v. region_of (view v)) l.values l.value-index) ≡ all_some (map region_of (map view l.values))
+invariant-loop-value l = after l.found.items (read_rest (λ v. region_of (view v)) l.values l.value-index) ≡ all_some
+    (map region_of (map view l.values))

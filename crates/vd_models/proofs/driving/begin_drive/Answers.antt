@@ -14,4 +14,5 @@ returns-in-Some-clause-next g c = λ v h.
     let room = (c.room.ensures v h.drives.stands).0 c.if-room.true in
     let may = may_offer d (drive c.args.end.now l) v c.in-Some.chain.now h.drives next room in
     begins_offer d (drive c.args.end.now l) c.begin_offer.new.self v c.in-Some.chain.now h
-    (c.idle.ensures.0 c.if-idle.true) c.in_default.not-Collecting c.in_default.not-Arming c.in_default.not-Hearing next c.begin_offer.ensures.begun (c.begin_offer.ensures.stands v h.drives.stands may) c.begin_offer.ensures.left
+    (c.idle.ensures.0 c.if-idle.true) c.in_default.not-Collecting c.in_default.not-Arming c.in_default.not-Hearing next
+    c.begin_offer.ensures.begun (c.begin_offer.ensures.stands v h.drives.stands may) c.begin_offer.ensures.left

@@ -97,7 +97,8 @@ returns-in-Offered-clause-turn g c = λ v opens own.
     let go = c.begin_drive.ensures.next v opens in
     let h = c.in-Offered.ensures v go.opens.drives.stands own in
     from_begun port d p q v a.end.now b l.script l.at l.offered l.returned.items l.stage _ _ go.owes (rw c.after_offer-loaded.ensures
-    (offered_at port d law p q l.script v b c.step.new.self l.at l.offered l.returned.items l.stage c.settle-loaded.result c.in-Offered.field-0 a.turns go.opens h
+    (offered_at port d law p q l.script v b c.step.new.self l.at l.offered l.returned.items l.stage c.settle-loaded.result
+    c.in-Offered.field-0 a.turns go.opens h
     (subst (λ (rs : List Run). left_at rs c.settle-loaded.result ≡ left_at rs
     (record { run = l.at.run; used = l.at.used + 1 })) c.as_slice.ensures c.settle-loaded.ensures.left) (subst
     (λ (rs : List Run). IsSettled rs c.settle-loaded.result) c.as_slice.ensures c.settle-loaded.ensures.settled)))
@@ -117,7 +118,9 @@ returns-then-len-loaded-clause-turn g c = λ v opens own.
     let len : c.len.result ≡ length c.keep.new.list.items = omega (arith, c.len.ensures, c.keep.new.list.ok) in
     let total = total_is l c.requires.plan in
     from_begun port d p q v a.end.now b l.script l.at l.offered l.returned.items l.stage _ _ go.owes
-    (collected_at port d law p q l.script v b c.step.new.self l.at l.offered l.returned.items l.stage c.keep.new.list.items c.in-Collected.number c.in-Collected.len c.in-Collected.head true go.opens h c.keep.ensures.items (sym (eq-eqb (length c.keep.new.list.items) (length (chains l.script)) (omega (arith, len, total, c.if-len-loaded.true)))))
+    (collected_at port d law p q l.script v b c.step.new.self l.at l.offered l.returned.items l.stage c.keep.new.list.items
+    c.in-Collected.number c.in-Collected.len c.in-Collected.head true go.opens h c.keep.ensures.items
+    (sym (eq-eqb (length c.keep.new.list.items) (length (chains l.script)) (omega (arith, len, total, c.if-len-loaded.true)))))
 
 pub returns-else-len-loaded-clause-turn : goal.returns-else-len-loaded-clause-turn
 returns-else-len-loaded-clause-turn g c = λ v opens own.
@@ -134,7 +137,10 @@ returns-else-len-loaded-clause-turn g c = λ v opens own.
     let len : c.len.result ≡ length c.keep.new.list.items = omega (arith, c.len.ensures, c.keep.new.list.ok) in
     let total = total_is l c.requires.plan in
     from_begun port d p q v a.end.now b l.script l.at l.offered l.returned.items l.stage _ _ go.owes
-    (collected_at port d law p q l.script v b c.step.new.self l.at l.offered l.returned.items l.stage c.keep.new.list.items c.in-Collected.number c.in-Collected.len c.in-Collected.head false go.opens h c.keep.ensures.items (sym (ne_eqb (length c.keep.new.list.items) (length (chains l.script)) (λ z. c.if-len-loaded.false (omega (arith, len, total, z))))))
+    (collected_at port d law p q l.script v b c.step.new.self l.at l.offered l.returned.items l.stage c.keep.new.list.items
+    c.in-Collected.number c.in-Collected.len c.in-Collected.head false go.opens h c.keep.ensures.items
+    (sym (ne_eqb (length c.keep.new.list.items) (length (chains l.script))
+    (λ z. c.if-len-loaded.false (omega (arith, len, total, z))))))
 
 pub overflow_add-next : goal.overflow_add-next
 overflow_add-next g c =
@@ -164,5 +170,6 @@ keep-requires g c =
     let q = c.step.new.port in
     let v = c.requires.own.0 in
     let go = c.begin_drive.ensures.next v c.requires.own.1 in
-    let k = can_keep port d law p q l.script v b c.step.new.self l.at l.offered l.returned.items l.stage c.in-Collected.number c.in-Collected.len c.in-Collected.head go.opens in
+    let k = can_keep port d law p q l.script v b c.step.new.self l.at l.offered l.returned.items l.stage c.in-Collected.number
+    c.in-Collected.len c.in-Collected.head go.opens in
     omega (arith, k, c.requires.plan.room, total_is l c.requires.plan, l.returned.ok)

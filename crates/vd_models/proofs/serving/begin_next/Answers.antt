@@ -8,5 +8,9 @@ begin_give-requires-clause-may g c =
     let r = c.requires in
     let law = g.met.L.Layout.lawful.device_end in
     let v = r.2.serves in
-    let same = c.features.ensures ∙ (law.sized c.args.session.now.end r.1 v.stands).1 in
-    (r.1, v.stands, may_give r.0.items c.args.session.now.by c.args.held.now.items r.1.frame r.1.done c.features.result.in_order c.next-next.result (sym (ap (λ (f : Features). f.in_order) same)) v.held c.next-next.ensures)
+    let same = c.features.ensures ∙ (law.sized c.args.session.now.end r.1 v.stands).1 in (
+      r.1,
+      v.stands,
+      may_give r.0.items c.args.session.now.by c.args.held.now.items r.1.frame r.1.done c.features.result.in_order
+          c.next-next.result (sym (ap (λ (f : Features). f.in_order) same)) v.held c.next-next.ensures,
+    )

@@ -71,7 +71,8 @@ returns-in-Nothing-clause-turn g c = λ w opens own.
     let go = c.begin_next.ensures.next a.begun.now w opens (more_is _ _ a.session.now.by a.begun.now.items c.len.ensures.value refl) in
     let s = c.in-Nothing.ensures w go.opens.serves.stands own in
     from_begun port e p q w a.session.now b a.held.now a.begun.now _ _ go.owes (rw c.after_nothing-session.ensures
-    (found_none port e law p q b.by w b.end c.step.new.self b.stage a.held.now a.begun.now c.is_empty-in-Nothing.result go.opens own s c.is_empty-in-Nothing.ensures))
+    (found_none port e law p q b.by w b.end c.step.new.self b.stage a.held.now a.begun.now c.is_empty-in-Nothing.result go.opens own s
+    c.is_empty-in-Nothing.ensures))
 
 pub returns-in-Awake-clause-turn : goal.returns-in-Awake-clause-turn
 returns-in-Awake-clause-turn g c = λ w opens own.
@@ -101,7 +102,9 @@ returns-in-Taken-clause-turn g c = λ w opens own.
     let go = c.begin_next.ensures.next a.begun.now w opens (more_is _ _ a.session.now.by a.begun.now.items c.len.ensures.value refl) in
     let s = c.in-Taken.ensures w go.opens.serves.stands own in
     from_begun port e p q w a.session.now b a.held.now a.begun.now _ _ go.owes (rw c.after_take-session.ensures
-    (took port e law p q b.by w b.end c.step.new.self b.stage a.held.now c.note.new.held a.begun.now c.note.new.begun c.in-Taken.number c.in-Taken.chain _ go.opens s c.note.ensures.held c.note.ensures.begun c.note.ensures.room (full_is _ _ _ _ _ _ c.is_full.ensures c.len-in-Taken.ensures.value (ap all_of (sym c.begin_next.ensures.by)))))
+    (took port e law p q b.by w b.end c.step.new.self b.stage a.held.now c.note.new.held a.begun.now c.note.new.begun c.in-Taken.number
+    c.in-Taken.chain _ go.opens s c.note.ensures.held c.note.ensures.begun c.note.ensures.room
+    (full_is _ _ _ _ _ _ c.is_full.ensures c.len-in-Taken.ensures.value (ap all_of (sym c.begin_next.ensures.by)))))
 
 pub returns-in-Given-clause-turn : goal.returns-in-Given-clause-turn
 returns-in-Given-clause-turn g c = λ w opens own.
@@ -115,4 +118,7 @@ returns-in-Given-clause-turn g c = λ w opens own.
     let go = c.begin_next.ensures.next a.begun.now w opens (more_is _ _ a.session.now.by a.begun.now.items c.len.ensures.value refl) in
     let s = c.in-Given.ensures w go.opens.serves.stands own in
     from_begun port e p q w a.session.now b a.held.now a.begun.now _ _ go.owes (rw c.after_give-session.ensures
-    (gave port e law p q b.by w b.end c.step.new.self c.features-in_order.result.in_order b.stage a.held.now c.drop_next.new.held a.begun.now c.in-Given.field-0 _ (sym (ap (λ f. f.in_order) (c.features-in_order.ensures ∙ (law.sized a.session.now.end w opens.serves.stands).1))) go.opens s c.drop_next.ensures c.is_empty.ensures))
+    (gave port e law p q b.by w b.end c.step.new.self c.features-in_order.result.in_order b.stage a.held.now c.drop_next.new.held
+    a.begun.now c.in-Given.field-0 _
+    (sym (ap (λ f. f.in_order) (c.features-in_order.ensures ∙ (law.sized a.session.now.end w opens.serves.stands).1))) go.opens s
+    c.drop_next.ensures c.is_empty.ensures))

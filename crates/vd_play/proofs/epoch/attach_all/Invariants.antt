@@ -12,6 +12,13 @@ invariant-loop-i g l = record {
   parties : HasLanes (length l.m.queues) l.bench;
   keeps : KeepsBench g.V.Device.party (length l.m.queues) l.initial.bench l.bench;
   faults : HasNoFault g.V.Device.party l.initial.bench l.bench;
-  each : EachLane (Stage l.i (λ q a b x. InEpoch (setting_of g.L.Driver.DriverEnd.driver g.L.Device.DeviceEnd.device g.L.Layout.layout g.G.Guest.party g.V.Device.party) (view l.m) q true l.epoch 0 a b x) (λ q a b x. Stopped (setting_of g.L.Driver.DriverEnd.driver g.L.Device.DeviceEnd.device g.L.Layout.layout g.G.Guest.party g.V.Device.party) (view l.m) q l.epoch a b x)) l.floor.lanes.items l.bench.guests.items l.bench.devices.items;
-  counted : all_steps (setting_of g.L.Driver.DriverEnd.driver g.L.Device.DeviceEnd.device g.L.Layout.layout g.G.Guest.party g.V.Device.party) l.bench ≡ all_steps (setting_of g.L.Driver.DriverEnd.driver g.L.Device.DeviceEnd.device g.L.Layout.layout g.G.Guest.party g.V.Device.party) l.initial.bench;
+  each : EachLane (Stage l.i (λ q a b x. InEpoch
+      (setting_of g.L.Driver.DriverEnd.driver g.L.Device.DeviceEnd.device g.L.Layout.layout g.G.Guest.party g.V.Device.party)
+      (view l.m) q true l.epoch 0 a b x)
+      (λ q a b x. Stopped (setting_of g.L.Driver.DriverEnd.driver g.L.Device.DeviceEnd.device g.L.Layout.layout g.G.Guest.party
+      g.V.Device.party) (view l.m) q l.epoch a b x)) l.floor.lanes.items l.bench.guests.items l.bench.devices.items;
+  counted : all_steps (setting_of g.L.Driver.DriverEnd.driver g.L.Device.DeviceEnd.device g.L.Layout.layout g.G.Guest.party
+      g.V.Device.party) l.bench ≡ all_steps
+      (setting_of g.L.Driver.DriverEnd.driver g.L.Device.DeviceEnd.device g.L.Layout.layout g.G.Guest.party g.V.Device.party)
+      l.initial.bench;
 }

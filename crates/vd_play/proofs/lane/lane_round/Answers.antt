@@ -39,7 +39,8 @@ pub returns-then-is_some-clause-goes : goal.returns-then-is_some-clause-goes
 returns-then-is_some-clause-goes g c = λ plan q on k r h.
     let s = setting_of g.L.Driver.DriverEnd.driver g.L.Device.DeviceEnd.device g.L.Layout.layout g.G.Guest.party g.V.Device.party in
     let some : is_some c.args.lane.now.still ≡ true = search rules in
-    waits_with s plan q (record { layout = g.met.L.Layout.lawful; guest = g.met.G.Guest.lawful; party = g.met.V.Device.lawful }) on k r _ c.guest_turn-by_guest.ensures.few _ _ _ _ _ _ some c.guest_turn-by_guest.ensures.ring h c.guest_turn-by_guest.ensures.turn
+    waits_with s plan q (record { layout = g.met.L.Layout.lawful; guest = g.met.G.Guest.lawful; party = g.met.V.Device.lawful }) on k r
+    _ c.guest_turn-by_guest.ensures.few _ _ _ _ _ _ some c.guest_turn-by_guest.ensures.ring h c.guest_turn-by_guest.ensures.turn
 
 pub returns-then-not-done-clause-goes : goal.returns-then-not-done-clause-goes
 returns-then-not-done-clause-goes g c = λ plan q on k r h.
@@ -50,7 +51,9 @@ returns-then-not-done-clause-goes g c = λ plan q on k r h.
     let t = c.guest_turn-by_guest.ensures.turn p.view p.device_view p.kept.driven.ring p.kept.driven.part.holds in
     let u = c.device_turn-by_device.ensures.turn t.run.view p.device_view t.run.ring p.serves.holds in
     let live : g.V.Device.party.is_done c.device_turn-by_device.new.device → ⊥ = λ x. cc (c.done.ensures.1 x, c.if-not-done.true) in
-    let x = goes_on s (record { layout = g.met.L.Layout.lawful; guest = g.met.G.Guest.lawful; party = g.met.V.Device.lawful }) plan q k r _ _ c.guest_turn-by_guest.ensures.few c.device_turn-by_device.ensures.few _ _ _ _ _ _ _ p c.guest_turn-by_guest.ensures.ring c.device_turn-by_device.ensures.ring t u live in
+    let x = goes_on s (record { layout = g.met.L.Layout.lawful; guest = g.met.G.Guest.lawful; party = g.met.V.Device.lawful }) plan q k
+    r _ _ c.guest_turn-by_guest.ensures.few c.device_turn-by_device.ensures.few _ _ _ _ _ _ _ p c.guest_turn-by_guest.ensures.ring
+    c.device_turn-by_device.ensures.ring t u live in
     (in_epoch_none s plan q on k _ _ _ _ _ none f.0 x.0, x.1)
 
 pub returns-clause-goes : goal.returns-clause-goes
@@ -61,4 +64,6 @@ returns-clause-goes g c = λ plan q on k r h.
     let t = c.guest_turn-by_guest.ensures.turn p.view p.device_view p.kept.driven.ring p.kept.driven.part.holds in
     let u = c.device_turn-by_device.ensures.turn t.run.view p.device_view t.run.ring p.serves.holds in
     let done : g.V.Device.party.is_done c.device_turn-by_device.new.device = search rules in
-    stops s (record { layout = g.met.L.Layout.lawful; guest = g.met.G.Guest.lawful; party = g.met.V.Device.lawful }) plan q k r _ _ c.guest_turn-by_guest.ensures.few c.device_turn-by_device.ensures.few _ _ _ _ _ _ _ _ _ p c.guest_turn-by_guest.ensures.ring c.device_turn-by_device.ensures.ring t u done c.suspend.ensures
+    stops s (record { layout = g.met.L.Layout.lawful; guest = g.met.G.Guest.lawful; party = g.met.V.Device.lawful }) plan q k r _ _
+    c.guest_turn-by_guest.ensures.few c.device_turn-by_device.ensures.few _ _ _ _ _ _ _ _ _ p c.guest_turn-by_guest.ensures.ring
+    c.device_turn-by_device.ensures.ring t u done c.suspend.ensures

@@ -21,7 +21,11 @@ loop-epoch-init g c = record {
   few = omega arith;
   keeps = keeps_none g.V.Device.party _ c.args.bench.now;
   faults = refl;
-  counted = omega (arith, sum_none g.G.Guest.party.accesses c.args.bench.now.guests.items c.requires.idle.guests, sum_none g.V.Device.party.accesses c.args.bench.now.devices.items c.requires.idle.devices);
+  counted = omega (
+    arith,
+    sum_none g.G.Guest.party.accesses c.args.bench.now.guests.items c.requires.idle.guests,
+    sum_none g.V.Device.party.accesses c.args.bench.now.devices.items c.requires.idle.devices,
+  );
   each = c.requires.each;
 }
 
@@ -31,24 +35,31 @@ returns-in_err-attach_all-clause-fault g c =
     let n : ℕ = length c.args.m.now.queues in
     let new = c.attach_all.new.bench in
     let many = same_many m n c.args.bench.now c.loop-epoch.bench c.loop-epoch.invariant.keeps in
-    let fault = fault_later m n (faulty c.in_err-attach_all.field-0.0) c.args.bench.now c.loop-epoch.bench new many c.loop-epoch.invariant.faults c.in_err-attach_all.ensures.fault in
-    if_err_by c.from_residual.result (λ (z : PlayFault). z ≡ c.in_err-attach_all.field-0.0) (λ (z : PlayFault). IsFaultOf m n (faulty z) c.args.bench.now new) c.from_residual.ensures.1 (λ (z : PlayFault) is. subst (λ (x : PlayFault). IsFaultOf m n (faulty x) c.args.bench.now new) (sym is) fault)
+    let fault = fault_later m n (faulty c.in_err-attach_all.field-0.0) c.args.bench.now c.loop-epoch.bench new many
+    c.loop-epoch.invariant.faults c.in_err-attach_all.ensures.fault in
+    if_err_by c.from_residual.result (λ (z : PlayFault). z ≡ c.in_err-attach_all.field-0.0)
+    (λ (z : PlayFault). IsFaultOf m n (faulty z) c.args.bench.now new) c.from_residual.ensures.1
+    (λ (z : PlayFault) is. subst (λ (x : PlayFault). IsFaultOf m n (faulty x) c.args.bench.now new) (sym is) fault)
 
 pub returns-in_err-attach_all-clause-cut : goal.returns-in_err-attach_all-clause-cut
 returns-in_err-attach_all-clause-cut g c =
     let s = setting_of g.L.Driver.DriverEnd.driver g.L.Device.DeviceEnd.device g.L.Layout.layout g.G.Guest.party g.V.Device.party in
     if_err_any c.from_residual.result (λ (z : PlayFault). AllCut s (view c.args.m.now) c.attach_all.new.bench)
-    (λ z. each_queue (IsCut s (view c.args.m.now)) (length c.args.m.now.queues) _ _ _ (c.attach_all.ensures.many ∙ c.loop-epoch.invariant.many) c.in_err-attach_all.ensures.cut)
+    (λ z. each_queue (IsCut s (view c.args.m.now)) (length c.args.m.now.queues) _ _ _
+    (c.attach_all.ensures.many ∙ c.loop-epoch.invariant.many) c.in_err-attach_all.ensures.cut)
 
 pub run_epoch-made-requires-clause-parties : goal.run_epoch-made-requires-clause-parties
 run_epoch-made-requires-clause-parties g c =
     let n : ℕ = length c.args.m.now.queues in
     let many : length c.attach_all.new.floor.lanes.items ≡ n = c.attach_all.ensures.many ∙ c.loop-epoch.invariant.many in
-    subst (λ j. HasLanes j c.attach_all.new.bench) (sym many) (lanes_kept g.V.Device.party n c.loop-epoch.bench c.attach_all.new.bench n c.attach_all.ensures.keeps c.loop-epoch.invariant.parties)
+    subst (λ j. HasLanes j c.attach_all.new.bench) (sym many)
+    (lanes_kept g.V.Device.party n c.loop-epoch.bench c.attach_all.new.bench n c.attach_all.ensures.keeps
+    c.loop-epoch.invariant.parties)
 
 pub run_epoch-made-requires-clause-few : goal.run_epoch-made-requires-clause-few
 run_epoch-made-requires-clause-few g c =
-    let many : length c.attach_all.new.floor.lanes.items ≡ length c.args.m.now.queues = c.attach_all.ensures.many ∙ c.loop-epoch.invariant.many in
+    let many : length c.attach_all.new.floor.lanes.items ≡ length c.args.m.now.queues =
+    c.attach_all.ensures.many ∙ c.loop-epoch.invariant.many in
     omega (arith, many, one_queue c.args.m.now.queues c.args.m.now.counted)
 
 pub run_epoch-made-requires-clause-lanes : goal.run_epoch-made-requires-clause-lanes
@@ -59,7 +70,8 @@ loop-epoch-preserved g c =
     let m = g.V.Device.party in
     let n : ℕ = length c.args.m.now.queues in
     let many : length c.attach_all.new.floor.lanes.items ≡ n = c.attach_all.ensures.many ∙ c.loop-epoch.invariant.many in
-    let later : KeepsBench m n c.attach_all.new.bench c.run_epoch-made.new.bench = subst (λ j. KeepsBench m j c.attach_all.new.bench c.run_epoch-made.new.bench) many c.run_epoch-made.ensures.keeps in
+    let later : KeepsBench m n c.attach_all.new.bench c.run_epoch-made.new.bench =
+    subst (λ j. KeepsBench m j c.attach_all.new.bench c.run_epoch-made.new.bench) many c.run_epoch-made.ensures.keeps in
     let both = keeps_through m n c.loop-epoch.bench c.attach_all.new.bench c.run_epoch-made.new.bench c.attach_all.ensures.keeps later in
     let ran = c.run_epoch-made.ensures.goes (view c.args.m.now) c.loop-epoch.epoch c.in_ok-attach_all.ensures.lanes in
     record {
@@ -73,7 +85,8 @@ loop-epoch-preserved g c =
     }
 
 pub drain-made-requires-clause-parties : goal.drain-made-requires-clause-parties
-drain-made-requires-clause-parties g c = subst (λ j. HasLanes j c.loop-epoch.bench) (sym c.loop-epoch.invariant.many) c.loop-epoch.invariant.parties
+drain-made-requires-clause-parties g c =
+    subst (λ j. HasLanes j c.loop-epoch.bench) (sym c.loop-epoch.invariant.many) c.loop-epoch.invariant.parties
 
 pub drain-made-requires-clause-few : goal.drain-made-requires-clause-few
 drain-made-requires-clause-few g c = omega (arith, c.loop-epoch.invariant.many, one_queue c.args.m.now.queues c.args.m.now.counted)
@@ -83,18 +96,26 @@ drain-made-requires-clause-lanes g c =
     let s = setting_of g.L.Driver.DriverEnd.driver g.L.Device.DeviceEnd.device g.L.Layout.layout g.G.Guest.party g.V.Device.party in
     let plan : Plan = view c.args.m.now in
     let k : ℕ = length plan.switches + 1 in
-    let end : c.loop-epoch.epoch ≡ k + 1 = omega arith in
-    (plan, k, last_epoch s plan, all_closed s plan k c.loop-epoch.floor.lanes.items c.loop-epoch.bench (subst (λ (j : ℕ). AllStopped s plan j c.loop-epoch.floor.lanes.items c.loop-epoch.bench) end c.loop-epoch.invariant.each))
+    let end : c.loop-epoch.epoch ≡ k + 1 = omega arith in (
+      plan,
+      k,
+      last_epoch s plan,
+      all_closed s plan k c.loop-epoch.floor.lanes.items c.loop-epoch.bench
+          (subst (λ (j : ℕ). AllStopped s plan j c.loop-epoch.floor.lanes.items c.loop-epoch.bench) end c.loop-epoch.invariant.each),
+    )
 
 pub halt_all-requires-clause-parties : goal.halt_all-requires-clause-parties
 halt_all-requires-clause-parties g c =
     let m = g.V.Device.party in
     let n : ℕ = length c.loop-epoch.floor.lanes.items in
-    let before : HasLanes n c.loop-epoch.bench = subst (λ j. HasLanes j c.loop-epoch.bench) (sym c.loop-epoch.invariant.many) c.loop-epoch.invariant.parties in
-    subst (λ j. HasLanes j c.drain-made.new.bench) (sym c.drain-made.ensures.many) (lanes_kept m n c.loop-epoch.bench c.drain-made.new.bench n c.drain-made.ensures.keeps before)
+    let before : HasLanes n c.loop-epoch.bench =
+    subst (λ j. HasLanes j c.loop-epoch.bench) (sym c.loop-epoch.invariant.many) c.loop-epoch.invariant.parties in
+    subst (λ j. HasLanes j c.drain-made.new.bench) (sym c.drain-made.ensures.many)
+    (lanes_kept m n c.loop-epoch.bench c.drain-made.new.bench n c.drain-made.ensures.keeps before)
 
 pub halt_all-requires-clause-done : goal.halt_all-requires-clause-done
-halt_all-requires-clause-done g c = subst (λ (j : ℕ). AllDone g.G.Guest.party j c.drain-made.new.bench) (sym c.drain-made.ensures.many) c.drain-made.ensures.done
+halt_all-requires-clause-done g c =
+    subst (λ (j : ℕ). AllDone g.G.Guest.party j c.drain-made.new.bench) (sym c.drain-made.ensures.many) c.drain-made.ensures.done
 
 pub halt_all-requires-clause-lanes : goal.halt_all-requires-clause-lanes
 halt_all-requires-clause-lanes g c =
@@ -102,7 +123,8 @@ halt_all-requires-clause-lanes g c =
     let plan : Plan = view c.args.m.now in
     let k : ℕ = length plan.switches + 1 in
     let end : c.loop-epoch.epoch ≡ k + 1 = omega arith in
-    let start = all_closed s plan k c.loop-epoch.floor.lanes.items c.loop-epoch.bench (subst (λ (j : ℕ). AllStopped s plan j c.loop-epoch.floor.lanes.items c.loop-epoch.bench) end c.loop-epoch.invariant.each) in
+    let start = all_closed s plan k c.loop-epoch.floor.lanes.items c.loop-epoch.bench
+    (subst (λ (j : ℕ). AllStopped s plan j c.loop-epoch.floor.lanes.items c.loop-epoch.bench) end c.loop-epoch.invariant.each) in
     let drained = c.drain-made.ensures.goes plan k start in
     (plan, k, drained.0.0, last_epoch s plan, drained.0.1)
 
@@ -111,9 +133,13 @@ returns-clause-keeps g c =
     let m = g.V.Device.party in
     let n : ℕ = length c.args.m.now.queues in
     let many : length c.loop-epoch.floor.lanes.items ≡ n = c.loop-epoch.invariant.many in
-    let one : KeepsBench m n c.loop-epoch.bench c.drain-made.new.bench = subst (λ j. KeepsBench m j c.loop-epoch.bench c.drain-made.new.bench) many c.drain-made.ensures.keeps in
-    let two : KeepsBench m n c.drain-made.new.bench c.halt_all.new.bench = subst (λ j. KeepsBench m j c.drain-made.new.bench c.halt_all.new.bench) (c.drain-made.ensures.many ∙ many) c.halt_all.ensures.keeps in
-    keeps_through m n c.args.bench.now c.loop-epoch.bench c.halt_all.new.bench c.loop-epoch.invariant.keeps (keeps_through m n c.loop-epoch.bench c.drain-made.new.bench c.halt_all.new.bench one two)
+    let one : KeepsBench m n c.loop-epoch.bench c.drain-made.new.bench =
+    subst (λ j. KeepsBench m j c.loop-epoch.bench c.drain-made.new.bench) many c.drain-made.ensures.keeps in
+    let two : KeepsBench m n c.drain-made.new.bench c.halt_all.new.bench =
+    subst (λ j. KeepsBench m j c.drain-made.new.bench c.halt_all.new.bench)
+    (c.drain-made.ensures.many ∙ many) c.halt_all.ensures.keeps in
+    keeps_through m n c.args.bench.now c.loop-epoch.bench c.halt_all.new.bench c.loop-epoch.invariant.keeps
+    (keeps_through m n c.loop-epoch.bench c.drain-made.new.bench c.halt_all.new.bench one two)
 
 pub returns-clause-played : goal.returns-clause-played
 returns-clause-played g c =
@@ -121,9 +147,11 @@ returns-clause-played g c =
     let plan : Plan = view c.args.m.now in
     let k : ℕ = length plan.switches + 1 in
     let end : c.loop-epoch.epoch ≡ k + 1 = omega arith in
-    let start = all_closed s plan k c.loop-epoch.floor.lanes.items c.loop-epoch.bench (subst (λ (j : ℕ). AllStopped s plan j c.loop-epoch.floor.lanes.items c.loop-epoch.bench) end c.loop-epoch.invariant.each) in
+    let start = all_closed s plan k c.loop-epoch.floor.lanes.items c.loop-epoch.bench
+    (subst (λ (j : ℕ). AllStopped s plan j c.loop-epoch.floor.lanes.items c.loop-epoch.bench) end c.loop-epoch.invariant.each) in
     let drained = c.drain-made.ensures.goes plan k start in
-    each_queue (IsPlayed s plan) (length c.args.m.now.queues) _ _ _ (c.drain-made.ensures.many ∙ c.loop-epoch.invariant.many) (c.halt_all.ensures.halted plan k drained.0.0 (last_epoch s plan) drained.0.1)
+    each_queue (IsPlayed s plan) (length c.args.m.now.queues) _ _ _ (c.drain-made.ensures.many ∙ c.loop-epoch.invariant.many)
+    (c.halt_all.ensures.halted plan k drained.0.0 (last_epoch s plan) drained.0.1)
 
 pub returns-clause-counted : goal.returns-clause-counted
 returns-clause-counted g c =
@@ -131,7 +159,8 @@ returns-clause-counted g c =
     let plan : Plan = view c.args.m.now in
     let k : ℕ = length plan.switches + 1 in
     let end : c.loop-epoch.epoch ≡ k + 1 = omega arith in
-    let start = all_closed s plan k c.loop-epoch.floor.lanes.items c.loop-epoch.bench (subst (λ (j : ℕ). AllStopped s plan j c.loop-epoch.floor.lanes.items c.loop-epoch.bench) end c.loop-epoch.invariant.each) in
+    let start = all_closed s plan k c.loop-epoch.floor.lanes.items c.loop-epoch.bench
+    (subst (λ (j : ℕ). AllStopped s plan j c.loop-epoch.floor.lanes.items c.loop-epoch.bench) end c.loop-epoch.invariant.each) in
     let drained = c.drain-made.ensures.goes plan k start in
     omega (arith, c.halt_all.ensures.counted, drained.1, c.loop-epoch.invariant.counted)
 
@@ -143,12 +172,17 @@ returns-clause-bound g c =
     let n : ℕ = length c.args.m.now.queues in
     let k : ℕ = length plan.switches + 1 in
     let end : c.loop-epoch.epoch ≡ k + 1 = omega arith in
-    let start = all_closed s plan k c.loop-epoch.floor.lanes.items c.loop-epoch.bench (subst (λ (j : ℕ). AllStopped s plan j c.loop-epoch.floor.lanes.items c.loop-epoch.bench) end c.loop-epoch.invariant.each) in
+    let start = all_closed s plan k c.loop-epoch.floor.lanes.items c.loop-epoch.bench
+    (subst (λ (j : ℕ). AllStopped s plan j c.loop-epoch.floor.lanes.items c.loop-epoch.bench) end c.loop-epoch.invariant.each) in
     let drained = c.drain-made.ensures.goes plan k start in
     let many : length c.loop-epoch.floor.lanes.items ≡ n = c.loop-epoch.invariant.many in
-    let one : KeepsBench m n c.loop-epoch.bench c.drain-made.new.bench = subst (λ j. KeepsBench m j c.loop-epoch.bench c.drain-made.new.bench) many c.drain-made.ensures.keeps in
+    let one : KeepsBench m n c.loop-epoch.bench c.drain-made.new.bench =
+    subst (λ j. KeepsBench m j c.loop-epoch.bench c.drain-made.new.bench) many c.drain-made.ensures.keeps in
     let keeps = keeps_through m n c.args.bench.now c.loop-epoch.bench c.drain-made.new.bench c.loop-epoch.invariant.keeps one in
-    let low : all_steps s c.drain-made.new.bench ≤ most_steps plan = all_low s plan false k drained.0.0 c.drain-made.new.floor.lanes.items c.args.bench.now c.drain-made.new.bench (c.drain-made.ensures.many ∙ many) (lanes_kept m n c.args.bench.now c.drain-made.new.bench n keeps c.requires.parties) c.requires.idle keeps drained.0.1 in
+    let low : all_steps s c.drain-made.new.bench ≤ most_steps plan =
+    all_low s plan false k drained.0.0 c.drain-made.new.floor.lanes.items c.args.bench.now c.drain-made.new.bench
+    (c.drain-made.ensures.many ∙ many) (lanes_kept m n c.args.bench.now c.drain-made.new.bench n keeps c.requires.parties)
+    c.requires.idle keeps drained.0.1 in
     omega (arith, low, drained.1, c.loop-epoch.invariant.counted)
 
 pub returns-clause-faults : goal.returns-clause-faults

@@ -13,6 +13,8 @@ invariant-loop-epoch g l = record {
   few : l.made ≤ 274877906944 * l.epoch;
   keeps : KeepsBench g.V.Device.party (length l.m.queues) l.initial.bench l.bench;
   faults : HasNoFault g.V.Device.party l.initial.bench l.bench;
-  counted : all_steps (setting_of g.L.Driver.DriverEnd.driver g.L.Device.DeviceEnd.device g.L.Layout.layout g.G.Guest.party g.V.Device.party) l.bench ≡ l.made;
-  each : AllStopped (setting_of g.L.Driver.DriverEnd.driver g.L.Device.DeviceEnd.device g.L.Layout.layout g.G.Guest.party g.V.Device.party) (view l.m) l.epoch l.floor.lanes.items l.bench;
+  counted : all_steps (setting_of g.L.Driver.DriverEnd.driver g.L.Device.DeviceEnd.device g.L.Layout.layout g.G.Guest.party
+      g.V.Device.party) l.bench ≡ l.made;
+  each : AllStopped (setting_of g.L.Driver.DriverEnd.driver g.L.Device.DeviceEnd.device g.L.Layout.layout g.G.Guest.party
+      g.V.Device.party) (view l.m) l.epoch l.floor.lanes.items l.bench;
 }

@@ -12,7 +12,8 @@ use Rattle.vd_play.proofs.Untouched.{untouched_start, untouched_set, idle_of, ea
 use Rattle.vd_play.proofs.preparing.prepare.Goals as goal
 
 pub returns-in_err-lanes-clause-untouched : goal.returns-in_err-lanes-clause-untouched
-returns-in_err-lanes-clause-untouched g c = untouched_start g.L.Driver.DriverEnd.driver g.G.Guest.party g.V.Device.party g.met.G.Guest.lawful c.args.bench.now c.requires.empty
+returns-in_err-lanes-clause-untouched g c =
+    untouched_start g.L.Driver.DriverEnd.driver g.G.Guest.party g.V.Device.party g.met.G.Guest.lawful c.args.bench.now c.requires.empty
 
 pub loop-i-init : goal.loop-i-init
 loop-i-init g c = record {
@@ -20,7 +21,8 @@ loop-i-init g c = record {
   room = (c.in_ok-lanes.ensures.len, omega (arith, c.in_ok-lanes.ensures.capacity, c.len.ensures));
   parties = c.requires.parties;
   keeps = keeps_none g.V.Device.party 0 c.args.bench.now;
-  untouched = untouched_start g.L.Driver.DriverEnd.driver g.G.Guest.party g.V.Device.party g.met.G.Guest.lawful c.args.bench.now c.requires.empty;
+  untouched = untouched_start g.L.Driver.DriverEnd.driver g.G.Guest.party g.V.Device.party g.met.G.Guest.lawful c.args.bench.now
+      c.requires.empty;
   each = each_none _ c.in_ok-lanes.lanes.items _ _ c.in_ok-lanes.ensures.items;
 }
 
@@ -30,10 +32,13 @@ make_lane-requires-clause-guest g c =
     let n : ℕ = length c.args.m.now.queues in
     let f = c.loop-i.invariant.parties in
     let below : i < n = omega arith in
-    let hg = slice_get_read c.loop-i.bench.guests.items _ i c.index_mut.result.now refl (omega (arith, f.guests)) c.index_mut.ensures.value in
-    let hx = slice_get_read c.loop-i.bench.devices.items _ i c.index_mut-in-loop-i.result.now refl (omega (arith, f.devices)) c.index_mut-in-loop-i.ensures.value in
+    let hg = slice_get_read c.loop-i.bench.guests.items _ i c.index_mut.result.now refl
+    (omega (arith, f.guests)) c.index_mut.ensures.value in
+    let hx = slice_get_read c.loop-i.bench.devices.items _ i c.index_mut-in-loop-i.result.now refl
+    (omega (arith, f.devices)) c.index_mut-in-loop-i.ensures.value in
     let old = sym (c.loop-i.invariant.keeps.other_devices i (omega arith)) ∙ hx in
-    All-at (IsEmptyGuest g.G.Guest.party) c.args.bench.now.guests.items i c.index_mut.result.now (sym (c.loop-i.invariant.keeps.other_guests i (omega arith)) ∙ hg) c.requires.empty.guests
+    All-at (IsEmptyGuest g.G.Guest.party) c.args.bench.now.guests.items i c.index_mut.result.now
+    (sym (c.loop-i.invariant.keeps.other_guests i (omega arith)) ∙ hg) c.requires.empty.guests
 
 pub make_lane-requires-clause-device : goal.make_lane-requires-clause-device
 make_lane-requires-clause-device g c =
@@ -41,8 +46,10 @@ make_lane-requires-clause-device g c =
     let n : ℕ = length c.args.m.now.queues in
     let f = c.loop-i.invariant.parties in
     let below : i < n = omega arith in
-    let hg = slice_get_read c.loop-i.bench.guests.items _ i c.index_mut.result.now refl (omega (arith, f.guests)) c.index_mut.ensures.value in
-    let hx = slice_get_read c.loop-i.bench.devices.items _ i c.index_mut-in-loop-i.result.now refl (omega (arith, f.devices)) c.index_mut-in-loop-i.ensures.value in
+    let hg = slice_get_read c.loop-i.bench.guests.items _ i c.index_mut.result.now refl
+    (omega (arith, f.guests)) c.index_mut.ensures.value in
+    let hx = slice_get_read c.loop-i.bench.devices.items _ i c.index_mut-in-loop-i.result.now refl
+    (omega (arith, f.devices)) c.index_mut-in-loop-i.ensures.value in
     let old = sym (c.loop-i.invariant.keeps.other_devices i (omega arith)) ∙ hx in
     All-at (IsEmptyDevice g.V.Device.party) c.args.bench.now.devices.items i c.index_mut-in-loop-i.result.now old c.requires.empty.devices
 
@@ -52,11 +59,20 @@ returns-in_err-lane-clause-keeps g c =
     let n : ℕ = length c.args.m.now.queues in
     let f = c.loop-i.invariant.parties in
     let below : i < n = omega arith in
-    let hg = slice_get_read c.loop-i.bench.guests.items _ i c.index_mut.result.now refl (omega (arith, f.guests)) c.index_mut.ensures.value in
-    let hx = slice_get_read c.loop-i.bench.devices.items _ i c.index_mut-in-loop-i.result.now refl (omega (arith, f.devices)) c.index_mut-in-loop-i.ensures.value in
+    let hg = slice_get_read c.loop-i.bench.guests.items _ i c.index_mut.result.now refl
+    (omega (arith, f.guests)) c.index_mut.ensures.value in
+    let hx = slice_get_read c.loop-i.bench.devices.items _ i c.index_mut-in-loop-i.result.now refl
+    (omega (arith, f.devices)) c.index_mut-in-loop-i.ensures.value in
     let old = sym (c.loop-i.invariant.keeps.other_devices i (omega arith)) ∙ hx in
-    let new : Bench _ _ = record { guests = with_item c.loop-i.bench.guests i c.make_lane.new.guest; devices = with_item c.loop-i.bench.devices i c.make_lane.new.device } in
-    let keeps : KeepsBench g.V.Device.party (i + 1) c.args.bench.now new = keeps_set g.V.Device.party (i + 1) c.args.bench.now c.loop-i.bench new i c.make_lane.new.guest _ c.make_lane.new.device (omega arith) (keeps_more g.V.Device.party i (i + 1) _ _ (omega arith) c.loop-i.invariant.keeps) refl refl hx c.make_lane.ensures.device.carried in
+    let new : Bench _ _ = record {
+      guests = with_item c.loop-i.bench.guests i c.make_lane.new.guest;
+      devices =
+          with_item c.loop-i.bench.devices i c.make_lane.new.device;
+    } in
+    let keeps : KeepsBench g.V.Device.party (i + 1) c.args.bench.now new =
+    keeps_set g.V.Device.party (i + 1) c.args.bench.now c.loop-i.bench new i c.make_lane.new.guest _ c.make_lane.new.device
+    (omega arith) (keeps_more g.V.Device.party i (i + 1) _ _ (omega arith) c.loop-i.invariant.keeps) refl refl hx
+    c.make_lane.ensures.device.carried in
     keeps_more g.V.Device.party (i + 1) n c.args.bench.now new (omega arith) keeps
 
 pub returns-in_err-lane-clause-untouched : goal.returns-in_err-lane-clause-untouched
@@ -65,11 +81,19 @@ returns-in_err-lane-clause-untouched g c =
     let n : ℕ = length c.args.m.now.queues in
     let f = c.loop-i.invariant.parties in
     let below : i < n = omega arith in
-    let hg = slice_get_read c.loop-i.bench.guests.items _ i c.index_mut.result.now refl (omega (arith, f.guests)) c.index_mut.ensures.value in
-    let hx = slice_get_read c.loop-i.bench.devices.items _ i c.index_mut-in-loop-i.result.now refl (omega (arith, f.devices)) c.index_mut-in-loop-i.ensures.value in
+    let hg = slice_get_read c.loop-i.bench.guests.items _ i c.index_mut.result.now refl
+    (omega (arith, f.guests)) c.index_mut.ensures.value in
+    let hx = slice_get_read c.loop-i.bench.devices.items _ i c.index_mut-in-loop-i.result.now refl
+    (omega (arith, f.devices)) c.index_mut-in-loop-i.ensures.value in
     let old = sym (c.loop-i.invariant.keeps.other_devices i (omega arith)) ∙ hx in
-    let new : Bench _ _ = record { guests = with_item c.loop-i.bench.guests i c.make_lane.new.guest; devices = with_item c.loop-i.bench.devices i c.make_lane.new.device } in
-    untouched_set g.G.Guest.party g.V.Device.party c.args.bench.now c.loop-i.bench new i c.make_lane.new.guest c.index_mut-in-loop-i.result.now c.make_lane.new.device c.loop-i.invariant.untouched refl refl c.make_lane.ensures.guest old c.make_lane.ensures.device
+    let new : Bench _ _ = record {
+      guests = with_item c.loop-i.bench.guests i c.make_lane.new.guest;
+      devices =
+          with_item c.loop-i.bench.devices i c.make_lane.new.device;
+    } in
+    untouched_set g.G.Guest.party g.V.Device.party c.args.bench.now c.loop-i.bench new i c.make_lane.new.guest
+    c.index_mut-in-loop-i.result.now c.make_lane.new.device c.loop-i.invariant.untouched refl refl c.make_lane.ensures.guest old
+    c.make_lane.ensures.device
 
 pub loop-i-preserved : goal.loop-i-preserved
 loop-i-preserved g c =
@@ -77,18 +101,34 @@ loop-i-preserved g c =
     let n : ℕ = length c.args.m.now.queues in
     let f = c.loop-i.invariant.parties in
     let below : i < n = omega arith in
-    let hg = slice_get_read c.loop-i.bench.guests.items _ i c.index_mut.result.now refl (omega (arith, f.guests)) c.index_mut.ensures.value in
-    let hx = slice_get_read c.loop-i.bench.devices.items _ i c.index_mut-in-loop-i.result.now refl (omega (arith, f.devices)) c.index_mut-in-loop-i.ensures.value in
+    let hg = slice_get_read c.loop-i.bench.guests.items _ i c.index_mut.result.now refl
+    (omega (arith, f.guests)) c.index_mut.ensures.value in
+    let hx = slice_get_read c.loop-i.bench.devices.items _ i c.index_mut-in-loop-i.result.now refl
+    (omega (arith, f.devices)) c.index_mut-in-loop-i.ensures.value in
     let old = sym (c.loop-i.invariant.keeps.other_devices i (omega arith)) ∙ hx in
-    let new : Bench _ _ = record { guests = with_item c.loop-i.bench.guests i c.make_lane.new.guest; devices = with_item c.loop-i.bench.devices i c.make_lane.new.device } in
-    let keeps : KeepsBench g.V.Device.party (i + 1) c.args.bench.now new = keeps_set g.V.Device.party (i + 1) c.args.bench.now c.loop-i.bench new i c.make_lane.new.guest _ c.make_lane.new.device (omega arith) (keeps_more g.V.Device.party i (i + 1) _ _ (omega arith) c.loop-i.invariant.keeps) refl refl hx c.make_lane.ensures.device.carried in
+    let new : Bench _ _ = record {
+      guests = with_item c.loop-i.bench.guests i c.make_lane.new.guest;
+      devices =
+          with_item c.loop-i.bench.devices i c.make_lane.new.device;
+    } in
+    let keeps : KeepsBench g.V.Device.party (i + 1) c.args.bench.now new =
+    keeps_set g.V.Device.party (i + 1) c.args.bench.now c.loop-i.bench new i c.make_lane.new.guest _ c.make_lane.new.device
+    (omega arith) (keeps_more g.V.Device.party i (i + 1) _ _ (omega arith) c.loop-i.invariant.keeps) refl refl hx
+    c.make_lane.ensures.device.carried in
     record {
-      many = ap length c.push_reserved.ensures.items ∙ length_push c.loop-i.lanes.items c.in_ok-lane.lane ∙ ap (λ k. k + 1) c.loop-i.invariant.many;
-      room = (omega (arith, c.push_reserved.ensures.len, c.loop-i.invariant.room.0), omega (arith, c.push_reserved.ensures.capacity, c.loop-i.invariant.room.1));
+      many = ap length c.push_reserved.ensures.items ∙ length_push c.loop-i.lanes.items c.in_ok-lane.lane
+          ∙ ap (λ k. k + 1) c.loop-i.invariant.many;
+      room = (
+        omega (arith, c.push_reserved.ensures.len, c.loop-i.invariant.room.0),
+        omega (arith, c.push_reserved.ensures.capacity, c.loop-i.invariant.room.1),
+      );
       parties = lanes_kept g.V.Device.party (i + 1) c.args.bench.now new n keeps c.requires.parties;
       keeps = keeps;
-      untouched = untouched_set g.G.Guest.party g.V.Device.party c.args.bench.now c.loop-i.bench new i c.make_lane.new.guest c.index_mut-in-loop-i.result.now c.make_lane.new.device c.loop-i.invariant.untouched refl refl c.make_lane.ensures.guest old c.make_lane.ensures.device;
-      each = each_push _ i c.loop-i.lanes.items c.push_reserved.new.self.items _ _ c.in_ok-lane.lane c.make_lane.new.guest c.make_lane.new.device c.push_reserved.ensures.items c.loop-i.invariant.many c.loop-i.invariant.each c.in_ok-lane.ensures.ok;
+      untouched = untouched_set g.G.Guest.party g.V.Device.party c.args.bench.now c.loop-i.bench new i c.make_lane.new.guest
+          c.index_mut-in-loop-i.result.now c.make_lane.new.device c.loop-i.invariant.untouched refl refl c.make_lane.ensures.guest old
+          c.make_lane.ensures.device;
+      each = each_push _ i c.loop-i.lanes.items c.push_reserved.new.self.items _ _ c.in_ok-lane.lane c.make_lane.new.guest
+          c.make_lane.new.device c.push_reserved.ensures.items c.loop-i.invariant.many c.loop-i.invariant.each c.in_ok-lane.ensures.ok;
     }
 
 pub returns-clause-ok : goal.returns-clause-ok
@@ -100,5 +140,6 @@ returns-clause-ok g c =
       many = v.many ∙ end;
       parties = v.parties;
       each = v.each;
-      idle = idle_of s c.args.bench.now c.loop-i.bench c.requires.empty v.untouched (same_many g.V.Device.party c.loop-i.i c.args.bench.now c.loop-i.bench v.keeps);
+      idle = idle_of s c.args.bench.now c.loop-i.bench c.requires.empty v.untouched
+          (same_many g.V.Device.party c.loop-i.i c.args.bench.now c.loop-i.bench v.keeps);
     }

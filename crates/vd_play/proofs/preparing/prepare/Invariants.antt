@@ -14,5 +14,7 @@ invariant-loop-i g l = record {
   parties : HasLanes (length l.m.queues) l.bench;
   keeps : KeepsBench g.V.Device.party l.i l.initial.bench l.bench;
   untouched : IsUntouched g.G.Guest.party g.V.Device.party l.initial.bench l.bench;
-  each : EachLane (λ q a b x. Stopped (setting_of g.L.Driver.DriverEnd.driver g.L.Device.DeviceEnd.device g.L.Layout.layout g.G.Guest.party g.V.Device.party) (view l.m) q 0 a b x) l.lanes.items l.bench.guests.items l.bench.devices.items;
+  each : EachLane (λ q a b x. Stopped
+      (setting_of g.L.Driver.DriverEnd.driver g.L.Device.DeviceEnd.device g.L.Layout.layout g.G.Guest.party g.V.Device.party)
+      (view l.m) q 0 a b x) l.lanes.items l.bench.guests.items l.bench.devices.items;
 }

@@ -23,14 +23,17 @@ returns-then-all_done-clause-goes g c = λ plan k start.
     ((c.loop-turn.turn, e.0), e.1)
 
 pub round-made-requires-clause-lanes : goal.round-made-requires-clause-lanes
-round-made-requires-clause-lanes g c = let r = c.requires.lanes in (r.0, false, r.1, c.loop-turn.turn, (c.loop-turn.invariant.each r.0 r.1 r.3).0)
+round-made-requires-clause-lanes g c = let r = c.requires.lanes in
+    (r.0, false, r.1, c.loop-turn.turn, (c.loop-turn.invariant.each r.0 r.1 r.3).0)
 
 pub loop-turn-preserved : goal.loop-turn-preserved
 loop-turn-preserved g c =
     let m = g.V.Device.party in
     let n : ℕ = length c.args.floor.now.lanes.items in
-    let one : KeepsBench m n c.loop-turn.bench c.round-made.new.bench = subst (λ (j : ℕ). KeepsBench m j c.loop-turn.bench c.round-made.new.bench) c.loop-turn.invariant.many c.round-made.ensures.keeps in
-    let keeps : KeepsBench m n c.args.bench.now c.round-made.new.bench = keeps_through m n c.args.bench.now c.loop-turn.bench c.round-made.new.bench c.loop-turn.invariant.keeps one in
+    let one : KeepsBench m n c.loop-turn.bench c.round-made.new.bench =
+    subst (λ (j : ℕ). KeepsBench m j c.loop-turn.bench c.round-made.new.bench) c.loop-turn.invariant.many c.round-made.ensures.keeps in
+    let keeps : KeepsBench m n c.args.bench.now c.round-made.new.bench =
+    keeps_through m n c.args.bench.now c.loop-turn.bench c.round-made.new.bench c.loop-turn.invariant.keeps one in
     record {
       many = c.round-made.ensures.many ∙ c.loop-turn.invariant.many;
       parties = lanes_kept m n c.args.bench.now c.round-made.new.bench n keeps c.requires.parties;
@@ -49,8 +52,10 @@ returns-clause-done g c =
     let r = c.requires.lanes in
     let e = c.loop-turn.invariant.each r.0 r.1 r.3 in
     let many = c.loop-turn.invariant.many in
-    let here : HasLanes (length c.loop-turn.floor.lanes.items) c.loop-turn.bench = subst (λ (n : ℕ). HasLanes n c.loop-turn.bench) (sym many) c.loop-turn.invariant.parties in
-    subst (λ (n : ℕ). AllDone g.G.Guest.party n c.loop-turn.bench) many (guests_done s r.0 r.1 c.loop-turn.turn c.loop-turn.floor.lanes.items c.loop-turn.bench r.2 here (omega arith) e.0)
+    let here : HasLanes (length c.loop-turn.floor.lanes.items) c.loop-turn.bench =
+    subst (λ (n : ℕ). HasLanes n c.loop-turn.bench) (sym many) c.loop-turn.invariant.parties in
+    subst (λ (n : ℕ). AllDone g.G.Guest.party n c.loop-turn.bench) many
+    (guests_done s r.0 r.1 c.loop-turn.turn c.loop-turn.floor.lanes.items c.loop-turn.bench r.2 here (omega arith) e.0)
 
 pub returns-clause-goes : goal.returns-clause-goes
 returns-clause-goes g c = λ plan k start.

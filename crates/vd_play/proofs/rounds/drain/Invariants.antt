@@ -13,7 +13,13 @@ invariant-loop-turn g l = record {
   few : l.made ≤ 64 * l.turn;
   keeps : KeepsBench g.V.Device.party (length l.initial.floor.lanes.items) l.initial.bench l.bench;
   faults : HasNoFault g.V.Device.party l.initial.bench l.bench;
-  each : (plan : Plan) (k : ℕ) → AllInEpoch (setting_of g.L.Driver.DriverEnd.driver g.L.Device.DeviceEnd.device g.L.Layout.layout g.G.Guest.party g.V.Device.party) plan false k 0 l.initial.floor.lanes.items l.initial.bench
-      → AllInEpoch (setting_of g.L.Driver.DriverEnd.driver g.L.Device.DeviceEnd.device g.L.Layout.layout g.G.Guest.party g.V.Device.party) plan false k l.turn l.floor.lanes.items l.bench
-      × (all_steps (setting_of g.L.Driver.DriverEnd.driver g.L.Device.DeviceEnd.device g.L.Layout.layout g.G.Guest.party g.V.Device.party) l.bench ≡ all_steps (setting_of g.L.Driver.DriverEnd.driver g.L.Device.DeviceEnd.device g.L.Layout.layout g.G.Guest.party g.V.Device.party) l.initial.bench + l.made);
+  each : (plan : Plan) (k : ℕ) → AllInEpoch
+      (setting_of g.L.Driver.DriverEnd.driver g.L.Device.DeviceEnd.device g.L.Layout.layout g.G.Guest.party g.V.Device.party) plan false
+      k 0 l.initial.floor.lanes.items l.initial.bench
+      → AllInEpoch (setting_of g.L.Driver.DriverEnd.driver g.L.Device.DeviceEnd.device g.L.Layout.layout g.G.Guest.party
+      g.V.Device.party) plan false k l.turn l.floor.lanes.items l.bench
+      × (all_steps (setting_of g.L.Driver.DriverEnd.driver g.L.Device.DeviceEnd.device g.L.Layout.layout g.G.Guest.party
+      g.V.Device.party) l.bench ≡ all_steps
+      (setting_of g.L.Driver.DriverEnd.driver g.L.Device.DeviceEnd.device g.L.Layout.layout g.G.Guest.party g.V.Device.party)
+      l.initial.bench + l.made);
 }

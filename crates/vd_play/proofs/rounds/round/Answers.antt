@@ -25,8 +25,10 @@ lane_round-made-requires g c =
     let i = c.loop-i.i in
     let f = c.loop-i.invariant.parties in
     let hl = slice_get_read c.loop-i.floor.lanes.items _ i c.index_mut.result.now refl (omega arith) c.index_mut.ensures.value in
-    let hg = slice_get_read c.loop-i.bench.guests.items _ i c.index_mut-in-loop-i.result.now refl (omega (arith, f.guests, c.loop-i.invariant.many)) c.index_mut-in-loop-i.ensures.value in
-    let hx = slice_get_read c.loop-i.bench.devices.items _ i c.index_mut-in-loop-i-2.result.now refl (omega (arith, f.devices, c.loop-i.invariant.many)) c.index_mut-in-loop-i-2.ensures.value in
+    let hg = slice_get_read c.loop-i.bench.guests.items _ i c.index_mut-in-loop-i.result.now refl
+    (omega (arith, f.guests, c.loop-i.invariant.many)) c.index_mut-in-loop-i.ensures.value in
+    let hx = slice_get_read c.loop-i.bench.devices.items _ i c.index_mut-in-loop-i-2.result.now refl
+    (omega (arith, f.devices, c.loop-i.invariant.many)) c.index_mut-in-loop-i-2.ensures.value in
     (r.0, i, r.1, r.2, r.3, stage_read _ _ i _ _ _ _ _ _ (c.loop-i.invariant.each r.0 r.1 r.2 r.3 r.4).0 hl hg hx)
 
 pub loop-i-preserved : goal.loop-i-preserved
@@ -37,21 +39,36 @@ loop-i-preserved g c =
     let f = c.loop-i.invariant.parties in
     let below : i < n = omega (arith, c.loop-i.invariant.many) in
     let hl = slice_get_read c.loop-i.floor.lanes.items _ i c.index_mut.result.now refl (omega arith) c.index_mut.ensures.value in
-    let hg = slice_get_read c.loop-i.bench.guests.items _ i c.index_mut-in-loop-i.result.now refl (omega (arith, f.guests)) c.index_mut-in-loop-i.ensures.value in
-    let hx = slice_get_read c.loop-i.bench.devices.items _ i c.index_mut-in-loop-i-2.result.now refl (omega (arith, f.devices)) c.index_mut-in-loop-i-2.ensures.value in
-    let new : Bench _ _ = record { guests = with_item c.loop-i.bench.guests i c.lane_round-made.new.guest; devices = with_item c.loop-i.bench.devices i c.lane_round-made.new.device } in
-    let keeps : KeepsBench m n c.args.bench.now new = keeps_set m n c.args.bench.now c.loop-i.bench new i c.lane_round-made.new.guest _ c.lane_round-made.new.device below c.loop-i.invariant.keeps refl refl hx c.lane_round-made.ensures.carried in
+    let hg = slice_get_read c.loop-i.bench.guests.items _ i c.index_mut-in-loop-i.result.now refl
+    (omega (arith, f.guests)) c.index_mut-in-loop-i.ensures.value in
+    let hx = slice_get_read c.loop-i.bench.devices.items _ i c.index_mut-in-loop-i-2.result.now refl
+    (omega (arith, f.devices)) c.index_mut-in-loop-i-2.ensures.value in
+    let new : Bench _ _ = record {
+      guests = with_item c.loop-i.bench.guests i c.lane_round-made.new.guest;
+      devices =
+          with_item c.loop-i.bench.devices i c.lane_round-made.new.device;
+    } in
+    let keeps : KeepsBench m n c.args.bench.now new =
+    keeps_set m n c.args.bench.now c.loop-i.bench new i c.lane_round-made.new.guest _ c.lane_round-made.new.device below
+    c.loop-i.invariant.keeps refl refl hx c.lane_round-made.ensures.carried in
     record {
       many = length-set c.loop-i.floor.lanes.items i c.lane_round-made.new.lane ∙ c.loop-i.invariant.many;
       parties = lanes_kept m n c.args.bench.now new n keeps c.requires.parties;
       few = omega (arith, c.loop-i.invariant.few, c.lane_round-made.ensures.few);
       keeps = keeps;
-      faults = faults_set m c.args.bench.now c.loop-i.bench new i _ c.lane_round-made.new.device c.loop-i.invariant.faults refl hx c.lane_round-made.ensures.faults;
+      faults = faults_set m c.args.bench.now c.loop-i.bench new i _ c.lane_round-made.new.device c.loop-i.invariant.faults refl hx
+          c.lane_round-made.ensures.faults;
       each = λ plan on k r start.
           let e = c.loop-i.invariant.each plan on k r start in
           let done = c.lane_round-made.ensures.goes plan i on k r (stage_read _ _ i _ _ _ _ _ _ e.0 hl hg hx) in (
             stage_write _ _ i _ _ _ c.lane_round-made.new.lane c.lane_round-made.new.guest c.lane_round-made.new.device e.0 done.0,
-            omega (arith, e.1, done.1, sum_set g.G.Guest.party.accesses c.loop-i.bench.guests.items i _ c.lane_round-made.new.guest hg, sum_set g.V.Device.party.accesses c.loop-i.bench.devices.items i _ c.lane_round-made.new.device hx),
+            omega (
+              arith,
+              e.1,
+              done.1,
+              sum_set g.G.Guest.party.accesses c.loop-i.bench.guests.items i _ c.lane_round-made.new.guest hg,
+              sum_set g.V.Device.party.accesses c.loop-i.bench.devices.items i _ c.lane_round-made.new.device hx,
+            ),
           );
     }
 

@@ -13,7 +13,16 @@ invariant-loop-i g l = record {
   few : l.made ≤ 8 * l.i;
   keeps : KeepsBench g.V.Device.party (length l.initial.floor.lanes.items) l.initial.bench l.bench;
   faults : HasNoFault g.V.Device.party l.initial.bench l.bench;
-  each : (plan : Plan) (on : Bool) (k r : ℕ) → AllInEpoch (setting_of g.L.Driver.DriverEnd.driver g.L.Device.DeviceEnd.device g.L.Layout.layout g.G.Guest.party g.V.Device.party) plan on k r l.initial.floor.lanes.items l.initial.bench
-      → EachLane (Stage l.i (λ q a b x. InEpoch (setting_of g.L.Driver.DriverEnd.driver g.L.Device.DeviceEnd.device g.L.Layout.layout g.G.Guest.party g.V.Device.party) plan q on k (r + 1) a b x) (λ q a b x. InEpoch (setting_of g.L.Driver.DriverEnd.driver g.L.Device.DeviceEnd.device g.L.Layout.layout g.G.Guest.party g.V.Device.party) plan q on k r a b x)) l.floor.lanes.items l.bench.guests.items l.bench.devices.items
-      × (all_steps (setting_of g.L.Driver.DriverEnd.driver g.L.Device.DeviceEnd.device g.L.Layout.layout g.G.Guest.party g.V.Device.party) l.bench ≡ all_steps (setting_of g.L.Driver.DriverEnd.driver g.L.Device.DeviceEnd.device g.L.Layout.layout g.G.Guest.party g.V.Device.party) l.initial.bench + l.made);
+  each : (plan : Plan) (on : Bool) (k r : ℕ)
+      → AllInEpoch (setting_of g.L.Driver.DriverEnd.driver g.L.Device.DeviceEnd.device g.L.Layout.layout g.G.Guest.party
+      g.V.Device.party) plan on k r l.initial.floor.lanes.items l.initial.bench
+      → EachLane (Stage l.i (λ q a b x. InEpoch
+      (setting_of g.L.Driver.DriverEnd.driver g.L.Device.DeviceEnd.device g.L.Layout.layout g.G.Guest.party g.V.Device.party) plan q
+      on k (r + 1) a b x) (λ q a b x. InEpoch
+      (setting_of g.L.Driver.DriverEnd.driver g.L.Device.DeviceEnd.device g.L.Layout.layout g.G.Guest.party g.V.Device.party) plan q
+      on k r a b x)) l.floor.lanes.items l.bench.guests.items l.bench.devices.items
+      × (all_steps (setting_of g.L.Driver.DriverEnd.driver g.L.Device.DeviceEnd.device g.L.Layout.layout g.G.Guest.party
+      g.V.Device.party) l.bench ≡ all_steps
+      (setting_of g.L.Driver.DriverEnd.driver g.L.Device.DeviceEnd.device g.L.Layout.layout g.G.Guest.party g.V.Device.party)
+      l.initial.bench + l.made);
 }

@@ -18,18 +18,24 @@ loop-turn-init g c = record {
 pub returns-then-is_still-clause-goes : goal.returns-then-is_still-clause-goes
 returns-then-is_still-clause-goes g c = λ plan k start.
     let s = setting_of g.L.Driver.DriverEnd.driver g.L.Device.DeviceEnd.device g.L.Layout.layout g.G.Guest.party g.V.Device.party in
-    let e = c.loop-turn.invariant.each plan k start in
-    (all_still s plan true k c.loop-turn.turn c.loop-turn.floor.lanes.items c.loop-turn.bench (sym c.is_still.ensures ∙ c.if-is_still.true) e.0, e.1)
+    let e = c.loop-turn.invariant.each plan k start in (
+      all_still s plan true k c.loop-turn.turn c.loop-turn.floor.lanes.items c.loop-turn.bench
+          (sym c.is_still.ensures ∙ c.if-is_still.true) e.0,
+      e.1,
+    )
 
 pub round-made-requires-clause-lanes : goal.round-made-requires-clause-lanes
-round-made-requires-clause-lanes g c = let r = c.requires.lanes in (r.0, true, r.1, c.loop-turn.turn, (c.loop-turn.invariant.each r.0 r.1 r.2).0)
+round-made-requires-clause-lanes g c = let r = c.requires.lanes in
+    (r.0, true, r.1, c.loop-turn.turn, (c.loop-turn.invariant.each r.0 r.1 r.2).0)
 
 pub loop-turn-preserved : goal.loop-turn-preserved
 loop-turn-preserved g c =
     let m = g.V.Device.party in
     let n : ℕ = length c.args.floor.now.lanes.items in
-    let one : KeepsBench m n c.loop-turn.bench c.round-made.new.bench = subst (λ (j : ℕ). KeepsBench m j c.loop-turn.bench c.round-made.new.bench) c.loop-turn.invariant.many c.round-made.ensures.keeps in
-    let keeps : KeepsBench m n c.args.bench.now c.round-made.new.bench = keeps_through m n c.args.bench.now c.loop-turn.bench c.round-made.new.bench c.loop-turn.invariant.keeps one in
+    let one : KeepsBench m n c.loop-turn.bench c.round-made.new.bench =
+    subst (λ (j : ℕ). KeepsBench m j c.loop-turn.bench c.round-made.new.bench) c.loop-turn.invariant.many c.round-made.ensures.keeps in
+    let keeps : KeepsBench m n c.args.bench.now c.round-made.new.bench =
+    keeps_through m n c.args.bench.now c.loop-turn.bench c.round-made.new.bench c.loop-turn.invariant.keeps one in
     record {
       many = c.round-made.ensures.many ∙ c.loop-turn.invariant.many;
       parties = lanes_kept m n c.args.bench.now c.round-made.new.bench n keeps c.requires.parties;

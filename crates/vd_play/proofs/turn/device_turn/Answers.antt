@@ -12,12 +12,14 @@ loop-made-init g c = record {
 pub returns-in-Looked-clause-turn : goal.returns-in-Looked-clause-turn
 returns-in-Looked-clause-turn g c = λ v w ring holds.
     let r = c.loop-made.invariant.way v w ring holds in
-    device_looks g.L.Layout.layout g.V.Device.party v _ _ w c.args.device.now c.loop-made.device c.device_step.new.device c.loop-made.made c.device_step.result r c.in-Looked.is (c.device_step.ensures.step v r.run.view r.run.ring r.run.holds)
+    device_looks g.L.Layout.layout g.V.Device.party v _ _ w c.args.device.now c.loop-made.device c.device_step.new.device
+    c.loop-made.made c.device_step.result r c.in-Looked.is (c.device_step.ensures.step v r.run.view r.run.ring r.run.holds)
 
 pub returns-in-Finished-clause-turn : goal.returns-in-Finished-clause-turn
 returns-in-Finished-clause-turn g c = λ v w ring holds.
     let r = c.loop-made.invariant.way v w ring holds in
-    device_ends g.L.Layout.layout g.V.Device.party v _ _ w c.args.device.now c.loop-made.device c.device_step.new.device c.loop-made.made c.device_step.result r c.in-Finished.is (c.device_step.ensures.step v r.run.view r.run.ring r.run.holds)
+    device_ends g.L.Layout.layout g.V.Device.party v _ _ w c.args.device.now c.loop-made.device c.device_step.new.device
+    c.loop-made.made c.device_step.result r c.in-Finished.is (c.device_step.ensures.step v r.run.view r.run.ring r.run.holds)
 
 pub loop-made-preserved : goal.loop-made-preserved
 loop-made-preserved g c = record {
@@ -29,5 +31,7 @@ loop-made-preserved g c = record {
       cc (step.finished.1 done, c.in-Worked.is);
   way = λ v w ring holds.
       let r = c.loop-made.invariant.way v w ring holds in
-      device_goes g.L.Layout.layout g.V.Device.party v _ _ w c.args.device.now c.loop-made.device c.device_step.new.device c.loop-made.made c.device_step.result r (λ looked. cc (looked, c.in-Worked.is)) (c.device_step.ensures.step v r.run.view r.run.ring r.run.holds);
+      device_goes g.L.Layout.layout g.V.Device.party v _ _ w c.args.device.now c.loop-made.device c.device_step.new.device
+      c.loop-made.made c.device_step.result r (λ looked. cc (looked, c.in-Worked.is))
+      (c.device_step.ensures.step v r.run.view r.run.ring r.run.holds);
 }

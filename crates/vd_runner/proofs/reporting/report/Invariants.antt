@@ -6,7 +6,10 @@ use Rattle.vd_runner.proofs.reporting.report.Given as goal
 
 abbrev pub invariant-loop-queue : goal.invariant-loop-queue
 invariant-loop-queue g l = record {
-  midway : Midway (g.K.Sink.held l.fn.sink) (g.K.Sink.held l.sink) (report (view l.m) l.brief (all_lens g.V.Device.party (view l.m) l.bench)) (all_queue_lines (view l.m) l.brief l.queue (drop l.queue (all_lens g.V.Device.party (view l.m) l.bench)) ++ drained_line (drained (all_lens g.V.Device.party (view l.m) l.bench)));
+  midway : Midway (g.K.Sink.held l.fn.sink) (g.K.Sink.held l.sink)
+      (report (view l.m) l.brief (all_lens g.V.Device.party (view l.m) l.bench))
+      (all_queue_lines (view l.m) l.brief l.queue (drop l.queue (all_lens g.V.Device.party (view l.m) l.bench))
+      ++ drained_line (drained (all_lens g.V.Device.party (view l.m) l.bench)));
   drained : l.drained ≡ drained (take l.queue (all_lens g.V.Device.party (view l.m) l.bench));
   small : l.drained ≤ l.queue * 2 ^ 60;
   same : g.K.Sink.faults l.sink ≡ g.K.Sink.faults l.fn.sink;

@@ -5,7 +5,8 @@ use Rattle.vd_stream.proofs.sink.put_all.Goals as goal
 
 pub loop-at-preserved : goal.loop-at-preserved
 loop-at-preserved g c = record {
-  held = appends_more _ _ _ c.args.bytes.now c.loop-at.at c.in-Ok.count c.loop-at.invariant.held (rw (take_rest c.args.bytes.now c.loop-at.at) at c.in-Ok.ensures.bytes);
+  held = appends_more _ _ _ c.args.bytes.now c.loop-at.at c.in-Ok.count c.loop-at.invariant.held
+      (rw (take_rest c.args.bytes.now c.loop-at.at) at c.in-Ok.ensures.bytes);
   same = c.in-Ok.ensures.cause.ok ∙ c.loop-at.invariant.same;
   within = omega (arith, c.in-Ok.ensures.bound);
 }

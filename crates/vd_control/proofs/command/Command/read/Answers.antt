@@ -4,7 +4,8 @@ use Rattle.std.proofs.lemmas.List.{drop_more, drop_all}
 use Rattle.vd_control.specs.Commands.{command}
 use Rattle.vd_control.proofs.command.Command.read.Goals as goal
 
-six_left : (bytes : List ℕ) → length bytes ≡ 8 → slice_index_or bytes 2 0 ∷ slice_index_or bytes 3 0 ∷ slice_index_or bytes 4 0 ∷ slice_index_or bytes 5 0 ∷ slice_index_or bytes 6 0 ∷ slice_index_or bytes 7 0 ∷ [] ≡ drop 2 bytes
+six_left : (bytes : List ℕ) → length bytes ≡ 8 → slice_index_or bytes 2 0 ∷ slice_index_or bytes 3 0 ∷ slice_index_or bytes 4 0
+    ∷ slice_index_or bytes 5 0 ∷ slice_index_or bytes 6 0 ∷ slice_index_or bytes 7 0 ∷ [] ≡ drop 2 bytes
 six_left bytes is =
     let at = λ (i : ℕ). slice_index_or bytes i 0 in
     let a : drop 2 bytes ≡ at 2 ∷ drop 3 bytes = drop_more bytes 2 0 (omega arith) in

@@ -20,14 +20,22 @@ returns-then-rings-clause-packed c size is =
     let d = c.args.self in
     let Lawful : Published → Type 0 = λ q. (q.old < q.new) × (q.new - q.old ≤ reach q.rule) in
     let lawful = subst Lawful c.self.view_is c.self.invariant in
-    let OfRange : Published → Type 0 = λ q. Rings q.rule q.old q.new c.args.word in
-    (λ r. as_packed d.rule size d.old d.new c.args.word is (omega (arith, lawful.0)) (subst OfRange c.self.view_is (c.rings.ensures.0 c.if-rings.true)), λ p. refl)
+    let OfRange : Published → Type 0 = λ q. Rings q.rule q.old q.new c.args.word in (
+      λ r. as_packed d.rule size d.old d.new c.args.word is (omega (arith, lawful.0))
+          (subst OfRange c.self.view_is (c.rings.ensures.0 c.if-rings.true)),
+      λ p. refl,
+    )
 
 pub returns-else-rings-clause-packed : goal.returns-else-rings-clause-packed
 returns-else-rings-clause-packed c size is =
     let d = c.args.self in
-    let OfRange : Published → Type 0 = λ q. Rings q.rule q.old q.new c.args.word in
-    (λ r. cc, λ p. cc (c.if-rings.false, c.rings.ensures.1 (subst OfRange (sym c.self.view_is) (of_packed d.rule size d.old d.new c.args.word is p))))
+    let OfRange : Published → Type 0 = λ q. Rings q.rule q.old q.new c.args.word in (
+      λ r. cc,
+      λ p. cc (
+        c.if-rings.false,
+        c.rings.ensures.1 (subst OfRange (sym c.self.view_is) (of_packed d.rule size d.old d.new c.args.word is p)),
+      ),
+    )
 
 pub returns-else-rings-clause-armed : goal.returns-else-rings-clause-armed
 returns-else-rings-clause-armed c s armed low high =

@@ -8,7 +8,8 @@ pub returns-then-size-saturating_sub-clause-lowest :
 returns-then-size-saturating_sub-clause-lowest c =
     let t = c.args.self.now in
     let l = c.loop-mapping in
-    answered t c.args.size l.iova l.mapping-iterator (Some l.iova) c.requires (subst IsKept c.self.view_is c.self.invariant.kept) l.invariant.same
+    answered t c.args.size l.iova l.mapping-iterator (Some l.iova) c.requires (subst IsKept c.self.view_is c.self.invariant.kept)
+    l.invariant.same
     (walk_stops t.last c.args.size l.iova l.mapping-iterator c.in-Some.mapping.now _ c.in-Some.ensures.steps (omega arith))
 
 pub returns-then-size-saturating_sub-clause-is : goal.returns-then-size-saturating_sub-clause-is
@@ -21,7 +22,8 @@ returns-then-size-saturating_sub-2-clause-lowest c =
     let t = c.args.self.now in
     let l = c.loop-mapping in
     let last : c.self.inside.last ≡ t.last = ap (λ (s : Tree). s.last) c.self.view_is in
-    answered t c.args.size l.iova l.mapping-iterator (Some l.iova) c.requires (subst IsKept c.self.view_is c.self.invariant.kept) l.invariant.same
+    answered t c.args.size l.iova l.mapping-iterator (Some l.iova) c.requires (subst IsKept c.self.view_is c.self.invariant.kept)
+    l.invariant.same
     (walk_ends t.last c.args.size l.iova l.mapping-iterator c.in-None.ensures.steps.0 (omega arith))
 
 pub returns-then-size-saturating_sub-2-clause-is :

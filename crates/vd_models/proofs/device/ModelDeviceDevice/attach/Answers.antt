@@ -23,15 +23,29 @@ returns g c =
     let full : 0 < c.in-Some-held.held.capacity = room_some m.held c.in-Some-held.held m.journal.events.room c.in-Some-held.is
     (omega arith) in
     let cleared : c.clear.new.self.capacity ≡ c.in-Some-held.held.capacity = ap (λ (z : Buffer Held). z.capacity) c.clear.ensures in
-    let session : Session g.row.L-Device.Denot = record { end = c.resume.new.self; by = record { queue = c.queue.result; count = c.count.result; at = c.len-at.result; from = c.taken.result }; stage = stage.Taking } in
+    let session : Session g.row.L-Device.Denot =
+    record {
+      end = c.resume.new.self;
+      by = record {
+        queue = c.queue.result;
+        count = c.count.result;
+        at = c.len-at.result;
+        from =
+            c.taken.result;
+      };
+      stage = stage.Taking;
+    } in
     let settings : c.match-control.settings ≡ control_settings (λ
-    (z : ModelDevice g.row.L.Denot g.row.L-Driver.Denot g.row.L-Device.Denot g.L.Layout g.L.Driver.DriverEnd g.L.Device.DeviceEnd). z.settings) (option_copied c.args.control) = elim c.match-control.branch [
+    (z : ModelDevice g.row.L.Denot g.row.L-Driver.Denot g.row.L-Device.Denot g.L.Layout g.L.Driver.DriverEnd g.L.Device.DeviceEnd).
+    z.settings) (option_copied c.args.control) = elim c.match-control.branch [
       | in-Some w ↦ w.settings-is ∙ sym
           (ap
-          (λ o. control_settings {X = ModelDevice g.row.L.Denot g.row.L-Driver.Denot g.row.L-Device.Denot g.L.Layout g.L.Driver.DriverEnd g.L.Device.DeviceEnd} (λ z. z.settings) (option_copied o)) w.in-Some.is)
+          (λ o. control_settings {X = ModelDevice g.row.L.Denot g.row.L-Driver.Denot g.row.L-Device.Denot g.L.Layout
+          g.L.Driver.DriverEnd g.L.Device.DeviceEnd} (λ z. z.settings) (option_copied o)) w.in-Some.is)
       | in-None w ↦ w.settings-is ∙ w.new-settings.ensures.value ∙ sym
           (ap
-          (λ o. control_settings {X = ModelDevice g.row.L.Denot g.row.L-Driver.Denot g.row.L-Device.Denot g.L.Layout g.L.Driver.DriverEnd g.L.Device.DeviceEnd} (λ z. z.settings) (option_copied o)) w.in-None.is)
+          (λ o. control_settings {X = ModelDevice g.row.L.Denot g.row.L-Driver.Denot g.row.L-Device.Denot g.L.Layout
+          g.L.Driver.DriverEnd g.L.Device.DeviceEnd} (λ z. z.settings) (option_copied o)) w.in-None.is)
     ] in
     let more = attaches_more m.journal.events.items c.push.new.self.items _ c.push.ensures.items in
     record {
@@ -55,13 +69,29 @@ returns g c =
       };
       live = λ d. cc;
       noted = record {
-        events = cc
-            (c.push.ensures.items, c.len-at.ensures.value, c.ring.ensures, c.base-2.ensures, c.mode.ensures, settings, c.map.ensures, c.copy.ensures);
+        events = cc (
+          c.push.ensures.items,
+          c.len-at.ensures.value,
+          c.ring.ensures,
+          c.base-2.ensures,
+          c.mode.ensures,
+          settings,
+          c.map.ensures,
+          c.copy.ensures,
+        );
         begun = refl;
         faults = refl;
         window = refl;
         carried = refl;
-        room = (omega (arith, room_most m.held m.journal.events.room, c.push.ensures.room, room_all c.clear.new.self c.push.new.self.room (omega arith)), omega arith);
+        room = (
+          omega (
+            arith,
+            room_most m.held m.journal.events.room,
+            c.push.ensures.room,
+            room_all c.clear.new.self c.push.new.self.room (omega arith),
+          ),
+          omega arith,
+        );
         counts = (refl, refl);
       };
       settings = refl;

@@ -17,15 +17,34 @@ returns g c = λ w holds own.
     let same = ap Some c.serve-turn.ensures.by ∙ sym (ap attached_of c.in-Some.is) in
     let paid = pays g.P.Port.port e c.args.port.now c.serve-turn.new.port w (state s c.in-Some-held.held m.journal.begun)
     (state c.serve-turn.new.session h c.serve-turn.new.begun) c.serve-turn.result s.by c.serve-turn.new.session.by
-    (attaches m.journal.events.items) m.counts c.note.new.self c.serve-turn.ensures.by t c.note.ensures.accesses c.note.ensures.heard o.serves.serving.before t.serves.serving.before o.paid in
+    (attaches m.journal.events.items) m.counts c.note.new.self c.serve-turn.ensures.by t c.note.ensures.accesses c.note.ensures.heard
+    o.serves.serving.before t.serves.serving.before o.paid in
     record {
       op = t.op;
       access = t.access;
       got = t.got;
       was_next = t.was_next;
       moved = t.moved;
-      holds = record { is_session = c.serve-turn.new.session; is_held = h; at_session = refl; at_held = refl; serves = t.serves; paid = paid; event = holds.event };
-      served = record { events = refl; grows = t.begun; settings = λ b i d. refl; faults = refl; window = refl; carried = refl; attached = same; room = (omega (arith, room, room_most m.held m.journal.events.room), t.room) };
+      holds = record {
+        is_session = c.serve-turn.new.session;
+        is_held = h;
+        at_session = refl;
+        at_held = refl;
+        serves = t.serves;
+        paid =
+            paid;
+        event = holds.event;
+      };
+      served = record {
+        events = refl;
+        grows = t.begun;
+        settings = λ b i d. refl;
+        faults = refl;
+        window = refl;
+        carried = refl;
+        attached = same;
+        room = (omega (arith, room, room_most m.held m.journal.events.room), t.room);
+      };
       grows = t.grows;
       acts = t.acts;
       finished = finished_at c.move_of.result c.serve-turn.result c.is_done-done.result _ c.move_of.ensures c.is_done-done.ensures t.slept;

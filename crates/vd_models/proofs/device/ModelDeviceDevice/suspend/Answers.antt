@@ -21,6 +21,10 @@ invariant_of-self g c =
       some = m.some;
       sized = m.sized;
       lens = m.lens;
-      paced = λ n few fewer. omega
-          (arith, pace_law e m.session m.held m.journal m.counts w by holds is few fewer, all, attaches_more m.journal.events.items c.push.new.self.items _ c.push.ensures.items);
+      paced = λ n few fewer. omega (
+        arith,
+        pace_law e m.session m.held m.journal m.counts w by holds is few fewer,
+        all,
+        attaches_more m.journal.events.items c.push.new.self.items _ c.push.ensures.items,
+      );
     }

@@ -18,7 +18,15 @@ returns g c =
     let none = sym (ap offered_of is_y) ∙ c.requires.unused.0 in
     let empty = sym (ap returned_of is_y) ∙ c.requires.unused.1 in
     let quiet = m.fresh (ap booted_of is_y ∙ plan.1) in
-    let l : Loaded = record { script = y.script; total = y.total; at = c.settle-at.result; offered = y.offered; returned = y.returned; stage = c.first_stage-stage.result; booted = true } in
+    let l : Loaded = record {
+      script = y.script;
+      total = y.total;
+      at = c.settle-at.result;
+      offered = y.offered;
+      returned = y.returned;
+      stage = c.first_stage-stage.result;
+      booted = true;
+    } in
     record {
       holds = λ v s is stands can. record {
         is_end = c.args.end;
@@ -31,7 +39,8 @@ returns g c =
             (subst (λ (rs : List Run). left_at rs c.settle-at.result ≡ left_at rs
             (record { run = 0; used = 0 })) c.as_slice.ensures c.settle-at.ensures.left)
             (subst (λ
-            (rs : List Run). IsSettled rs c.settle-at.result) c.as_slice.ensures c.settle-at.ensures.settled) c.first_stage-stage.ensures stands
+            (rs : List Run). IsSettled rs c.settle-at.result) c.as_slice.ensures c.settle-at.ensures.settled)
+            c.first_stage-stage.ensures stands
             (subst (λ (z : Script). CanBoot z v) (sym (same_script m.loaded y s is_y is)) can);
         paid = first_paid d (drive c.args.end l) v m.counts _ c.requires.idle quiet;
       };

@@ -9,7 +9,17 @@ use Rattle.vd_packed.proofs.device.PackedDevice.loaded_table_second.Goals as goa
 -- the end after a chain was taken in, whose one descriptor ends where it stands
 abbrev taken : PackedDevice → PackedDevice → PackedDevice
 taken e e2 =
-    record e { taken = e.taken + 1; next = e.at; next_position = e.next_position + 1; running = with_item e.running (id_of e.second) (Some e.taken); counts = with_item e.counts (id_of e.second) 1; guesses = e2.guesses; pieces = e2.pieces; doing = step.Idle }
+    record e {
+      taken = e.taken + 1;
+      next = e.at;
+      next_position = e.next_position + 1;
+      running =
+          with_item e.running (id_of e.second) (Some e.taken);
+      counts = with_item e.counts (id_of e.second) 1;
+      guesses = e2.guesses;
+      pieces = e2.pieces;
+      doing = step.Idle;
+    }
 
 pub returns-clause-whole : goal.returns-clause-whole
 returns-clause-whole c = λ last.

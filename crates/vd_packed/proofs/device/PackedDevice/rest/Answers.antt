@@ -7,21 +7,26 @@ use Rattle.vd_ring.specs.declared.act.DeviceAct.TheVariants as act
 use Rattle.vd_packed.specs.declared.device.DeviceStep.TheVariants as step
 use Rattle.vd_packed.specs.declared.device.PackedDevice.{PackedDevice}
 use Rattle.vd_packed.specs.DeviceEnd.{number_at}
-use Rattle.vd_packed.specs.DeviceGiving.{made}
-use Rattle.vd_packed.specs.DeviceRest.{rest_goes}
+use Rattle.vd_packed.specs.laws.DeviceGiving.{made}
+use Rattle.vd_packed.specs.laws.DeviceRest.{rest_goes}
 use Rattle.vd_packed.proofs.device.PackedDevice.rest.Goals as goal
 
 -- the table with other numbers, as many as before
 filled : (e : PackedDevice) (ws : List (Option ℕ)) → length ws ≡ length e.running.items → (with_items e.running ws).items ≡ ws
-filled e ws many = take-append-le e.running.len ws (drop (length ws) e.running.items) (omega (arith, e.running.ok)) ∙ take_all e.running.len ws (omega (arith, e.running.ok))
+filled e ws many = take-append-le e.running.len ws (drop (length ws) e.running.items) (omega (arith, e.running.ok))
+    ∙ take_all e.running.len ws (omega (arith, e.running.ok))
 
 pub returns-clause-did : goal.returns-clause-did
 returns-clause-did g c = λ v st own.
     let e : PackedDevice = c.args.self.now in
     let ws : List (Option ℕ) = c.clear.new.running in
     let e2 : PackedDevice = record e { running = with_items e.running ws } in
-    let many : length ws ≡ length e.running.items = c.clear.ensures.kept ∙ ap (λ (xs : List (Option ℕ)). length xs) c.deref_mut.ensures.value in
+    let many : length ws ≡ length e.running.items =
+    c.clear.ensures.kept ∙ ap (λ (xs : List (Option ℕ)). length xs) c.deref_mut.ensures.value in
     let same = filled e ws many in
-    made g.P.Port.port c.args.port.now c.access-self.new.self e (record e { taken = e.given; next = e.used; next_position = e.used_position; running = e2.running; doing = step.Resting }) v op.Rest (Load (2 * e.next.place + 1)) c.access-self.result act.Rested
-    (rest_goes e e2 v c.access-self.result c.requires.now st (ap (λ (xs : List (Option ℕ)). length xs) same ∙ many) (λ h. ap (λ (xs : List (Option ℕ)). number_at xs h) same ∙ c.clear.ensures.none h))
+    made g.P.Port.port c.args.port.now c.access-self.new.self e
+    (record e { taken = e.given; next = e.used; next_position = e.used_position; running = e2.running; doing = step.Resting }) v
+    op.Rest (Load (2 * e.next.place + 1)) c.access-self.result act.Rested
+    (rest_goes e e2 v c.access-self.result c.requires.now st (ap (λ (xs : List (Option ℕ)). length xs) same ∙ many)
+    (λ h. ap (λ (xs : List (Option ℕ)). number_at xs h) same ∙ c.clear.ensures.none h))
     c.access-self.ensures

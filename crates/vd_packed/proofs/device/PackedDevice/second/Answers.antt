@@ -4,8 +4,8 @@ use Rattle.vd_words.specs.declared.access.Op.TheVariants as op
 use Rattle.vd_ring.specs.declared.act.DeviceAct.TheVariants as act
 use Rattle.vd_packed.specs.declared.device.PackedDevice.{PackedDevice}
 use Rattle.vd_packed.specs.Telling.{act_of}
-use Rattle.vd_packed.specs.DeviceGiving.{Goes, made}
-use Rattle.vd_packed.specs.DeviceTaking.{second_goes}
+use Rattle.vd_packed.specs.laws.DeviceGiving.{Goes, made}
+use Rattle.vd_packed.specs.laws.DeviceTaking.{second_goes}
 use Rattle.vd_packed.proofs.device.PackedDevice.second.Goals as goal
 
 pub access-word-requires : goal.access-word-requires
@@ -16,6 +16,8 @@ access-word-requires g c =
 pub returns-clause-did : goal.returns-clause-did
 returns-clause-did g c = λ v st own.
     let e : PackedDevice = c.args.self.now in let x : ℕ = c.access-word.result in let s = c.loaded_second in
-    made g.P.Port.port c.args.port.now c.access-word.new.self e s.new.self v op.Take (Load (2 * e.at.place + 1)) x (act_of s.result s.new.self.pieces.items)
+    made g.P.Port.port c.args.port.now c.access-word.new.self e s.new.self v op.Take (Load (2 * e.at.place + 1)) x
+    (act_of s.result s.new.self.pieces.items)
     (subst (λ t. Goes e s.new.self v op.Take (Load (2 * e.at.place + 1)) x (act_of t s.new.self.pieces.items)) (sym s.ensures.moved)
-    (subst (λ (h : PackedDevice). Goes e h v op.Take (Load (2 * e.at.place + 1)) x act.Moved) (sym s.ensures.second) (second_goes e v x c.requires.now st))) c.access-word.ensures
+    (subst (λ (h : PackedDevice). Goes e h v op.Take (Load (2 * e.at.place + 1)) x act.Moved) (sym s.ensures.second)
+    (second_goes e v x c.requires.now st))) c.access-word.ensures

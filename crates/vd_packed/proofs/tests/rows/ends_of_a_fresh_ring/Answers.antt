@@ -3,7 +3,7 @@ use Rattle.vd_model.specs.declared.features.Features.{Features}
 use Rattle.vd_ring.specs.declared.frame.Frame.{Frame}
 use Rattle.vd_ring.specs.Fresh.{fresh_driver}
 use Rattle.vd_layout.specs.Layout.{IsMadeWith}
-use Rattle.vd_packed.specs.PackedLayout.{packed_layout}
+use Rattle.vd_packed.specs.laws.PackedLayout.{packed_layout}
 use Rattle.vd_packed.proofs.tests.rows.ends_of_a_fresh_ring.Goals as goal
 
 plain : Features

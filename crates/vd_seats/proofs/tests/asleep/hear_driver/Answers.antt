@@ -4,12 +4,15 @@ use Rattle.vd_seats.proofs.tests.asleep.hear_driver.Goals as goal
 
 pub finish_driver-requires-clause-own : goal.finish_driver-requires-clause-own
 finish_driver-requires-clause-own g c =
-    let d = g.L.Driver.DriverEnd.driver in let e = g.L.Device.DeviceEnd.device in let l = g.L.Layout.layout in let law = g.met.L.Layout.lawful in
+    let d = g.L.Driver.DriverEnd.driver in let e = g.L.Device.DeviceEnd.device in let l = g.L.Layout.layout in let law =
+    g.met.L.Layout.lawful in
     let v = c.requires.at.0 in
     (v, c.begin_hear.ensures.stands v c.requires.at.1, drivers_own d e l law c.args.port.now v c.requires.at.2)
 
 pub returns : goal.returns
 returns g c = λ v stands at.
-    let d = g.L.Driver.DriverEnd.driver in let e = g.L.Device.DeviceEnd.device in let l = g.L.Layout.layout in let law = g.met.L.Layout.lawful in
-    driver_told_asleep d e l law c.args.port.now c.finish_driver.new.port v c.begin_hear.new.self c.finish_driver.new.end c.finish_driver.result at
+    let d = g.L.Driver.DriverEnd.driver in let e = g.L.Device.DeviceEnd.device in let l = g.L.Layout.layout in let law =
+    g.met.L.Layout.lawful in
+    driver_told_asleep d e l law c.args.port.now c.finish_driver.new.port v c.begin_hear.new.self c.finish_driver.new.end
+    c.finish_driver.result at
     (c.finish_driver.ensures v (c.begin_hear.ensures.stands v stands) (drivers_own d e l law c.args.port.now v at))

@@ -4,7 +4,8 @@ use Rattle.vd_layout.specs.Runs.{driver_on}
 use Rattle.vd_seats.proofs.tests.run.drive.Goals as goal
 
 pub turn_driver-requires : goal.turn_driver-requires
-turn_driver-requires g c = let at = c.loop.invariant.2 c.requires.0 c.requires.1 c.requires.2 in (at.view, at.on, subst IsOpen (sym at.framed) c.requires.2)
+turn_driver-requires g c = let at = c.loop.invariant.2 c.requires.0 c.requires.1 c.requires.2 in
+    (at.view, at.on, subst IsOpen (sym at.framed) c.requires.2)
 
 pub loop-preserved-in-Some-turn_driver : goal.loop-preserved-in-Some-turn_driver
 loop-preserved-in-Some-turn_driver g c = (

@@ -9,7 +9,10 @@ returns-in_err-check-clause-inverse c m rest known long e =
     let bs = c.args.bytes.now in
     let kind : kind_in bs ≡ m.kind = kind_is m bs rest e in
     let perm : perm_in bs ≡ m.perm = perm_is m bs rest e in
-    absurd (no_fault bs _ long (numbers_are m bs rest known e).version (omega (arith, kind, known.kind.0), omega (arith, kind, known.kind.1))
+    absurd (no_fault bs _ long (numbers_are m bs rest known e).version (
+      omega (arith, kind, known.kind.0),
+      omega (arith, kind, known.kind.1),
+    )
     (λ u. let up = known.update (sym kind ∙ u) in (omega (arith, perm, up.0), omega (arith, perm, up.1))) c.in_err-check.ensures)
 
 pub returns-clause-only : goal.returns-clause-only

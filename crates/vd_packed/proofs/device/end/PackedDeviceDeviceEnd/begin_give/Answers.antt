@@ -1,15 +1,19 @@
 use Rattle.std.proofs.Common.{◌≡◌, ◌<◌, ℕ, List, Option, Some, None, ap, ◌∙◌, subst}
 use Rattle.std.specs.Prelude.{MatchOption}
 use Rattle.vd_packed.specs.DeviceEnd.{number_at}
-use Rattle.vd_packed.specs.DeviceLaws.{runs_found}
+use Rattle.vd_packed.specs.laws.DeviceLaws.{runs_found}
 use Rattle.vd_packed.specs.declared.device.PackedDevice.{PackedDevice}
 use Rattle.vd_packed.proofs.device.end.PackedDeviceDeviceEnd.begin_give.Goals as goal
 
-none_found : (size k : ℕ) (xs : List (Option ℕ)) (r : Option ℕ) → r ≡ None → MatchOption r ((h : ℕ) → h < size → number_at xs h ≡ Some k → ⊥) (λ h. number_at xs h ≡ Some k) → (h : ℕ) → h < size → number_at xs h ≡ Some k → ⊥
-none_found size k xs r is m = subst (λ (o : Option ℕ). MatchOption o ((h : ℕ) → h < size → number_at xs h ≡ Some k → ⊥) (λ h. number_at xs h ≡ Some k)) is m
+none_found : (size k : ℕ) (xs : List (Option ℕ)) (r : Option ℕ) → r ≡ None
+    → MatchOption r ((h : ℕ) → h < size → number_at xs h ≡ Some k → ⊥) (λ h. number_at xs h ≡ Some k) → (h : ℕ) → h < size
+    → number_at xs h ≡ Some k → ⊥
+none_found size k xs r is m = subst (λ (o : Option ℕ). MatchOption o ((h : ℕ) → h < size → number_at xs h ≡ Some k → ⊥)
+    (λ h. number_at xs h ≡ Some k)) is m
 
 pub unreachable-requires : goal.unreachable-requires
 unreachable-requires c =
     let e : PackedDevice = c.args.self.now in let may = c.requires.may in
     runs_found e may.0 c.args.k may.1 may.2.runs (λ h a there.
-    none_found e.size c.args.k c.deref.result.now c.find_head.result c.in-None.is c.find_head.ensures h a (ap (λ (ys : List (Option ℕ)). number_at ys h) c.deref.ensures.value ∙ there))
+    none_found e.size c.args.k c.deref.result.now c.find_head.result c.in-None.is c.find_head.ensures h a
+    (ap (λ (ys : List (Option ℕ)). number_at ys h) c.deref.ensures.value ∙ there))

@@ -1,6 +1,6 @@
 use Rattle.std.proofs.Common.{refl}
 use Rattle.vd_packed.specs.declared.device.DeviceStep.TheVariants as step
-use Rattle.vd_packed.specs.DeviceLaws.{begins}
+use Rattle.vd_packed.specs.laws.DeviceLaws.{begins}
 use Rattle.vd_packed.proofs.device.end.PackedDeviceDeviceEnd.begin_take.Goals as goal
 
 pub returns-clause-stands : goal.returns-clause-stands

@@ -4,14 +4,18 @@ use Rattle.std.specs.List.{Contains}
 use Rattle.vd_ring.specs.declared.device.DeviceView.{DeviceView}
 use Rattle.vd_ring.specs.History.{running}
 use Rattle.vd_packed.specs.DeviceEnd.{number_at, DeviceStands}
-use Rattle.vd_packed.specs.DeviceLaws.{found_runs, runs_found}
+use Rattle.vd_packed.specs.laws.DeviceLaws.{found_runs, runs_found}
 use Rattle.vd_packed.specs.declared.device.PackedDevice.{PackedDevice}
 use Rattle.vd_packed.proofs.device.end.PackedDeviceDeviceEnd.holds.Goals as goal
 
 -- a look through the table finds exactly the running chains
-exact : (e : PackedDevice) (w : DeviceView) (k : ℕ) (xs : List (Option ℕ)) (r : Option ℕ) → DeviceStands e w → xs ≡ e.running.items → MatchOption r ((h : ℕ) → h < e.size → number_at xs h ≡ Some k → ⊥) (λ h. number_at xs h ≡ Some k)
+exact : (e : PackedDevice) (w : DeviceView) (k : ℕ) (xs : List (Option ℕ)) (r : Option ℕ) → DeviceStands e w → xs ≡ e.running.items
+    → MatchOption r ((h : ℕ) → h < e.size → number_at xs h ≡ Some k → ⊥) (λ h. number_at xs h ≡ Some k)
     → (IsTrue (is_some r) → Contains (running w.done) k) × (Contains (running w.done) k → IsTrue (is_some r))
-exact e w k xs None st is m = (λ t. absurd (cc t), λ runs. absurd (runs_found e w k st runs (λ h a there. m h a (ap (λ (ys : List (Option ℕ)). number_at ys h) is ∙ there))))
+exact e w k xs None st is m = (
+  λ t. absurd (cc t),
+  λ runs. absurd (runs_found e w k st runs (λ h a there. m h a (ap (λ (ys : List (Option ℕ)). number_at ys h) is ∙ there))),
+)
 exact e w k xs (Some h) st is m = (λ t. found_runs e w h k st (sym (ap (λ (ys : List (Option ℕ)). number_at ys h) is) ∙ m), λ runs. refl)
 
 pub returns : goal.returns

@@ -1,6 +1,6 @@
 use Rattle.std.proofs.Common.{refl}
 use Rattle.vd_packed.specs.declared.driver.DriverStep.TheVariants as step
-use Rattle.vd_packed.specs.DriverLaws.{begins}
+use Rattle.vd_packed.specs.laws.DriverLaws.{begins}
 use Rattle.vd_packed.proofs.driver.end.PackedDriverDriverEnd.begin_collect.Goals as goal
 
 pub returns-clause-stands : goal.returns-clause-stands

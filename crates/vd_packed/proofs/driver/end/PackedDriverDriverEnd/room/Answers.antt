@@ -1,7 +1,7 @@
 use Rattle.std.proofs.Common.{List, length, ◌∙◌, arith, ap}
 use Rattle.std.proofs.lemmas.Bool.{leb-true, le-leb}
 use Rattle.vd_model.specs.declared.chain.Piece.{Piece}
-use Rattle.vd_packed.specs.DriverLaws.{room_from, room_to}
+use Rattle.vd_packed.specs.laws.DriverLaws.{room_from, room_to}
 use Rattle.vd_packed.specs.Tabled.{needed}
 use Rattle.vd_packed.proofs.driver.end.PackedDriverDriverEnd.room.Goals as goal
 

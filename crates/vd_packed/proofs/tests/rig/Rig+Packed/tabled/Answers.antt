@@ -8,14 +8,21 @@ use Rattle.vd_layout.specs.Layout.{IsMadeWith}
 use Rattle.vd_layout.specs.Both.{plain_frame}
 use Rattle.vd_packed.specs.DriverEnd.{IsMadeFor, driver_begun}
 use Rattle.vd_packed.specs.DeviceEnd.{device_begun, is_resting}
-use Rattle.vd_packed.specs.PackedLayout.{packed_layout, words_of}
+use Rattle.vd_packed.specs.laws.PackedLayout.{packed_layout, words_of}
 use Rattle.vd_packed.proofs.tests.rig.Rig+Packed.tabled.Goals as goal
 
 pub invariant_of-result : goal.invariant_of-result
 invariant_of-result c =
     let f : Frame = plain_frame packed_layout c.args.ring c.args.size c.args.f false None in
-    let with : IsMadeWith packed_layout c.args.size c.args.f false f = record { packed = refl; size = refl; features = refl; control = refl } in
-    let made : IsMadeFor c.args.size c.args.f f = record { sized = refl; featured = refl; lawful = record { packed = refl; least = omega (arith, c.requires); most = omega (arith, c.requires) } } in
+    let with : IsMadeWith packed_layout c.args.size c.args.f false f =
+    record { packed = refl; size = refl; features = refl; control = refl } in
+    let made : IsMadeFor c.args.size c.args.f f =
+    record {
+      sized = refl;
+      featured = refl;
+      lawful =
+          record { packed = refl; least = omega (arith, c.requires); most = omega (arith, c.requires) };
+    } in
     let wide = c.all_words-count.ensures ∙ words_of c.args.size c.args.f false f with in
     let words = c.in_ok-words.ensures.1 ∙ ap (λ n. replicate n 0) wide in
     let driver = c.in_ok-driver.ensures in let device = c.in_ok-device.ensures in

@@ -1,6 +1,6 @@
 use Rattle.std.proofs.Common.{refl}
 use Rattle.vd_split.specs.declared.device.DeviceStep.TheVariants as step
-use Rattle.vd_split.specs.DeviceLaws.{begins}
+use Rattle.vd_split.specs.laws.DeviceLaws.{begins}
 use Rattle.vd_split.proofs.device.end.SplitDeviceDeviceEnd.begin_hear.Goals as goal
 
 pub returns-clause-stands : goal.returns-clause-stands

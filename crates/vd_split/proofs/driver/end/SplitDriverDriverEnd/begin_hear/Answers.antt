@@ -1,6 +1,6 @@
 use Rattle.std.proofs.Common.{refl}
 use Rattle.vd_split.specs.declared.driver.DriverStep.TheVariants as step
-use Rattle.vd_split.specs.DriverLaws.{begins}
+use Rattle.vd_split.specs.laws.DriverLaws.{begins}
 use Rattle.vd_split.proofs.driver.end.SplitDriverDriverEnd.begin_hear.Goals as goal
 
 pub returns-clause-stands : goal.returns-clause-stands

@@ -1,7 +1,7 @@
 use Rattle.std.proofs.Common.{List, length, ◌∙◌, arith, ap}
 use Rattle.std.proofs.lemmas.Bool.{leb-true, le-leb}
 use Rattle.vd_model.specs.declared.chain.Piece.{Piece}
-use Rattle.vd_split.specs.DriverLaws.{room_from, room_to}
+use Rattle.vd_split.specs.laws.DriverLaws.{room_from, room_to}
 use Rattle.vd_split.specs.Parts.{needed}
 use Rattle.vd_split.proofs.driver.end.SplitDriverDriverEnd.room.Goals as goal
 

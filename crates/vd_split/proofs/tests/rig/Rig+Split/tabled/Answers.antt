@@ -7,13 +7,14 @@ use Rattle.vd_split_ring.specs.SplitWords.{width}
 use Rattle.vd_split_ring.proofs.Opens.{opens}
 use Rattle.vd_split.specs.DeviceEnd.{device_begun, is_resting}
 use Rattle.vd_split.specs.DriverEnd.{IsMadeFor, driver_begun}
-use Rattle.vd_split.specs.SplitLayout.{split_layout}
+use Rattle.vd_split.specs.laws.SplitLayout.{split_layout}
 use Rattle.vd_split.proofs.tests.rig.Rig+Split.tabled.Goals as goal
 
 pub invariant_of-result : goal.invariant_of-result
 invariant_of-result c =
     let f : Frame = plain_frame split_layout 0 c.args.size c.args.f false None in
-    let made : IsMadeFor c.args.size c.args.f f = record { sized = refl; featured = refl; lawful = record { split = refl; some_place = omega arith; small = omega arith } } in
+    let made : IsMadeFor c.args.size c.args.f f =
+    record { sized = refl; featured = refl; lawful = record { split = refl; some_place = omega arith; small = omega arith } } in
     let fresh = c.in_ok-words.ensures.1 ∙ ap (λ n. replicate n 0) c.all_words-count.ensures in
     record {
       frame = f;

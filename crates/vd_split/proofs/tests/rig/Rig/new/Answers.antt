@@ -13,7 +13,9 @@ invariant_of-result g c =
     let fresh = c.in_ok-driver.ensures in
     record {
       frame = f;
-      on = fresh_on g.L.Driver.DriverEnd.driver g.L.Device.DeviceEnd.device l g.met.L.Layout.lawful c.args.ring c.args.size c.args.f false None c.in_ok-driver.driver c.in_ok-driver.device c.in_ok-words.words.words c.requires fresh (c.in_ok-words.ensures.1 ∙ ap (λ n. replicate n 0) wide);
+      on = fresh_on g.L.Driver.DriverEnd.driver g.L.Device.DeviceEnd.device l g.met.L.Layout.lawful c.args.ring c.args.size c.args.f
+          false None c.in_ok-driver.driver c.in_ok-driver.device c.in_ok-words.words.words c.requires fresh
+          (c.in_ok-words.ensures.1 ∙ ap (λ n. replicate n 0) wide);
       numbered = c.in_ok-words.ensures.0;
       width = wide;
       unbounded = refl;
