@@ -123,7 +123,9 @@ pub record IsLawfulLayout {D E : Type 0} (d : DriverModel D) (e : DeviceModel E)
   pub spells : (ws : List ℕ) (v : DriverView) (w : DeviceView) (op : Op) (a : Access) (k : ℕ) → l.ring ws v w → d.side.next v op a
       → d.act v op a (answered ws a) ≡ driver_act.Offered k
       → l.spells_last v.frame (written ws a) (d.side.after v op a (answered ws a)).done
-  pub uses : (ws : List ℕ) (v : DriverView) (w : DeviceView) (op : Op) (a : Access) (k : ℕ) → l.ring ws v w → e.side.next w op a → e.act w op a (answered ws a) ≡ device_act.Given k → l.has_last_used v.frame (written ws a) (e.side.after w op a (answered ws a)).done
+  pub uses : (ws : List ℕ) (v : DriverView) (w : DeviceView) (op : Op) (a : Access) (k : ℕ) → l.ring ws v w → e.side.next w op a
+      → e.act w op a (answered ws a) ≡ device_act.Given k
+      → l.has_last_used v.frame (written ws a) (e.side.after w op a (answered ws a)).done
   -- each answer is the one bag step that it names, and every other answer is none
   pub driver_bag : (ws : List ℕ) (v : DriverView) (w : DeviceView) (op : Op) (a : Access) (b : List State) → l.ring ws v w
       → d.side.next v op a → StandsFor v.done w.done b

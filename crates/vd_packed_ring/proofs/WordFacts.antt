@@ -55,7 +55,8 @@ avail_bits n q d ok =
     let b = low_bits d.flags (wrap_bit n q) (other_bit n q) ok.flags (omega arith) (omega arith) in
     (ap (λ (x : ℕ). x / 128 % 2) g ∙ b.0, ap (λ (x : ℕ). x / 32768 % 2) g ∙ b.1)
 
-pub used_bits : (n q i l : ℕ) → i < 65536 → l < 4294967296 → ((flags_of (used_word n q i l) / 128) % 2 ≡ wrap_bit n q) × ((flags_of (used_word n q i l) / 32768) % 2 ≡ wrap_bit n q)
+pub used_bits : (n q i l : ℕ) → i < 65536 → l < 4294967296 → ((flags_of (used_word n q i l) / 128) % 2 ≡ wrap_bit n q)
+    × ((flags_of (used_word n q i l) / 32768) % 2 ≡ wrap_bit n q)
 used_bits n q i l hi hl =
     let g = flags_back l i (write_flag l + 128 * wrap_bit n q + 32768 * wrap_bit n q) hl hi in
     let b = low_bits (write_flag l) (wrap_bit n q) (wrap_bit n q) (write_low l) (omega arith) (omega arith) in

@@ -87,7 +87,8 @@ names ws d e p x r unarmed n =
             };
             signals = signals_kept f e.armed e.bells e.stored q y
                 (same_part e.stored q (used_from f) y (λ w. lane16 w 0) inside (low_lane (slice_index e.stored q) h 0 (omega arith)))
-                (other_word e.stored q (used_from f + f.size) y (λ w. lane16 w 2) (λ e'. omega arith)) (used_no_bell f q low) r.device_signals;
+                (other_word e.stored q (used_from f + f.size) y (λ w. lane16 w 2) (λ e'. omega arith))
+                (used_no_bell f q low) r.device_signals;
             acks = acks_elsewhere f (ack_word f) o s e.stored q y r.places r.lists (λ i b. used_no_ack f q i low) r.acks;
             driver_doing = r.driver_doing;
             device_doing = record {
@@ -147,7 +148,8 @@ measures ws d e a p x r n =
                   other_word e.stored q (len_word f j) y (λ w. lane32 w 0)
                   (λ e'. part_kept f.size j g r.lawful.some_place at.0 (omega arith) (omega arith)) ∙ r.device_words.lens j u b is;
             };
-            signals = signals_kept f e.armed e.bells e.stored q y (other_word e.stored q (used_from f) y (λ w. lane16 w 0) (λ e'. omega arith))
+            signals = signals_kept f e.armed e.bells e.stored q y
+                (other_word e.stored q (used_from f) y (λ w. lane16 w 0) (λ e'. omega arith))
                 (same_part e.stored q (used_from f + f.size) y (λ w. lane16 w 2) inside (low_two (slice_index e.stored q) n.len small))
                 (used_no_bell f q low) r.device_signals;
             acks = acks_elsewhere f (ack_word f) o s e.stored q y r.places r.lists (λ i b. used_no_ack f q i low) r.acks;

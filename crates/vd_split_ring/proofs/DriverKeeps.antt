@@ -29,7 +29,8 @@ use Rattle.vd_split_ring.proofs.Bells.{device_event_inside, call_stands}
 use Rattle.vd_split_ring.proofs.DriverBells.{checks, rings_bell, arms, looks_again, hears, disarms, disarmed}
 
 -- a word of the device's area, as the driver loads it
-pub used_word : (ws : List ℕ) (d : DriverView) (e : DeviceView) (p : ℕ) → Ring ws d e → used_from d.frame ≤ p → p ≤ used_from d.frame + d.frame.size → slice_index ws p ≡ slice_index e.stored p
+pub used_word : (ws : List ℕ) (d : DriverView) (e : DeviceView) (p : ℕ) → Ring ws d e → used_from d.frame ≤ p
+    → p ≤ used_from d.frame + d.frame.size → slice_index ws p ≡ slice_index e.stored p
 used_word ws d e p r low high = r.words.devices p (inl (low, omega arith))
 
 knows : (ws : List ℕ) (d : DriverView) (e : DeviceView) (a : Access) → Ring ws d e

@@ -129,7 +129,8 @@ found e v id st n =
     }
 
 -- its position stays small
-pub used_small : (e : PackedDriver) (v : DriverView) (k : ℕ) → DriverStands e v → 1 ≤ occurs k (open_at v.done) → e.used_position + needs v.frame.features (chain v.done k) < 1000000000000
+pub used_small : (e : PackedDriver) (v : DriverView) (k : ℕ) → DriverStands e v → 1 ≤ occurs k (open_at v.done)
+    → e.used_position + needs v.frame.features (chain v.done k) < 1000000000000
 used_small e v k st here =
     let f : Frame = v.frame in let o : List DriverDone = v.done in
     omega (

@@ -63,7 +63,8 @@ made port p q e e' v o a r answer go moved = record {
   rests = go.rests;
 }
 
-pub used_below : (e : SplitDevice) (v : DeviceView) → DeviceStands e v → (e.used < e.size) × (e.size ≤ 32768) × (e.used + 1 < length e.area.items) × (0 < e.size)
+pub used_below : (e : SplitDevice) (v : DeviceView) → DeviceStands e v → (e.used < e.size) × (e.size ≤ 32768)
+    × (e.used + 1 < length e.area.items) × (0 < e.size)
 used_below e v st =
     let m = mod_below (length (gives v.done)) v.frame.size st.made.lawful.some_place in (
       omega (arith, st.counts.used_at, st.made.sized),
