@@ -27,8 +27,8 @@ pub fn spelling_law()
     ensures untaken { (ws : List ℕ) (d : DriverView) (e : DeviceView) (k : ℕ) → Ring ws d e → length (takes e.done) ≤ k
         → k < length (offers d.done) → Spells d.frame ws (start d.frame d.done k) (head d.frame d.done k) (chain d.done k) }
     ensures ahead { (ws : List ℕ) (d : DriverView) (e : DeviceView) (k : ℕ) → Ring ws d e → k < length (offers d.done)
-        → give_position d.frame e.done ≤ start d.frame d.done k → (Contains (open_at d.done) k
-        ⊎ (is_tabled d.frame (chain d.done k) ≡ false))
+        → give_position d.frame e.done ≤ start d.frame d.done k → (Contains (open_at d.done) k ⊎ (is_tabled d.frame
+        (chain d.done k) ≡ false))
         → Spells d.frame ws (start d.frame d.done k) (head d.frame d.done k) (chain d.done k) }
     ensures descriptors { (ws : List ℕ) (d : DriverView) (e : DeviceView) (k : ℕ) → Ring ws d e → k < length (offers d.done)
         → give_position d.frame e.done ≤ start d.frame d.done k
