@@ -1,276 +1,93 @@
 -- Exactly when a step of the device answers Nothing, Armed, Asleep or Awake.
-use Rattle.std.proofs.Common.{◌≡◌, ◌≢◌, ◌⊎◌, ◌↔◌, ℕ, ◌+◌, ◌==◌, Bool, true, false, None, List, [], ◌∷◌, ◌++◌, length, if◌then◌else◌, refl, ap, inl, inr}
-use Rattle.std.proofs.lemmas.Bool.{eqb-true, eqb-false}
+use Rattle.std.proofs.Common.{◌≡◌, ℕ, ◌+◌, ◌==◌, Bool, true, false, None, List, [], ◌∷◌, ◌++◌, length, if◌then◌else◌, refl}
 use Rattle.vd_words.specs.declared.access.Access.{Access}
 use Rattle.vd_words.specs.declared.access.Access.TheVariants.{Load, Store}
 use Rattle.vd_words.specs.declared.access.Op.{Op}
 use Rattle.vd_words.specs.declared.access.Op.TheVariants as op
-use Rattle.vd_ring.specs.declared.act.DeviceAct.{DeviceAct}
 use Rattle.vd_ring.specs.declared.act.DeviceAct.TheVariants as act
 use Rattle.vd_ring.specs.declared.device.DeviceNow.{DeviceNow}
 use Rattle.vd_ring.specs.declared.device.DeviceNow.TheVariants as now
 use Rattle.vd_ring.specs.declared.device.DeviceView.{DeviceView}
-use Rattle.vd_ring.specs.History.{takes, given, last_used}
+use Rattle.vd_ring.specs.History.{takes}
 use Rattle.vd_ring.specs.Looks.{DeviceLooks}
-use Rattle.vd_packed_ring.specs.PackedWords.{len_of, id_of}
+use Rattle.vd_ring.proofs.Looking.{At, Stage, idle, arming, busy, quiet, finds_none, finds_some, second_none, second_some, hears_same, hears_new, wakes, disarms, goes_on}
+use Rattle.vd_ring.proofs.DeviceLooking.{told, stage, device_looks_by}
 use Rattle.vd_packed_ring.specs.PackedChains.{is_whole, chain_of}
 use Rattle.vd_packed_ring.specs.PackedSignals.{asks}
 use Rattle.vd_packed_ring.specs.PackedPositions.{take_position, later}
-use Rattle.vd_packed_ring.specs.PackedDevice.{device_shows, DeviceNextAt, device_after_at, device_after, device_act_at, device_act, device_side, device_gives, device_takes}
-
--- ---- one access
-
--- it wakes the side, where `more` says whether the loaded word shows more
-abbrev Wakes : DeviceView → Op → ℕ → Bool → Type 0
-Wakes v o r more = ((o ≡ op.Arm) × (v.doing ≡ now.Arming) × (more ≡ true)) ⊎ ((o ≡ op.Hear) × (v.doing ≡ now.Idle) × (r ≢ v.heard))
-
--- what is claimed of an access from the view `v` that is answered `x` and leaves the operation `next`
-record At (v : DeviceView) (o : Op) (r : ℕ) (more : Bool) (x : DeviceAct) (next : DeviceNow) : Type 0 where
-  nothing : (x ≡ act.Nothing) ↔ ((o ≡ op.Take) × (v.doing ≡ now.Idle) × (more ≡ false))
-  armed : (x ≡ act.Armed) ↔ ((o ≡ op.Arm) × (v.doing ≡ now.Arming) × (more ≡ false))
-  asleep : (x ≡ act.Asleep) ↔ ((o ≡ op.Hear) × (v.doing ≡ now.Idle) × (r ≡ v.heard))
-  disarming : (next ≡ now.Disarming o) ↔ (Wakes v o r more × (v.frame.features.event_idx ≡ false))
-  awake : (x ≡ act.Awake) ↔ ((Wakes v o r more × (v.frame.features.event_idx ≡ true)) ⊎ (v.doing ≡ now.Disarming o) ⊎ (o ≡ op.Disarm))
-
--- an answer that tells of no look
-abbrev plain : DeviceAct → Bool
-plain act.Nothing = false
-plain act.Armed = false
-plain act.Awake = false
-plain act.Asleep = false
-plain _ = true
-
--- an operation that waits for no disarming store
-abbrev goes_on : DeviceNow → Bool
-goes_on (now.Disarming k) = false
-goes_on _ = true
-
-no_wakes : (v : DeviceView) (o : Op) (r : ℕ) (more : Bool) → ((o ≡ op.Arm) × (v.doing ≡ now.Arming) → ⊥)
-    → ((o ≡ op.Hear) × (v.doing ≡ now.Idle) → ⊥) → Wakes v o r more → ⊥
-no_wakes v o r more second hears (inl a) = second (a.0, a.1)
-no_wakes v o r more second hears (inr b) = hears (b.0, b.1)
-
--- an access that is no look, and none of a hearing or of a disarming
-quiet : (v : DeviceView) (o : Op) (r : ℕ) (more : Bool) (x : DeviceAct) (next : DeviceNow) → plain x ≡ true → goes_on next ≡ true
-    → ((o ≡ op.Take) × (v.doing ≡ now.Idle) → ⊥) → ((o ≡ op.Arm) × (v.doing ≡ now.Arming) → ⊥)
-    → ((o ≡ op.Hear) × (v.doing ≡ now.Idle) → ⊥) → (v.doing ≡ now.Disarming o → ⊥) → (o ≡ op.Disarm → ⊥) → At v o r more x next
-quiet v o r more x next is goes look second hears waking disarms = record {
-  nothing = (λ e. absurd (cc (is, ap plain e)), λ h. absurd (look (h.0, h.1)));
-  armed = (λ e. absurd (cc (is, ap plain e)), λ h. absurd (second (h.0, h.1)));
-  asleep = (λ e. absurd (cc (is, ap plain e)), λ h. absurd (hears (h.0, h.1)));
-  disarming = (λ e. absurd (cc (goes, ap goes_on e)), λ h. absurd (no_wakes v o r more second hears h.0));
-  awake = (λ e. absurd (cc (is, ap plain e)), λ h. absurd (none h));
-}
-  where
-    none : (Wakes v o r more × (v.frame.features.event_idx ≡ true)) ⊎ (v.doing ≡ now.Disarming o) ⊎ (o ≡ op.Disarm) → ⊥
-    none (inl a) = no_wakes v o r more second hears a.0
-    none (inr (inl b)) = waking b
-    none (inr (inr c)) = disarms c
-
-not_awake : (v : DeviceView) (r : ℕ) (more : Bool)
-    → (Wakes (record v { doing = now.Idle }) op.Take r more × (v.frame.features.event_idx ≡ true)) ⊎
-    (now.Idle ≡ now.Disarming op.Take) ⊎ (op.Take ≡ op.Disarm) → ⊥
-not_awake v r more (inl a) = no_wakes (record v { doing = now.Idle }) op.Take r more (λ z. cc z.0) (λ z. cc z.0) a.0
-not_awake v r more (inr (inl b)) = cc b
-not_awake v r more (inr (inr c)) = cc c
+use Rattle.vd_packed_ring.specs.PackedDevice.{device_shows, DeviceNextAt, device_after_at, device_after, device_act_at, device_act, device_side, device_takes}
 
 -- the look of a take
-looks : (v : DeviceView) (r n m : ℕ) (b : Bool) → At (record v { doing = now.Idle }) op.Take r b (if b then act.Moved else act.Nothing)
-    (if b then record v { seen = n; shown = true; doing = now.Taking (r ∷ []) } else record v {
+looks : (v : DeviceView) (r n m : ℕ) (b same idx : Bool) → At false idle op.Take b same idx (told (if b then act.Moved else act.Nothing))
+    (stage (if b then record v { seen = n; shown = true; doing = now.Taking (r ∷ []) } else record v {
       doing = now.Idle;
       seen = m;
-      shown =
-          false;
-    }).doing
-looks v r n m true = record {
-  nothing = (λ e. absurd (cc e), λ h. absurd (cc h.2));
-  armed = (λ e. absurd (cc e), λ h. absurd (cc h.0));
-  asleep = (λ e. absurd (cc e), λ h. absurd (cc h.0));
-  disarming = (λ e. absurd (cc e), λ h. absurd (no_wakes (record v { doing = now.Idle }) op.Take r true (λ a. cc a.0) (λ a. cc a.0) h.0));
-  awake = (λ e. absurd (cc e), λ h. absurd (not_awake v r true h));
-}
-looks v r n m false = record {
-  nothing = (λ e. (refl, refl, refl), λ h. refl);
-  armed = (λ e. absurd (cc e), λ h. absurd (cc h.0));
-  asleep = (λ e. absurd (cc e), λ h. absurd (cc h.0));
-  disarming = (λ e. absurd (cc e), λ h. absurd (no_wakes (record v { doing = now.Idle }) op.Take r false (λ a. cc a.0) (λ a. cc a.0) h.0));
-  awake = (λ e. absurd (cc e), λ h. absurd (not_awake v r false h));
-}
+      shown = false;
+    }).doing)
+looks v r n m true same idx = finds_some false same idx busy refl
+looks v r n m false same idx = finds_none false same idx
 
--- the second look of an arming; c is EVENT_IDX
-second : (v : DeviceView) (r n m : ℕ) (b c : Bool) → v.frame.features.event_idx ≡ c
-    → At (record v { doing = now.Arming }) op.Arm r b (if b then (if c then act.Awake else act.Moved) else act.Armed)
-    (if b then record v { seen = n; shown = true; armed = None; doing = if c then now.Idle else now.Disarming op.Arm } else record v
-    { seen = m; shown = false; doing = now.Idle }).doing
-second v r n m false c idx = record {
-  nothing = (λ e. absurd (cc e), λ h. absurd (cc h.0));
-  armed = (λ e. (refl, refl, refl), λ h. refl);
-  asleep = (λ e. absurd (cc e), λ h. absurd (cc h.0));
-  disarming = (λ e. absurd (cc e), λ h. absurd (none h.0));
-  awake = (λ e. absurd (cc e), λ h. absurd (awake_not h));
-}
-  where
-    none : Wakes (record v { doing = now.Arming }) op.Arm r false → ⊥
-    none (inl a) = cc a.2
-    none (inr b) = cc b.0
+-- the second look of an arming, and the load of the other side's bell; c is EVENT_IDX
+second : (v : DeviceView) (n m : ℕ) (b same c : Bool)
+    → At false arming op.Arm b same c (told (if b then (if c then act.Awake else act.Moved) else act.Armed))
+    (stage (if b then record v { seen = n; shown = true; armed = None; doing = if c then now.Idle else now.Disarming op.Arm } else
+    record v { seen = m; shown = false; doing = now.Idle }).doing)
+second v n m false same c = second_none false same c
+second v n m true same true = second_some false same true
+second v n m true same false = second_some false same false
 
-    awake_not : (Wakes (record v { doing = now.Arming }) op.Arm r false × (v.frame.features.event_idx ≡ true)) ⊎
-        (now.Arming ≡ now.Disarming op.Arm) ⊎ (op.Arm ≡ op.Disarm) → ⊥
-    awake_not (inl a) = none a.0
-    awake_not (inr (inl b)) = cc b
-    awake_not (inr (inr c)) = cc c
-second v r n m true true idx = record {
-  nothing = (λ e. absurd (cc e), λ h. absurd (cc h.0));
-  armed = (λ e. absurd (cc e), λ h. absurd (cc h.2));
-  asleep = (λ e. absurd (cc e), λ h. absurd (cc h.0));
-  disarming = (λ e. absurd (cc e), λ h. absurd (cc (idx, h.1)));
-  awake = (λ e. inl (inl (refl, refl, refl), idx), λ h. refl);
-}
-second v r n m true false idx = record {
-  nothing = (λ e. absurd (cc e), λ h. absurd (cc h.0));
-  armed = (λ e. absurd (cc e), λ h. absurd (cc h.2));
-  asleep = (λ e. absurd (cc e), λ h. absurd (cc h.0));
-  disarming = (λ e. (inl (refl, refl, refl), idx), λ h. refl);
-  awake = (λ e. absurd (cc e), λ h. absurd (awake_not h));
-}
-  where
-    awake_not : (Wakes (record v { doing = now.Arming }) op.Arm r true × (v.frame.features.event_idx ≡ true)) ⊎
-        (now.Arming ≡ now.Disarming op.Arm) ⊎ (op.Arm ≡ op.Disarm) → ⊥
-    awake_not (inl a) = cc (idx, a.1)
-    awake_not (inr (inl b)) = cc b
-    awake_not (inr (inr c)) = cc c
-
--- the load of the other side's bell
-hears : (v : DeviceView) (r : ℕ) (more b c : Bool) → (r == v.heard) ≡ b → v.frame.features.event_idx ≡ c
-    → At (record v { doing = now.Idle }) op.Hear r more (if b then act.Asleep else (if c then act.Awake else act.Moved))
-    (if b then record v { doing = now.Idle } else record v {
+hears : (v : DeviceView) (r : ℕ) (more b c : Bool)
+    → At false idle op.Hear more b c (told (if b then act.Asleep else (if c then act.Awake else act.Moved)))
+    (stage (if b then record v { doing = now.Idle } else record v {
       heard = r;
       armed = None;
       doing =
           if c then now.Idle else now.Disarming op.Hear;
-    }).doing
-hears v r more true c eq idx = record {
-  nothing = (λ e. absurd (cc e), λ h. absurd (cc h.0));
-  armed = (λ e. absurd (cc e), λ h. absurd (cc h.0));
-  asleep = (λ e. (refl, refl, eqb-true r v.heard eq), λ h. refl);
-  disarming = (λ e. absurd (cc e), λ h. absurd (none h.0));
-  awake = (λ e. absurd (cc e), λ h. absurd (awake_not h));
-}
-  where
-    none : Wakes (record v { doing = now.Idle }) op.Hear r more → ⊥
-    none (inl a) = cc a.0
-    none (inr b) = b.2 (eqb-true r v.heard eq)
+    }).doing)
+hears v r more true c = hears_same false more c
+hears v r more false true = hears_new false more true
+hears v r more false false = hears_new false more false
 
-    awake_not : (Wakes (record v { doing = now.Idle }) op.Hear r more × (v.frame.features.event_idx ≡ true)) ⊎
-        (now.Idle ≡ now.Disarming op.Hear) ⊎ (op.Hear ≡ op.Disarm) → ⊥
-    awake_not (inl a) = none a.0
-    awake_not (inr (inl b)) = cc b
-    awake_not (inr (inr c)) = cc c
-hears v r more false true eq idx = record {
-  nothing = (λ e. absurd (cc e), λ h. absurd (cc h.0));
-  armed = (λ e. absurd (cc e), λ h. absurd (cc h.0));
-  asleep = (λ e. absurd (cc e), λ h. absurd (eqb-false r v.heard eq h.2));
-  disarming = (λ e. absurd (cc e), λ h. absurd (cc (idx, h.1)));
-  awake = (λ e. inl (inr (refl, refl, eqb-false r v.heard eq), idx), λ h. refl);
-}
-hears v r more false false eq idx = record {
-  nothing = (λ e. absurd (cc e), λ h. absurd (cc h.0));
-  armed = (λ e. absurd (cc e), λ h. absurd (cc h.0));
-  asleep = (λ e. absurd (cc e), λ h. absurd (eqb-false r v.heard eq h.2));
-  disarming = (λ e. (inr (refl, refl, eqb-false r v.heard eq), idx), λ h. refl);
-  awake = (λ e. absurd (cc e), λ h. absurd (awake_not h));
-}
-  where
-    awake_not : (Wakes (record v { doing = now.Idle }) op.Hear r more × (v.frame.features.event_idx ≡ true)) ⊎
-        (now.Idle ≡ now.Disarming op.Hear) ⊎ (op.Hear ≡ op.Disarm) → ⊥
-    awake_not (inl a) = cc (idx, a.1)
-    awake_not (inr (inl b)) = cc b
-    awake_not (inr (inr c)) = cc c
-
--- the disarming store that an arming or a hearing ends with
-wakes : (v : DeviceView) (o k : Op) (r : ℕ) (more : Bool) → k ≡ o → At (record v { doing = now.Disarming k }) o r more act.Awake now.Idle
-wakes v o k r more is = record {
-  nothing = (λ e. absurd (cc e), λ h. absurd (cc h.1));
-  armed = (λ e. absurd (cc e), λ h. absurd (cc h.1));
-  asleep = (λ e. absurd (cc e), λ h. absurd (cc h.1));
-  disarming = (λ e. absurd (cc e), λ h. absurd (no_wakes (record v { doing = now.Disarming k }) o r more (λ a. cc a.1) (λ a. cc a.1) h.0));
-  awake = (λ e. inr (inl (ap now.Disarming is)), λ h. refl);
-}
-
--- a disarming alone
-disarms : (v : DeviceView) (r : ℕ) (more : Bool) → At (record v { doing = now.Idle }) op.Disarm r more act.Awake now.Idle
-disarms v r more = record {
-  nothing = (λ e. absurd (cc e), λ h. absurd (cc h.0));
-  armed = (λ e. absurd (cc e), λ h. absurd (cc h.0));
-  asleep = (λ e. absurd (cc e), λ h. absurd (cc h.0));
-  disarming = (λ e. absurd (cc e), λ h. absurd (no_wakes (record v { doing = now.Idle }) op.Disarm r more (λ a. cc a.0) (λ a. cc a.0) h.0));
-  awake = (λ e. inr (inr refl), λ h. refl);
-}
-
--- ---- all accesses
-
-checked_on : (old new : ℕ) (b : Bool) → goes_on (if b then now.Ringing old new else now.Idle) ≡ true
+checked_on : (old new : ℕ) (b : Bool) → goes_on (stage (if b then now.Ringing old new else now.Idle)) ≡ true
 checked_on old new true = refl
 checked_on old new false = refl
 
 -- a load of a chain's word
-takes_at : (v : DeviceView) (w : ℕ) (ws : List ℕ) (r : ℕ) (us : List ℕ) (more b : Bool)
-    → At (record v { doing = now.Taking (w ∷ us) }) op.Take r more
-    (if b then act.Taken (length (takes v.done)) (chain_of v.frame ws) else act.Moved)
-    (if b then device_takes (record v { doing = now.Taking (w ∷ us) }) ws else record v { doing = now.Taking ws }).doing
-takes_at v w ws r us more true =
-    quiet (record v { doing = now.Taking (w ∷ us) }) op.Take r more (act.Taken (length (takes v.done)) (chain_of v.frame ws)) now.Idle
-    refl refl (λ z. cc z.1) (λ z. cc z.0) (λ z. cc z.0) (λ z. cc z) (λ z. cc z)
-takes_at v w ws r us more false = quiet (record v { doing = now.Taking (w ∷ us) }) op.Take r more act.Moved (now.Taking ws) refl refl
-    (λ z. cc z.1) (λ z. cc z.0) (λ z. cc z.0) (λ z. cc z) (λ z. cc z)
+takes_at : (v : DeviceView) (w : ℕ) (ws : List ℕ) (us : List ℕ) (more same idx b : Bool)
+    → At false busy op.Take more same idx (told (if b then act.Taken (length (takes v.done)) (chain_of v.frame ws) else act.Moved))
+    (stage (if b then device_takes (record v { doing = now.Taking (w ∷ us) }) ws else record v { doing = now.Taking ws }).doing)
+takes_at v w ws us more same idx true = quiet false busy op.Take more same idx idle refl refl
+takes_at v w ws us more same idx false = quiet false busy op.Take more same idx busy refl refl
 
-at : (n : DeviceNow) (v : DeviceView) (o : Op) (a : Access) (r : ℕ) → DeviceNextAt n (record v { doing = n }) o a
-    → At (record v { doing = n }) o r (device_shows v r) (device_act_at n (record v { doing = n }) o a r)
-    (device_after_at n (record v { doing = n }) o a r).doing
+-- ---- all accesses
+
+-- what is claimed of an access from the view `v`
+abbrev Looks : DeviceNow → DeviceView → Op → Access → ℕ → Type 0
+Looks n v o a r = At false (stage n) o (device_shows v r) (r == v.heard) v.frame.features.event_idx
+    (told (device_act_at n (record v { doing = n }) o a r)) (stage (device_after_at n (record v { doing = n }) o a r).doing)
+
+at : (n : DeviceNow) (v : DeviceView) (o : Op) (a : Access) (r : ℕ) → DeviceNextAt n (record v { doing = n }) o a → Looks n v o a r
 at now.Idle v op.Take (Load p) r h =
-    looks v r (later v.seen (take_position v.frame v.done + 1)) (later v.seen (take_position v.frame v.done)) (device_shows v r)
+    looks v r (later v.seen (take_position v.frame v.done + 1)) (later v.seen (take_position v.frame v.done)) (device_shows v r) _ _
 at now.Arming v op.Arm (Load p) r h =
-    second v r (later v.seen (take_position v.frame v.done + 1)) (later v.seen (take_position v.frame v.done))
-    (device_shows v r) v.frame.features.event_idx refl
-at now.Idle v op.Hear (Load p) r h = hears v r (device_shows v r) (r == v.heard) v.frame.features.event_idx refl refl
-at (now.Disarming k) v op.Arm (Store p x) r h = wakes v op.Arm k r (device_shows v r) h.0
-at (now.Disarming k) v op.Hear (Store p x) r h = wakes v op.Hear k r (device_shows v r) h.0
-at now.Idle v op.Disarm (Store p x) r h = disarms v r (device_shows v r)
-at now.Idle v op.Disarm (Load p) r h = disarms v r (device_shows v r)
-at now.Idle v op.Arm (Store p x) r h = quiet (record v { doing = now.Idle }) op.Arm r (device_shows v r) (act.Moved)
-    (now.Arming) refl refl (λ z. cc z.0) (λ z. cc z.1) (λ z. cc z.0) (λ z. cc z) (λ z. cc z)
-at now.Idle v op.Control (Store p x) r h = quiet (record v { doing = now.Idle }) op.Control r (device_shows v r) (act.Moved)
-    (now.Idle) refl refl (λ z. cc z.0) (λ z. cc z.0) (λ z. cc z.0) (λ z. cc z) (λ z. cc z)
-at now.Idle v op.Control (Load p) r h = quiet (record v { doing = now.Idle }) op.Control r (device_shows v r) (act.Moved)
-    (now.Idle) refl refl (λ z. cc z.0) (λ z. cc z.0) (λ z. cc z.0) (λ z. cc z) (λ z. cc z)
-at (now.Ringing old new) v op.Give (Store p x) r h = quiet (record v { doing = now.Ringing old new }) op.Give r (device_shows v r)
-    (act.Moved) (now.Idle) refl refl (λ z. cc z.0) (λ z. cc z.0) (λ z. cc z.0) (λ z. cc z) (λ z. cc z)
-at now.Idle v op.Rest (Store p x) r h = quiet (record v { doing = now.Idle }) op.Rest r (device_shows v r) (act.Moved)
-    (now.Resting) refl refl (λ z. cc z.0) (λ z. cc z.0) (λ z. cc z.0) (λ z. cc z) (λ z. cc z)
-at now.Idle v op.Rest (Load p) r h = quiet (record v { doing = now.Idle }) op.Rest r (device_shows v r) (act.Moved)
-    (now.Resting) refl refl (λ z. cc z.0) (λ z. cc z.0) (λ z. cc z.0) (λ z. cc z) (λ z. cc z)
-at now.Resting v op.Rest (Load p) r h = quiet (record v { doing = now.Resting }) op.Rest r (device_shows v r) (act.Rested)
-    (now.Idle) refl refl (λ z. cc z.0) (λ z. cc z.0) (λ z. cc z.0) (λ z. cc z) (λ z. cc z)
-at now.Idle v op.Give (Store p x) r h =
-    quiet (record v { doing = now.Idle }) op.Give r (device_shows v r)
-    (act.Given (last_used (given v.frame v.done (id_of x) (len_of x))).number)
-    (device_gives (record v { doing = now.Idle }) p x).doing refl refl (λ z. cc z.0) (λ z. cc z.0) (λ z. cc z.0) (λ z. cc z) (λ z. cc z)
-at (now.Checking old new) v op.Give (Load p) r h = quiet (record v { doing = now.Checking old new }) op.Give r (device_shows v r)
-    (act.Moved) (if asks v.frame old new r then now.Ringing old new else now.Idle) refl (checked_on old new (asks v.frame old new r))
-    (λ z. cc z.0) (λ z. cc z.0) (λ z. cc z.0) (λ z. cc z) (λ z. cc z)
-at (now.Taking (w ∷ us)) v op.Take (Load p) r h =
-    takes_at v w (w ∷ us ++ r ∷ []) r us (device_shows v r) (is_whole v.frame (w ∷ us ++ r ∷ []))
+    second v (later v.seen (take_position v.frame v.done + 1)) (later v.seen (take_position v.frame v.done))
+    (device_shows v r) _ v.frame.features.event_idx
+at now.Idle v op.Hear (Load p) r h = hears v r _ (r == v.heard) v.frame.features.event_idx
+at (now.Disarming k) v op.Arm (Store p x) r h = wakes false k op.Arm _ _ _ h.0
+at (now.Disarming k) v op.Hear (Store p x) r h = wakes false k op.Hear _ _ _ h.0
+at now.Idle v op.Disarm (Store p x) r h = disarms false _ _ _
+at now.Idle v op.Disarm (Load p) r h = disarms false _ _ _
+at now.Idle v op.Arm (Store p x) r h = quiet false idle op.Arm _ _ _ arming refl refl
+at now.Idle v op.Control (Store p x) r h = quiet false idle op.Control _ _ _ idle refl refl
+at now.Idle v op.Control (Load p) r h = quiet false idle op.Control _ _ _ idle refl refl
+at now.Idle v op.Give (Store p x) r h = quiet false idle op.Give _ _ _ busy refl refl
+at (now.Checking old new) v op.Give (Load p) r h = quiet false busy op.Give _ _ _ _ refl (checked_on old new (asks v.frame old new r))
+at (now.Ringing old new) v op.Give (Store p x) r h = quiet false busy op.Give _ _ _ idle refl refl
+at now.Idle v op.Rest (Store p x) r h = quiet false idle op.Rest _ _ _ busy refl refl
+at now.Idle v op.Rest (Load p) r h = quiet false idle op.Rest _ _ _ busy refl refl
+at now.Resting v op.Rest (Load p) r h = quiet false busy op.Rest _ _ _ idle refl refl
+at (now.Taking (w ∷ us)) v op.Take (Load p) r h = takes_at v w (w ∷ us ++ r ∷ []) us _ _ _ (is_whole v.frame (w ∷ us ++ r ∷ []))
 at _ v _ _ r h = absurd h
 
-looks_are : (v : DeviceView) (o : Op) (a : Access) (r : ℕ) → DeviceNextAt v.doing v o a
-    → At v o r (device_shows v r) (device_act v o a r) (device_after v o a r).doing
-looks_are v o a r h = at v.doing v o a r h
-
 pub device_looks : DeviceLooks device_side device_act device_shows
-device_looks = record {
-  nothing = λ v o a r h. (looks_are v o a r h).nothing;
-  armed = λ v o a r h. (looks_are v o a r h).armed;
-  asleep = λ v o a r h. (looks_are v o a r h).asleep;
-  disarming = λ v o a r h. (looks_are v o a r h).disarming;
-  awake = λ v o a r h. (looks_are v o a r h).awake;
-}
+device_looks = device_looks_by device_side device_act device_shows (λ v o a r n. at v.doing v o a r n)

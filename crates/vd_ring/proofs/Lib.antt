@@ -12,3 +12,6 @@ pub mod ControlWordsStand
 pub mod Accounting
 pub mod Rooms
 pub mod OneEnd
+pub mod Looking
+pub mod DriverLooking
+pub mod DeviceLooking
