@@ -10,12 +10,12 @@ use Rattle.vd_ring.specs.declared.device.DeviceNow.TheVariants as now
 use Rattle.vd_ring.specs.declared.device.DeviceView.{DeviceView}
 use Rattle.vd_ring.specs.History.{takes}
 use Rattle.vd_ring.specs.Looks.{DeviceLooks}
-use Rattle.vd_ring.proofs.Looking.{At, Stage, idle, arming, busy, quiet, finds_none, finds_some, second_none, second_some, hears_same, hears_new, wakes, disarms, goes_on}
+use Rattle.vd_ring.proofs.Looking.{At, idle, arming, busy, quiet, finds_none, finds_some, second_none, second_some, hears_same, hears_new, wakes, disarms, goes_on}
 use Rattle.vd_ring.proofs.DeviceLooking.{told, stage, device_looks_by}
 use Rattle.vd_packed_ring.specs.PackedChains.{is_whole, chain_of}
 use Rattle.vd_packed_ring.specs.PackedSignals.{asks}
 use Rattle.vd_packed_ring.specs.PackedPositions.{take_position, later}
-use Rattle.vd_packed_ring.specs.PackedDevice.{device_shows, DeviceNextAt, device_after_at, device_after, device_act_at, device_act, device_side, device_takes}
+use Rattle.vd_packed_ring.specs.PackedDevice.{device_shows, DeviceNextAt, device_after_at, device_act_at, device_act, device_side, device_takes}
 
 -- the look of a take
 looks : (v : DeviceView) (r n m : ℕ) (b same idx : Bool) → At false idle op.Take b same idx (told (if b then act.Moved else act.Nothing))

@@ -11,12 +11,12 @@ use Rattle.vd_ring.specs.declared.driver.DriverNow.TheVariants as now
 use Rattle.vd_ring.specs.declared.driver.DriverView.{DriverView}
 use Rattle.vd_ring.specs.History.{offers}
 use Rattle.vd_ring.specs.Looks.{DriverLooks}
-use Rattle.vd_ring.proofs.Looking.{At, Stage, idle, arming, busy, quiet, finds_none, finds_some, second_none, second_some, hears_same, hears_new, wakes, disarms, goes_on}
+use Rattle.vd_ring.proofs.Looking.{At, idle, arming, busy, quiet, finds_none, finds_some, second_none, second_some, hears_same, hears_new, wakes, disarms, goes_on}
 use Rattle.vd_ring.proofs.DriverLooking.{told, stage, driver_looks_by}
 use Rattle.vd_packed_ring.specs.PackedWords.{second_word, put}
 use Rattle.vd_packed_ring.specs.PackedSignals.{asks}
 use Rattle.vd_packed_ring.specs.PackedPositions.{offer_position, collect_position, later}
-use Rattle.vd_packed_ring.specs.PackedDriver.{driver_shows, DriverNextAt, driver_after_at, driver_after, driver_act_at, driver_act, driver_side, driver_offers, driver_collects, stores, collect_act}
+use Rattle.vd_packed_ring.specs.PackedDriver.{driver_shows, DriverNextAt, driver_after_at, driver_act_at, driver_act, driver_side, driver_offers, driver_collects, stores, collect_act}
 
 -- the look of a collect, which is the whole of it
 looks : (v : DriverView) (r n : ℕ) (b same idx : Bool)

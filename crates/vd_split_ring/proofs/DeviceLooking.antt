@@ -11,10 +11,10 @@ use Rattle.vd_ring.specs.declared.device.DeviceNow.TheVariants as now
 use Rattle.vd_ring.specs.declared.device.DeviceView.{DeviceView}
 use Rattle.vd_ring.specs.History.{takes}
 use Rattle.vd_ring.specs.Looks.{DeviceLooks}
-use Rattle.vd_ring.proofs.Looking.{At, Stage, idle, arming, busy, quiet, finds_none, finds_some, second_none, second_some, hears_same, hears_new, wakes, disarms, goes_on}
+use Rattle.vd_ring.proofs.Looking.{At, idle, arming, busy, quiet, finds_none, finds_some, second_none, second_some, hears_same, hears_new, wakes, disarms, goes_on}
 use Rattle.vd_ring.proofs.DeviceLooking.{told, stage, device_looks_by}
 use Rattle.vd_split_ring.specs.SplitWords.{shows, shown_from, wants, driver_event_lane, chain_of, is_whole}
-use Rattle.vd_split_ring.specs.SplitDevice.{device_shows, DeviceNextAt, device_after_at, device_after, device_act_at, device_act, device_side, device_takes}
+use Rattle.vd_split_ring.specs.SplitDevice.{device_shows, DeviceNextAt, device_after_at, device_act_at, device_act, device_side, device_takes}
 
 -- the look of a take
 looks : (v : DeviceView) (r n : ℕ) (b same idx : Bool)

@@ -4,16 +4,16 @@ use Rattle.vd_words.specs.declared.access.Access.{Access}
 use Rattle.vd_words.specs.declared.access.Access.TheVariants.{Load, Store}
 use Rattle.vd_words.specs.declared.access.Op.{Op}
 use Rattle.vd_words.specs.declared.access.Op.TheVariants as op
-use Rattle.vd_bits.specs.Lanes.{lane16, lane32}
+use Rattle.vd_bits.specs.Lanes.{lane32}
 use Rattle.vd_ring.specs.declared.act.DeviceAct.{DeviceAct}
 use Rattle.vd_ring.specs.declared.act.DeviceAct.TheVariants as act
 use Rattle.vd_ring.specs.declared.device.DeviceNow.{DeviceNow}
 use Rattle.vd_ring.specs.declared.device.DeviceNow.TheVariants as now
 use Rattle.vd_ring.specs.declared.device.DeviceView.{DeviceView}
-use Rattle.vd_ring.specs.History.{takes, gives, given, last_used}
+use Rattle.vd_ring.specs.History.{takes, given, last_used}
 use Rattle.vd_ring.specs.Looks.{DeviceStays, DeviceGoes, DeviceLooksNow}
-use Rattle.vd_split_ring.specs.SplitWords.{shows, shown_from, wants, driver_event_lane, chain_of, is_whole}
-use Rattle.vd_split_ring.specs.SplitDevice.{device_shows, DeviceNextAt, DeviceTells, DeviceKnows, ShowsChains, device_after_at, device_after, device_act_at, device_act, device_side, device_takes, device_wakes, woken_act}
+use Rattle.vd_split_ring.specs.SplitWords.{shows, shown_from, chain_of, is_whole}
+use Rattle.vd_split_ring.specs.SplitDevice.{device_shows, DeviceNextAt, DeviceTells, device_after_at, device_after, device_act_at, device_act, device_side, device_takes, device_wakes, woken_act}
 
 -- ---- one access
 

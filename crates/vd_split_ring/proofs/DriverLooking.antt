@@ -1,5 +1,5 @@
 -- Exactly when a step of the driver answers Nothing, Armed, Asleep or Awake.
-use Rattle.std.proofs.Common.{◌≡◌, ℕ, ◌+◌, ◌==◌, Bool, true, false, not, None, List, [], ◌∷◌, ◌++◌, length, if◌then◌else◌, refl}
+use Rattle.std.proofs.Common.{◌≡◌, ℕ, ◌==◌, Bool, true, false, not, None, List, [], ◌∷◌, ◌++◌, length, if◌then◌else◌, refl}
 use Rattle.vd_words.specs.declared.access.Access.{Access}
 use Rattle.vd_words.specs.declared.access.Access.TheVariants.{Load, Store}
 use Rattle.vd_words.specs.declared.access.Op.{Op}
@@ -12,10 +12,10 @@ use Rattle.vd_ring.specs.declared.driver.DriverNow.TheVariants as now
 use Rattle.vd_ring.specs.declared.driver.DriverView.{DriverView}
 use Rattle.vd_ring.specs.History.{offers, collects}
 use Rattle.vd_ring.specs.Looks.{DriverLooks}
-use Rattle.vd_ring.proofs.Looking.{At, Stage, idle, arming, busy, other, quiet, finds_none, finds_some, second_none, second_some, hears_same, hears_new, wakes, disarms, goes_on}
+use Rattle.vd_ring.proofs.Looking.{At, idle, arming, busy, quiet, finds_none, finds_some, second_none, second_some, hears_same, hears_new, wakes, disarms, goes_on}
 use Rattle.vd_ring.proofs.DriverLooking.{told, stage, driver_looks_by}
 use Rattle.vd_split_ring.specs.SplitWords.{shows, shown_from, entry_lane, lane_word, wants, device_event_lane, put}
-use Rattle.vd_split_ring.specs.SplitDriver.{driver_shows, DriverNextAt, driver_after_at, driver_after, driver_act_at, driver_act, driver_side, driver_wakes, woken_act}
+use Rattle.vd_split_ring.specs.SplitDriver.{driver_shows, DriverNextAt, driver_after_at, driver_act_at, driver_act, driver_side}
 
 -- the look of a collect
 looks : (v : DriverView) (r n : ℕ) (b same idx : Bool)

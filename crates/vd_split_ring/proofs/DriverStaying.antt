@@ -4,17 +4,15 @@ use Rattle.vd_words.specs.declared.access.Access.{Access}
 use Rattle.vd_words.specs.declared.access.Access.TheVariants.{Load, Store}
 use Rattle.vd_words.specs.declared.access.Op.{Op}
 use Rattle.vd_words.specs.declared.access.Op.TheVariants as op
-use Rattle.vd_bits.specs.Lanes.{lane16, lane32}
 use Rattle.vd_ring.specs.declared.act.DriverAct.{DriverAct}
 use Rattle.vd_ring.specs.declared.act.DriverAct.TheVariants as act
 use Rattle.vd_ring.specs.declared.driver.DriverNow.{DriverNow}
 use Rattle.vd_ring.specs.declared.driver.DriverNow.TheVariants as now
 use Rattle.vd_ring.specs.declared.driver.DriverView.{DriverView}
-use Rattle.vd_ring.specs.declared.frame.Put.{Put}
 use Rattle.vd_ring.specs.History.{offers, collects}
 use Rattle.vd_ring.specs.Looks.{DriverStays, DriverGoes, DriverLooksNow}
-use Rattle.vd_split_ring.specs.SplitWords.{shows, shown_from, wants}
-use Rattle.vd_split_ring.specs.SplitDriver.{driver_shows, DriverNextAt, DriverTells, DriverKnows, ShowsGives, driver_after_at, driver_after, driver_act_at, driver_act, driver_side, driver_wakes, collect_act, woken_act}
+use Rattle.vd_split_ring.specs.SplitWords.{shows, shown_from}
+use Rattle.vd_split_ring.specs.SplitDriver.{driver_shows, DriverNextAt, DriverTells, driver_after_at, driver_after, driver_act_at, driver_act, driver_side, driver_wakes, collect_act, woken_act}
 
 -- ---- one access
 

@@ -4,7 +4,7 @@ use Rattle.std.specs.List.{Contains}
 use Rattle.std.proofs.lemmas.List.{take_all}
 use Rattle.vd_bits.specs.Lanes.{lane32}
 use Rattle.vd_model.specs.declared.chain.Piece.{Piece}
-use Rattle.vd_model.specs.Chains.{IsChain, needs}
+use Rattle.vd_model.specs.Chains.{IsChain}
 use Rattle.vd_words.specs.declared.access.Access.{Access}
 use Rattle.vd_words.specs.declared.access.Access.TheVariants.{Load, Store}
 use Rattle.vd_words.specs.declared.access.Op.TheVariants as op
@@ -19,7 +19,6 @@ use Rattle.vd_ring.specs.declared.device.DeviceNow.TheVariants.{Taking}
 use Rattle.vd_ring.specs.declared.device.DeviceView.{DeviceView}
 use Rattle.vd_ring.specs.declared.driver.DriverView.{DriverView}
 use Rattle.vd_ring.specs.declared.frame.Frame.{Frame}
-use Rattle.vd_ring.specs.declared.frame.Put.{Put}
 use Rattle.vd_ring.specs.History.{open_at, takes, head, chain, first}
 use Rattle.vd_split_ring.specs.SplitWords.{IsLawful, width, put, table_of, table, pointer, is_tabled, reading, SpellsTable, words_of, has_table, names_table, is_whole, chain_of}
 use Rattle.vd_split_ring.specs.SplitDevice.{BeginsChain, DeviceNext, DeviceNextAt, device_act, device_act_at}
@@ -32,7 +31,7 @@ use Rattle.vd_split_ring.proofs.Direct.{borrowed_needs}
 use Rattle.vd_split_ring.proofs.Reading.{names_it, none_read}
 use Rattle.vd_split_ring.proofs.Rows.{row_stands, words_row}
 use Rattle.vd_split_ring.proofs.Spelling.{spells}
-use Rattle.vd_split_ring.proofs.Tables.{is_either, tabled_is, direct_needs, reading_tabled, reading_direct}
+use Rattle.vd_split_ring.proofs.Tables.{is_either, tabled_is, reading_tabled}
 
 -- the second word of a table's descriptor has the table's length
 len_named : (m s : ℕ) → m ≤ 16 → s ≡ 16 * m + 17179869184 → lane32 s 0 ≡ 16 * m
