@@ -1,4 +1,4 @@
--- A device's answers to looks, from the kinds of its stages and answers.
+-- A device's answers to looks, and what stays from one access to the next, from the kinds of its stages and answers.
 use Rattle.std.proofs.Common.{◌≡◌, ◌⊎◌, ℕ, ◌==◌, Bool, true, false, refl, ap, inl, inr, subst}
 use Rattle.std.proofs.lemmas.Bool.{eqb-true, eqb-false}
 use Rattle.vd_words.specs.declared.access.Access.{Access}
@@ -10,7 +10,8 @@ use Rattle.vd_ring.specs.declared.act.DeviceAct.TheVariants as act
 use Rattle.vd_ring.specs.declared.device.DeviceNow.{DeviceNow}
 use Rattle.vd_ring.specs.declared.device.DeviceNow.TheVariants as now
 use Rattle.vd_ring.specs.declared.device.DeviceView.{DeviceView}
-use Rattle.vd_ring.specs.Looks.{DeviceLooks, DeviceWakes}
+use Rattle.vd_ring.specs.Looks.{DeviceLooks, DeviceWakes, DeviceStays, DeviceGoes, DeviceLooksNow}
+use Rattle.vd_ring.proofs.Staying.{Kept, LooksNow}
 use Rattle.vd_ring.proofs.Looking.{Stage, Told, At, Wakes, idle, arming, disarming, busy, nothing, armed, asleep, awake, other}
 
 -- the kind of an answer, and of what is being done
@@ -131,3 +132,34 @@ device_looks_by side act shows at = record {
     to w o r (inl a) = inl (wakes_to shows w o r a.0, a.1)
     to w o r (inr (inl b)) = inr (inl (ap stage b))
     to w o r (inr (inr c)) = inr (inr c)
+
+-- ---- what stays
+
+-- the operation goes on, or has ended with Awake
+abbrev pub goes : DeviceAct → Bool
+goes act.Moved = true
+goes act.Awake = true
+goes _ = false
+
+goes_on_by : (x : DeviceAct) → DeviceGoes x → goes x ≡ true
+goes_on_by act.Moved g = refl
+goes_on_by act.Awake g = refl
+goes_on_by _ g = absurd g
+
+look_to : (w : DeviceView) (o : Op) → DeviceLooksNow w o → LooksNow false (stage w.doing) o
+look_to w o (inl a) = inl (a.0, ap stage a.1)
+look_to w o (inr a) = inr (a.0, ap stage a.1)
+
+pub device_stays_by : (side : SideModel DeviceView) (act : DeviceView → Op → Access → ℕ → DeviceAct) (shows : DeviceView → ℕ → Bool)
+    → ((w : DeviceView) (o : Op) (a : Access) (r : ℕ) → side.next w o a
+    → Kept false (stage w.doing) o (side.tells w o a r) (shows w r) (told (act w o a r)) (goes (act w o a r)) w (side.after w o a r)
+    w.armed (side.after w o a r).armed w.shown (side.after w o a r).shown (stage (side.after w o a r).doing))
+    → DeviceStays side act shows
+device_stays_by side act shows at = record {
+  arms = λ w o a r n e f. let h = (at w o a r n).arms e (ap stage f) in
+      (stage_as (side.after w o a r).doing arming h.0, h.1, h.2);
+  armed = λ w o a r n e. (at w o a r n).armed (ap told e);
+  asleep = λ w o a r n e. (at w o a r n).asleep (ap told e);
+  shown = λ w o a r n g h. (at w o a r n).shown (goes_on_by (act w o a r) g) (elim h [ inl b ↦ inl b | inr l ↦ inr (look_to w o l) ]);
+  again = λ w o a r n t l b. (at w o a r n).again t (look_to w o l) b;
+}

@@ -1,4 +1,4 @@
--- A driver's answers to looks, from the kinds of its stages and answers.
+-- A driver's answers to looks, and what stays from one access to the next, from the kinds of its stages and answers.
 use Rattle.std.proofs.Common.{◌≡◌, ◌⊎◌, ℕ, ◌==◌, Bool, true, false, refl, ap, inl, inr, subst}
 use Rattle.std.proofs.lemmas.Bool.{eqb-true, eqb-false}
 use Rattle.vd_words.specs.declared.access.Access.{Access}
@@ -10,7 +10,8 @@ use Rattle.vd_ring.specs.declared.act.DriverAct.TheVariants as act
 use Rattle.vd_ring.specs.declared.driver.DriverNow.{DriverNow}
 use Rattle.vd_ring.specs.declared.driver.DriverNow.TheVariants as now
 use Rattle.vd_ring.specs.declared.driver.DriverView.{DriverView}
-use Rattle.vd_ring.specs.Looks.{DriverLooks, DriverWakes}
+use Rattle.vd_ring.specs.Looks.{DriverLooks, DriverWakes, DriverStays, DriverGoes, DriverLooksNow}
+use Rattle.vd_ring.proofs.Staying.{Kept, LooksNow}
 use Rattle.vd_ring.proofs.Looking.{Stage, Told, At, Wakes, idle, arming, disarming, busy, nothing, armed, asleep, awake, other}
 
 -- the kind of an answer, and of what is being done
@@ -130,3 +131,34 @@ driver_looks_by side act shows at = record {
     to v o r (inl a) = inl (wakes_to shows v o r a.0, a.1)
     to v o r (inr (inl b)) = inr (inl (ap stage b))
     to v o r (inr (inr c)) = inr (inr c)
+
+-- ---- what stays
+
+-- the operation goes on, or has ended with Awake
+abbrev pub goes : DriverAct → Bool
+goes act.Moved = true
+goes act.Awake = true
+goes _ = false
+
+goes_on_by : (x : DriverAct) → DriverGoes x → goes x ≡ true
+goes_on_by act.Moved g = refl
+goes_on_by act.Awake g = refl
+goes_on_by _ g = absurd g
+
+look_to : (v : DriverView) (o : Op) → DriverLooksNow v o → LooksNow true (stage v.doing) o
+look_to v o (inl a) = inl (a.0, ap stage a.1)
+look_to v o (inr a) = inr (a.0, ap stage a.1)
+
+pub driver_stays_by : (side : SideModel DriverView) (act : DriverView → Op → Access → ℕ → DriverAct) (shows : DriverView → ℕ → Bool)
+    → ((v : DriverView) (o : Op) (a : Access) (r : ℕ) → side.next v o a
+    → Kept true (stage v.doing) o (side.tells v o a r) (shows v r) (told (act v o a r)) (goes (act v o a r)) v (side.after v o a r)
+    v.armed (side.after v o a r).armed v.shown (side.after v o a r).shown (stage (side.after v o a r).doing))
+    → DriverStays side act shows
+driver_stays_by side act shows at = record {
+  arms = λ v o a r n e f. let h = (at v o a r n).arms e (ap stage f) in
+      (stage_as (side.after v o a r).doing arming h.0, h.1, h.2);
+  armed = λ v o a r n e. (at v o a r n).armed (ap told e);
+  asleep = λ v o a r n e. (at v o a r n).asleep (ap told e);
+  shown = λ v o a r n g h. (at v o a r n).shown (goes_on_by (act v o a r) g) (elim h [ inl b ↦ inl b | inr l ↦ inr (look_to v o l) ]);
+  again = λ v o a r n t l b. (at v o a r n).again t (look_to v o l) b;
+}

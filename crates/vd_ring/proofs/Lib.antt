@@ -13,5 +13,6 @@ pub mod Accounting
 pub mod Rooms
 pub mod OneEnd
 pub mod Looking
+pub mod Staying
 pub mod DriverLooking
 pub mod DeviceLooking
