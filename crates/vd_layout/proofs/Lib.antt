@@ -1,2 +1,6 @@
 pub mod OnePair
 pub mod InTable
+mod Walks
+pub mod PlainRings
+pub mod RingSteps
+pub mod Bytes

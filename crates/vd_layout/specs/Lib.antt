@@ -13,3 +13,7 @@ pub mod DeviceFinish
 pub mod Unarmed
 pub mod Whole
 pub mod Both
+pub mod RingLists
+pub mod Noted
+pub mod Ended
+pub mod PlainRing

@@ -3,10 +3,13 @@
 
 mod device;
 mod driver;
+mod ended;
 mod finish;
+mod history;
 mod layout;
 mod moves;
 mod plain;
+mod ring;
 mod steps;
 
 pub use device::{BadBase, DeviceEnd};
@@ -15,5 +18,6 @@ pub use finish::{finish_device, finish_driver};
 pub use layout::Layout;
 pub use moves::Move;
 pub use plain::{finish_device_beside, finish_driver_beside};
+pub use ring::PlainRing;
 pub use steps::{step_device_beside, step_driver_beside};
 pub use vd_ring::{DeviceAct, DriverAct};

@@ -1,14 +1,12 @@
 //! Chains through a split or a packed ring, timed from outside. Prints a checksum of what came back, and no time.
 #![tactic(auto)]
 
-mod rig;
 mod words;
 
 use anyhow::{Context, Result};
-use rig::Rig;
 use std::alloc::{AllocError, Global};
 use std::env;
-use vd_layout::{DeviceAct, DriverAct, Layout};
+use vd_layout::{DeviceAct, DriverAct, Layout, PlainRing};
 use vd_model::{Chain, Features, Piece};
 use vd_packed::Packed;
 use vd_split::Split;
@@ -55,56 +53,61 @@ fn chain(k: u32, most: u32) -> Chain {
 }
 
 /// The device arms before the offers of a round.
-fn arms<L: Layout>(rig: &mut Rig<L>, sleeps: bool) {
+fn arms<L: Layout>(ring: &mut PlainRing<L>, sleeps: bool) {
     if sleeps {
-        let _ = rig.arm_device();
+        let _ = ring.arm_device();
     }
 }
 
 /// After the offers the device hears the driver's bell, and the driver arms.
-fn wakes<L: Layout>(rig: &mut Rig<L>, sleeps: bool) {
+fn wakes<L: Layout>(ring: &mut PlainRing<L>, sleeps: bool) {
     if sleeps {
-        let _ = rig.hear_device();
-        let _ = rig.arm_driver();
+        let _ = ring.hear_device();
+        let _ = ring.arm_driver();
     }
 }
 
 /// After the gives the driver hears the device's bell.
-fn hears<L: Layout>(rig: &mut Rig<L>, sleeps: bool) {
+fn hears<L: Layout>(ring: &mut PlainRing<L>, sleeps: bool) {
     if sleeps {
-        let _ = rig.hear_driver();
+        let _ = ring.hear_driver();
     }
 }
 
 /// Offers, takes, gives and collects so many chains.
-fn round<L: Layout>(rig: &mut Rig<L>, window: u32, sleeps: bool, chains: &[Chain; 3]) -> u64 {
+fn round<L: Layout>(
+    ring: &mut PlainRing<L>,
+    window: u32,
+    sleeps: bool,
+    chains: &[Chain; 3],
+) -> u64 {
     let mut sum = 0u64;
-    arms(rig, sleeps);
+    arms(ring, sleeps);
     for k in 0..window {
-        let _ = rig.offer(&chains[(k % 3) as usize]);
+        let _ = ring.offer(&chains[(k % 3) as usize]);
     }
-    wakes(rig, sleeps);
+    wakes(ring, sleeps);
     for _ in 0..window {
-        if let Some(DeviceAct::Taken(number, chain)) = rig.take() {
+        if let Some(DeviceAct::Taken(number, chain)) = ring.take() {
             sum = sum.wrapping_add(chain.pieces().len() as u64);
-            let _ = rig.give(number, 10);
+            let _ = ring.give(number, 10);
         }
     }
-    hears(rig, sleeps);
+    hears(ring, sleeps);
     for _ in 0..window {
-        if let Some(DriverAct::Collected { number, len, .. }) = rig.collect() {
+        if let Some(DriverAct::Collected { number, len, .. }) = ring.collect() {
             sum = sum.wrapping_add(number as u64).wrapping_add(len as u64);
         }
     }
     sum
 }
 
-fn run<L: Layout>(rig: &mut Rig<L>, w: Workload, window: u32) -> u64 {
+fn run<L: Layout>(ring: &mut PlainRing<L>, w: Workload, window: u32) -> u64 {
     let mut sum = 0u64;
     let chains = [chain(0, w.most), chain(1, w.most), chain(2, w.most)];
     let sleeps = matches!(w.way, Way::Flags | Way::Index);
     for _ in 0..w.rounds {
-        sum = sum.wrapping_add(round(rig, window, sleeps, &chains));
+        sum = sum.wrapping_add(round(ring, window, sleeps, &chains));
     }
     sum
 }
@@ -121,18 +124,22 @@ fn features_of(way: Way) -> Features {
 fn split(alloc: Global, w: Workload) -> Result<u64, AllocError> {
     let f = features_of(w.way);
     Ok(match w.size {
-        Size::Four => run(&mut Rig::<Split>::new(alloc, 0, 4, f)?, w, 1),
-        Size::Middle => run(&mut Rig::<Split>::new(alloc, 0, 256, f)?, w, WINDOW),
-        Size::Large => run(&mut Rig::<Split>::new(alloc, 0, 1024, f)?, w, WINDOW),
+        Size::Four => run(&mut PlainRing::<Split>::make(alloc, 0, 4, f)?, w, 1),
+        Size::Middle => run(&mut PlainRing::<Split>::make(alloc, 0, 256, f)?, w, WINDOW),
+        Size::Large => run(&mut PlainRing::<Split>::make(alloc, 0, 1024, f)?, w, WINDOW),
     })
 }
 
 fn packed(alloc: Global, w: Workload) -> Result<u64, AllocError> {
     let f = features_of(w.way);
     Ok(match w.size {
-        Size::Four => run(&mut Rig::<Packed>::new(alloc, 0, 4, f)?, w, 1),
-        Size::Middle => run(&mut Rig::<Packed>::new(alloc, 0, 256, f)?, w, WINDOW),
-        Size::Large => run(&mut Rig::<Packed>::new(alloc, 0, 1024, f)?, w, WINDOW),
+        Size::Four => run(&mut PlainRing::<Packed>::make(alloc, 0, 4, f)?, w, 1),
+        Size::Middle => run(&mut PlainRing::<Packed>::make(alloc, 0, 256, f)?, w, WINDOW),
+        Size::Large => run(
+            &mut PlainRing::<Packed>::make(alloc, 0, 1024, f)?,
+            w,
+            WINDOW,
+        ),
     })
 }
 

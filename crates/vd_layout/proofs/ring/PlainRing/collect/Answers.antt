@@ -1,0 +1,81 @@
+use Rattle.std.proofs.Common.{◌≡◌, sym, ap, refl, subst}
+use Rattle.vd_layout.specs.PlainRing.{PlainView, IsCollect, frame_at}
+use Rattle.vd_layout.specs.RingLists.{RingLists, after_driver}
+use Rattle.vd_layout.proofs.PlainRings.{driver_begun, driver_kept, driver_sleepless, collected_on, driver_moved}
+use Rattle.vd_layout.proofs.ring.PlainRing.collect.Goals as goal
+
+pub end_driver-answer-requires-clause-on : goal.end_driver-answer-requires-clause-on
+end_driver-answer-requires-clause-on g c =
+    let d = g.L.Driver.DriverEnd.driver in
+    let e = g.L.Device.DeviceEnd.device in
+    let l = g.L.Layout.layout in
+    let law = g.met.L.Layout.lawful in
+    let i = c.self.invariant in
+    let stands = c.begin_collect.ensures.stands i.on.view i.on.drives in (
+      frame_at d l c.self.inside.driver c.self.inside.words,
+      driver_begun d e l _ c.self.inside.driver c.begin_collect.new.self c.self.inside.device c.self.inside.words.words i.on stands,
+      refl,
+    )
+
+pub invariant_of-self : goal.invariant_of-self
+invariant_of-self g c =
+    let d = g.L.Driver.DriverEnd.driver in
+    let e = g.L.Device.DeviceEnd.device in
+    let l = g.L.Layout.layout in
+    let law = g.met.L.Layout.lawful in
+    let i = c.self.invariant in
+    let stands = c.begin_collect.ensures.stands i.on.view i.on.drives in
+    let z = c.end_driver-answer.ensures.did (frame_at d l c.self.inside.driver c.self.inside.words)
+    (driver_begun d e l _ c.self.inside.driver c.begin_collect.new.self c.self.inside.device c.self.inside.words.words i.on stands) in
+    let did = collected_on d e l law c.self.inside.driver c.begin_collect.new.self c.end_driver-answer.new.driver c.self.inside.device
+    c.self.inside.words c.end_driver-answer.new.words c.self.inside.history.lists c.then-self-inside.result.lists
+    c.self.inside.count c.self.inside.limit c.self.inside.resting c.end_driver-answer.result i stands z
+    c.begin_collect.ensures.begun c.then-self-inside.ensures in
+    (driver_kept d e l law c.self.inside.driver c.begin_collect.new.self c.end_driver-answer.new.driver c.self.inside.device
+    c.self.inside.words c.end_driver-answer.new.words c.self.inside.history.lists c.then-self-inside.result.lists
+    c.self.inside.count c.self.inside.limit c.self.inside.resting c.end_driver-answer.result i stands z
+    c.end_driver-answer.ensures.ring c.end_driver-answer.ensures.idle did.1).ring
+
+pub returns-clause-made : goal.returns-clause-made
+returns-clause-made g c =
+    let d = g.L.Driver.DriverEnd.driver in
+    let e = g.L.Device.DeviceEnd.device in
+    let l = g.L.Layout.layout in
+    let law = g.met.L.Layout.lawful in
+    let i = c.self.invariant in
+    let stands = c.begin_collect.ensures.stands i.on.view i.on.drives in
+    let z = c.end_driver-answer.ensures.did (frame_at d l c.self.inside.driver c.self.inside.words)
+    (driver_begun d e l _ c.self.inside.driver c.begin_collect.new.self c.self.inside.device c.self.inside.words.words i.on stands) in
+    let did = collected_on d e l law c.self.inside.driver c.begin_collect.new.self c.end_driver-answer.new.driver c.self.inside.device
+    c.self.inside.words c.end_driver-answer.new.words c.self.inside.history.lists c.then-self-inside.result.lists
+    c.self.inside.count c.self.inside.limit c.self.inside.resting c.end_driver-answer.result i stands z
+    c.begin_collect.ensures.begun c.then-self-inside.ensures in
+    subst (λ (h : RingLists). IsCollect h c.end_driver-answer.result
+    × (c.then-self-inside.result.lists ≡ after_driver c.end_driver-answer.result h))
+    (ap (λ (v : PlainView). v.lists) c.self.view_is) (did.0, c.then-self-inside.ensures)
+
+pub returns-clause-same : goal.returns-clause-same
+returns-clause-same g c =
+    let d = g.L.Driver.DriverEnd.driver in
+    let e = g.L.Device.DeviceEnd.device in
+    let l = g.L.Layout.layout in
+    let law = g.met.L.Layout.lawful in
+    let i = c.self.invariant in
+    let stands = c.begin_collect.ensures.stands i.on.view i.on.drives in
+    let z = c.end_driver-answer.ensures.did (frame_at d l c.self.inside.driver c.self.inside.words)
+    (driver_begun d e l _ c.self.inside.driver c.begin_collect.new.self c.self.inside.device c.self.inside.words.words i.on stands) in
+    let did = collected_on d e l law c.self.inside.driver c.begin_collect.new.self c.end_driver-answer.new.driver c.self.inside.device
+    c.self.inside.words c.end_driver-answer.new.words c.self.inside.history.lists c.then-self-inside.result.lists
+    c.self.inside.count c.self.inside.limit c.self.inside.resting c.end_driver-answer.result i stands z
+    c.begin_collect.ensures.begun c.then-self-inside.ensures in
+    let k = driver_kept d e l law c.self.inside.driver c.begin_collect.new.self c.end_driver-answer.new.driver c.self.inside.device
+    c.self.inside.words c.end_driver-answer.new.words c.self.inside.history.lists c.then-self-inside.result.lists
+    c.self.inside.count c.self.inside.limit c.self.inside.resting c.end_driver-answer.result i stands z
+    c.end_driver-answer.ensures.ring c.end_driver-answer.ensures.idle did.1 in
+    driver_moved _ _ _ (λ (v : PlainView). d.armed c.end_driver-answer.new.driver ≡ v.driver_armed) c.self.view_is (
+      record { frame = k.frame; wide = k.wide; device_armed = refl; resting = refl; base = refl },
+      driver_sleepless d e l law c.self.inside.driver c.begin_collect.new.self c.end_driver-answer.new.driver c.self.inside.device
+          c.self.inside.words c.end_driver-answer.new.words c.self.inside.history.lists c.then-self-inside.result.lists
+          c.self.inside.count c.self.inside.limit c.self.inside.resting c.end_driver-answer.result i stands z (sym c.if-armed.ensures)
+          (λ w. cc (w, c.begin_collect.ensures.begun)),
+    )
