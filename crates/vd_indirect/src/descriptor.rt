@@ -22,6 +22,7 @@ const WRITE: u32 = 1;
 const INDIRECT: u32 = 2;
 
 /// The second word of the descriptor of a piece in a place; `more` where another descriptor follows in the next place.
+#[inline]
 pub fn second_word_of(kind: TableKind, piece: &Piece, place: u16, more: bool) -> u64
     requires { place < 65535 }
     ensures { result ≡ second_word kind piece.now more place }
@@ -38,6 +39,7 @@ pub fn second_word_of(kind: TableKind, piece: &Piece, place: u16, more: bool) ->
 }
 
 /// What a flag is worth where it is set.
+#[inline]
 fn flag_of(worth: u16, set: bool) -> u16
     ensures value { result ≡ flag worth set }
     ensures small { result ≤ worth }

@@ -29,9 +29,9 @@ pub fn table_word(kind: TableKind, pieces: &[Piece], at: u32) -> u64
     ensures { result ≡ slice_index (table_words kind pieces.now) at }
 {
     let place = at as usize / 2;
-    let piece = pieces[place];
+    let piece = &pieces[place];
     if at % 2 == 0 {
         return piece.addr;
     }
-    second_word_of(kind, &piece, place as u16, place + 1 < pieces.len())
+    second_word_of(kind, piece, place as u16, place + 1 < pieces.len())
 }

@@ -126,7 +126,7 @@ impl SplitDevice {
     }
 
     /// The load of its second word, by which a whole chain is taken, or which names the table where the chain stands.
-    #[inline(never)]
+    #[inline(always)]
     pub(super) fn second<P: Port>(&mut self, port: &mut P, word: u64, head: u32, place: u32) -> Told
         requires now { self.old.doing ≡ DeviceStep.Second word head place }
         requires own { (v : DeviceView) × DeviceStands self.old v × IsOwn P.port device_side port.old v }

@@ -13,7 +13,7 @@ use vd_words::{Op, Port};
 
 impl SplitDriver {
     /// Makes one access of the operation in progress.
-    #[inline(never)]
+    #[inline(always)]
     pub(super) fn advance<P: Port>(&mut self, port: &mut P) -> DriverTold
         requires busy { ¬ (split_driver.begun self.old ≡ DriverOp.idle) }
         requires own { (v : DriverView) × DriverStands self.old v × IsOwn P.port driver_side port.old v }

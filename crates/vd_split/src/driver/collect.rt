@@ -46,7 +46,7 @@ impl SplitDriver {
     }
 
     /// The load of its length, by which the chain is collected. Its places are free again.
-    #[inline(never)]
+    #[inline(always)]
     pub(super) fn finish<P: Port>(&mut self, port: &mut P, word: u64, found: u64) -> DriverTold
         requires now { self.old.doing ≡ DriverStep.Finish word found }
         requires own { (v : DriverView) × DriverStands self.old v × IsOwn P.port driver_side port.old v }

@@ -42,7 +42,7 @@ fn after_tabled(at: u32, pieces: u32) -> DriverStep
 
 impl SplitDriver {
     /// The store of a descriptor word.
-    #[inline(never)]
+    #[inline(always)]
     pub(super) fn describe<P: Port>(&mut self, port: &mut P, at: u32) -> DriverTold
         requires now { self.old.doing ≡ DriverStep.Describe at }
         requires own { (v : DriverView) × DriverStands self.old v × IsOwn P.port driver_side port.old v }
@@ -58,7 +58,7 @@ impl SplitDriver {
     }
 
     /// The store of a word of the chain's table, or, after them, of the descriptor that names it.
-    #[inline(never)]
+    #[inline(always)]
     pub(super) fn tabulate<P: Port>(&mut self, port: &mut P, at: u32) -> DriverTold
         requires now { self.old.doing ≡ DriverStep.Table at }
         requires own { (v : DriverView) × DriverStands self.old v × IsOwn P.port driver_side port.old v }
@@ -93,7 +93,7 @@ impl SplitDriver {
     }
 
     /// The store of the index, by which the chain is offered. The device's look at it is the first access of its take.
-    #[inline(never)]
+    #[inline(always)]
     pub(super) fn publish<P: Port>(&mut self, port: &mut P) -> DriverTold
         requires now { self.old.doing ≡ DriverStep.Publish }
         requires own { (v : DriverView) × DriverStands self.old v × IsOwn P.port driver_side port.old v }
