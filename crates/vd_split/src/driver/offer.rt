@@ -58,7 +58,7 @@ impl SplitDriver {
     }
 
     /// The store of a word of the chain's table, or, after them, of the descriptor that names it.
-    #[inline(never)]
+    #[inline(always)]
     pub(super) fn tabulate<P: Port>(&mut self, port: &mut P, at: u32) -> DriverTold
         requires now { self.old.doing ≡ DriverStep.Table at }
         requires own { (v : DriverView) × DriverStands self.old v × IsOwn P.port driver_side port.old v }
