@@ -3,4 +3,3 @@ pub mod InTable
 mod Walks
 pub mod PlainRings
 pub mod RingSteps
-pub mod Bytes

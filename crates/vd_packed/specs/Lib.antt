@@ -27,4 +27,3 @@ pub mod DeviceRest
 pub mod DeviceLaws
 pub mod Opening
 pub mod PackedLayout
-pub mod Rig

@@ -120,8 +120,9 @@ impl<L: Layout> PlainRing<L> {
 fn has_few_bytes(c: &Chain) -> bool
     ensures { IsTrue result ↔ (total c.now ≤ 4294967295) }
 {
-    let _ = c.pieces();
-    let readable = c.readable();
-    let writable = c.writable();
-    readable <= 0xffff_ffff && writable <= 0xffff_ffff - readable
+    let mut sum = 0u64;
+    for p in c.pieces() {
+        sum += p.len as u64;
+    }
+    sum <= 0xffff_ffff
 }

@@ -1,9 +1,9 @@
 //! Worked rows: the words after an offer and after its return, and the bases there.
-use super::rig::Rig;
+use super::calls::{Call, IN, OUT, Told, as_told, words_are};
 use crate::Packed;
 use std::test::*;
-use vd_layout::{BadBase, DeviceAct, DeviceEnd, DriverAct, DriverEnd, Layout};
-use vd_model::{Base, Chain, Features, Piece};
+use vd_layout::{DeviceAct, DeviceEnd, DriverAct, DriverEnd, Layout, PlainRing};
+use vd_model::{Base, Features};
 
 const PLAIN: Features = Features {
     indirect: false,
@@ -11,63 +11,66 @@ const PLAIN: Features = Features {
     in_order: false,
 };
 
-const IN: Piece = Piece {
-    addr: 4096,
-    len: 10,
-    write: false,
-};
-
-const OUT: Piece = Piece {
-    addr: 8192,
-    len: 64,
-    write: true,
-};
-
-fn words_are<L: Layout>(rig: &Rig<L>, expected: &[u64]) -> bool {
-    for (i, w) in expected.iter().enumerate() {
-        if i >= 64 {
-            return false;
-        }
-        if rig.word(i as u32) != *w {
-            return false;
-        }
-    }
-    true
-}
-
 #[test]
 fn one_piece_stands_in_the_words(rt: HostRuntime) -> Result<(), Fail> {
-    let mut rig = Rig::<Packed>::new(rt.alloc(), 0, 3, PLAIN)?;
-    assert!(rt; rig.offer(&Chain::new(IN)) == Some(DriverAct::Offered(0)));
-    assert!(rt;
-        words_are(
-            &rig,
-            &[0x1000, 0x0080_0000_0000_000a, 0, 0, 0, 0, 0, 0, 1, 0]
-        )
-    );
-    assert!(rt; matches!(rig.take(), Some(DeviceAct::Taken(0, _))));
-    assert!(rt; matches!(rig.give(0, 0), Some(DeviceAct::Given(0))));
-    assert!(rt;
-        words_are(
-            &rig,
-            &[0x1000, 0x8080_0000_0000_0000, 0, 0, 0, 0, 0, 0, 1, 1]
-        )
-    );
+    let mut ring = PlainRing::<Packed>::make(rt.alloc(), 0, 3, PLAIN)?;
+    let rows = [(Call::Offer, Told::Driver(DriverAct::Offered(0)))];
+    assert_eq!(rt; as_told(&mut ring, &rows), 1);
+    let words = [0x1000, 0x0080_0000_0000_000a, 0, 0, 0, 0, 0, 0, 1, 0];
+    assert!(rt; words_are(&ring, &words));
+    let rows = [
+        (Call::Take, Told::Taken(0)),
+        (Call::Give(0, 0), Told::Given(0)),
+    ];
+    assert_eq!(rt; as_told(&mut ring, &rows), 2);
+    let words = [0x1000, 0x8080_0000_0000_0000, 0, 0, 0, 0, 0, 0, 1, 1];
+    assert!(rt; words_are(&ring, &words));
     Ok(())
 }
 
+/// On a fresh ring of three places one chain of two pieces is offered.
+fn offers_two_pieces(ring: &mut PlainRing<Packed>) -> bool {
+    let rows = [
+        (Call::Rest, Told::Rested),
+        (Call::Base, Told::Word(0x8000_8000)),
+        (Call::Resume(0x8000_8000), Told::Yes),
+        (Call::Take, Told::Nothing),
+        (Call::Collect, Told::Driver(DriverAct::Nothing)),
+        (Call::OfferTwo, Told::Driver(DriverAct::Offered(0))),
+    ];
+    as_told(ring, &rows) == 6
+}
+
+/// The chain comes back, and a second one is offered.
+fn offers_a_second(ring: &mut PlainRing<Packed>) -> bool {
+    let back = DriverAct::Collected {
+        number: 0,
+        len: 10,
+        head: 0,
+    };
+    let rows = [
+        // it waits for room
+        (Call::OfferTwo, Told::Not),
+        (Call::Take, Told::Taken(0)),
+        (Call::Holds(0), Told::Yes),
+        (Call::Holds(1), Told::No),
+        (Call::Give(0, 10), Told::Given(0)),
+        (Call::Holds(0), Told::No),
+        (Call::Word(1), Told::Word(0x8082_0000_0000_000a)),
+        (Call::Word(3), Told::Word(0x0082_0000_0000_0040)),
+        (Call::Collect, Told::Driver(back)),
+        (Call::Collect, Told::Driver(DriverAct::Nothing)),
+        (Call::OfferTwo, Told::Driver(DriverAct::Offered(1))),
+    ];
+    as_told(ring, &rows) == 11
+}
+
 #[test]
-fn a_second_chain_goes_round_the_end(rt: HostRuntime) -> Result<(), Fail> {
-    let mut rig = Rig::<Packed>::new(rt.alloc(), 0, 3, PLAIN)?;
-    let mut chain = Chain::new(IN);
-    assert!(rt; chain.push(OUT).is_ok());
-    assert!(rt; matches!(rig.rest(), Some(DeviceAct::Rested)));
-    assert!(rt; rig.base() == Some(Base(0x8000_8000)));
-    assert!(rt; matches!(rig.resume(Base(0x8000_8000)), Some(Ok(()))));
-    assert!(rt; matches!(rig.take(), Some(DeviceAct::Nothing)));
-    assert!(rt; rig.collect() == Some(DriverAct::Nothing));
-    assert!(rt; rig.offer(&chain) == Some(DriverAct::Offered(0)));
-    let first = [
+fn two_pieces_stand_in_the_words(rt: HostRuntime) -> Result<(), Fail> {
+    let mut ring = PlainRing::<Packed>::make(rt.alloc(), 0, 3, PLAIN)?;
+    assert!(rt; offers_two_pieces(&mut ring));
+    // the device, which has rested, wants no bell
+    let words = [
         0x1000,
         0x0081_0000_0000_000a,
         0x2000,
@@ -79,32 +82,19 @@ fn a_second_chain_goes_round_the_end(rt: HostRuntime) -> Result<(), Fail> {
         0,
         0,
     ];
-    // the device, which has rested, wants no bell
-    assert!(rt; words_are(&rig, first.as_slice()));
-    // the second waits for room
-    assert!(rt; !rig.room(&chain));
-    assert!(rt; rig.offer(&chain).is_none());
-    match rig.take() {
-        Some(DeviceAct::Taken(0, taken)) => {
-            assert!(rt; taken.pieces() == [IN, OUT].as_slice());
-        }
+    assert!(rt; words_are(&ring, &words));
+    match ring.take() {
+        Some(DeviceAct::Taken(0, taken)) => assert!(rt; taken.pieces() == [IN, OUT].as_slice()),
         _ => assert!(rt; false),
     }
-    assert!(rt; rig.holds(0));
-    assert!(rt; !rig.holds(1));
-    assert!(rt; matches!(rig.give(0, 10), Some(DeviceAct::Given(0))));
-    assert!(rt; !rig.holds(0));
-    assert_eq!(rt; rig.word(1), 0x8082_0000_0000_000a);
-    assert_eq!(rt; rig.word(3), 0x0082_0000_0000_0040);
-    let back = DriverAct::Collected {
-        number: 0,
-        len: 10,
-        head: 0,
-    };
-    assert!(rt; rig.collect() == Some(back));
-    assert!(rt; rig.collect() == Some(DriverAct::Nothing));
-    assert!(rt; rig.offer(&chain) == Some(DriverAct::Offered(1)));
-    let second = [
+    Ok(())
+}
+
+#[test]
+fn a_second_chain_goes_round_the_end(rt: HostRuntime) -> Result<(), Fail> {
+    let mut ring = PlainRing::<Packed>::make(rt.alloc(), 0, 3, PLAIN)?;
+    assert!(rt; offers_two_pieces(&mut ring) && offers_a_second(&mut ring));
+    let words = [
         0x2000,
         0x8002_0001_0000_0040,
         0x2000,
@@ -116,58 +106,54 @@ fn a_second_chain_goes_round_the_end(rt: HostRuntime) -> Result<(), Fail> {
         0,
         1,
     ];
-    assert!(rt; words_are(&rig, second.as_slice()));
-    assert!(rt; matches!(rig.take(), Some(DeviceAct::Taken(1, _))));
-    assert!(rt; matches!(rig.take(), Some(DeviceAct::Nothing)));
-    assert!(rt; matches!(rig.give(1, 10), Some(DeviceAct::Given(1))));
-    assert_eq!(rt; rig.word(5), 0x8082_0001_0000_000a);
-    assert!(rt; rig.whole());
-    assert!(rt; matches!(rig.rest(), Some(DeviceAct::Rested)));
-    assert!(rt; rig.base() == Some(Base(0x0001_0001)));
-    assert!(rt;
-        matches!(
-            rig.resume(Base(0x8000_8000)),
-            Some(Err(BadBase {
-                kept: Base(0x0001_0001),
-                given: Base(0x8000_8000)
-            }))
-        )
-    );
-    assert!(rt; matches!(rig.resume(Base(0x0001_0001)), Some(Ok(()))));
-    assert!(rt; rig.counts() == (2, 1, 2, 2, 0));
-    assert!(rt; rig.idle() == (true, true));
-    assert!(rt; rig.size() == (3, 3));
-    assert!(rt; rig.features() == (PLAIN, PLAIN));
+    assert!(rt; words_are(&ring, &words));
+    let rows = [
+        (Call::Take, Told::Taken(1)),
+        (Call::Take, Told::Nothing),
+        (Call::Give(1, 10), Told::Given(1)),
+        (Call::Word(5), Told::Word(0x8082_0001_0000_000a)),
+        (Call::Whole, Told::Yes),
+        (Call::Rest, Told::Rested),
+        (Call::Base, Told::Word(0x0001_0001)),
+        (Call::Resume(0x8000_8000), Told::Word(0x0001_0001)),
+        (Call::Resume(0x0001_0001), Told::Yes),
+    ];
+    assert_eq!(rt; as_told(&mut ring, &rows), 9);
+    assert!(rt; ring.counts() == (2, 1, 2, 2));
+    assert!(rt; ring.size() == 3 && ring.features() == PLAIN);
     Ok(())
 }
 
 #[test]
 fn a_rest_takes_chains_back(rt: HostRuntime) -> Result<(), Fail> {
-    let mut rig = Rig::<Packed>::new(rt.alloc(), 0, 5, PLAIN)?;
-    for k in 0..3u32 {
-        assert!(rt; rig.offer(&Chain::new(IN)) == Some(DriverAct::Offered(k)));
-    }
-    for _ in 0..3u32 {
-        assert!(rt; matches!(rig.take(), Some(DeviceAct::Taken(_, _))));
-    }
-    assert!(rt; matches!(rig.give(1, 0), Some(DeviceAct::Given(1))));
-    assert!(rt; !rig.whole());
-    assert!(rt; rig.rest().is_none());
-    assert!(rt; matches!(rig.give(0, 0), Some(DeviceAct::Given(0))));
-    assert!(rt; matches!(rig.rest(), Some(DeviceAct::Rested)));
-    assert!(rt; rig.counts() == (3, 0, 2, 2, 0));
-    assert!(rt; !rig.holds(2));
-    assert!(rt; rig.take().is_none());
-    assert!(rt; rig.base() == Some(Base(0x8002_8002)));
-    assert!(rt; matches!(rig.resume(Base(0x8002_8002)), Some(Ok(()))));
-    assert!(rt; matches!(rig.take(), Some(DeviceAct::Taken(2, _))));
+    let mut ring = PlainRing::<Packed>::make(rt.alloc(), 0, 5, PLAIN)?;
     // the first used descriptor has the id of the chain given first
     let back = DriverAct::Collected {
         number: 1,
         len: 0,
         head: 1,
     };
-    assert!(rt; rig.collect() == Some(back));
+    let rows = [
+        (Call::Offer, Told::Driver(DriverAct::Offered(0))),
+        (Call::Offer, Told::Driver(DriverAct::Offered(1))),
+        (Call::Offer, Told::Driver(DriverAct::Offered(2))),
+        (Call::Take, Told::Taken(0)),
+        (Call::Take, Told::Taken(1)),
+        (Call::Take, Told::Taken(2)),
+        (Call::Give(1, 0), Told::Given(1)),
+        (Call::Whole, Told::No),
+        (Call::Rest, Told::Not),
+        (Call::Give(0, 0), Told::Given(0)),
+        (Call::Rest, Told::Rested),
+        (Call::Holds(2), Told::No),
+        (Call::Take, Told::Not),
+        (Call::Base, Told::Word(0x8002_8002)),
+        (Call::Resume(0x8002_8002), Told::Yes),
+        (Call::Take, Told::Taken(2)),
+        (Call::Collect, Told::Driver(back)),
+    ];
+    assert_eq!(rt; as_told(&mut ring, &rows), 17);
+    assert!(rt; ring.counts() == (3, 1, 3, 2));
     Ok(())
 }
 

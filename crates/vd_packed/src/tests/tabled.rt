@@ -1,9 +1,9 @@
 //! Worked words of tables, and a reader of tables over them.
-use super::rig::Rig;
+use super::calls::{Call, Told, as_told, words_are};
 use crate::Packed;
 use std::test::*;
 use vd_indirect::{TableFault, TableKind, read_table};
-use vd_layout::{DeviceAct, DriverAct};
+use vd_layout::{DeviceAct, DriverAct, PlainRing};
 use vd_model::{Chain, Features, Piece};
 
 const INDIRECT: Features = Features {
@@ -35,10 +35,10 @@ fn longest_chain() -> Chain {
 }
 
 /// The chain that a reader of tables finds in so many places of the table that begins at this word.
-fn read(rig: &Rig<Packed>, start: u32, places: u32) -> Result<Chain, TableFault> {
+fn read(ring: &PlainRing<Packed>, start: u32, places: u32) -> Result<Chain, TableFault> {
     let mut words = [0u64; 32];
     for i in 0..32u32 {
-        words[i as usize] = rig.word(start.wrapping_add(i));
+        words[i as usize] = ring.word(start.wrapping_add(i));
     }
     let places = if places < 16 { places } else { 16 };
     read_table(
@@ -48,57 +48,90 @@ fn read(rig: &Rig<Packed>, start: u32, places: u32) -> Result<Chain, TableFault>
     )
 }
 
+fn short_chain() -> Chain {
+    let mut c = Chain::new(BYTE);
+    let _ = c.push(OUT);
+    c
+}
+
+/// On a fresh ring of two places the longest chain and one of one piece are offered.
+fn offers_both(ring: &mut PlainRing<Packed>) -> bool {
+    ring.offer(&longest_chain()) == Some(DriverAct::Offered(0))
+        && ring.offer(&Chain::new(OUT)) == Some(DriverAct::Offered(1))
+}
+
+/// Whether so many pieces of a byte stand from this word on.
+fn bytes_stand(ring: &PlainRing<Packed>, start: u32, count: u32) -> bool {
+    for i in 0..count {
+        let place = start.wrapping_add(i.wrapping_mul(2));
+        if ring.word(place) != 0x1000 || ring.word(place.wrapping_add(1)) != 1 {
+            return false;
+        }
+    }
+    true
+}
+
 /// A ring of two places takes chains of sixteen pieces by tables.
 #[test]
 fn a_table_stands_in_the_words(rt: HostRuntime) -> Result<(), Fail> {
-    let mut rig = Rig::tabled(rt.alloc(), 0, 2, INDIRECT)?;
-    let long = longest_chain();
-    assert_eq!(rt; long.pieces().len(), 16);
-    assert!(rt; rig.offer(&long) == Some(DriverAct::Offered(0)));
-    assert!(rt; rig.offer(&Chain::new(OUT)) == Some(DriverAct::Offered(1)));
-    assert!(rt; rig.offer(&Chain::new(OUT)).is_none());
+    let mut ring = PlainRing::<Packed>::make(rt.alloc(), 0, 2, INDIRECT)?;
+    assert_eq!(rt; longest_chain().pieces().len(), 16);
+    assert!(rt; offers_both(&mut ring));
+    assert!(rt; ring.offer(&Chain::new(OUT)).is_none());
     // the table of id 0 begins with word 6; the second chain has a descriptor of its own
-    let words = (rig.word(0), rig.word(1), rig.word(2), rig.word(3));
-    assert!(rt; words == (0x30, 0x0084_0000_0000_0100, 0x2000, 0x0082_0001_0000_0040));
-    for i in 0..15u32 {
-        assert_eq!(rt; rig.word(6 + 2 * i), 0x1000);
-        assert_eq!(rt; rig.word(7 + 2 * i), 1);
-    }
-    assert_eq!(rt; rig.word(36), 0x2000);
-    assert_eq!(rt; rig.word(37), 0x0002_0000_0000_0040);
+    let words = [0x30, 0x0084_0000_0000_0100, 0x2000, 0x0082_0001_0000_0040];
+    assert!(rt; words_are(&ring, &words));
+    assert!(rt; bytes_stand(&ring, 6, 15));
+    assert!(rt; (ring.word(36), ring.word(37)) == (0x2000, 0x0002_0000_0000_0040));
     for place in 38..70u32 {
-        assert_eq!(rt; rig.word(place), 0);
+        assert_eq!(rt; ring.word(place), 0);
     }
-    match read(&rig, 6, 16) {
-        Ok(c) => assert!(rt; c.pieces() == long.pieces()),
+    match read(&ring, 6, 16) {
+        Ok(c) => assert!(rt; c.pieces() == longest_chain().pieces()),
         Err(_) => assert!(rt; false),
     }
-    match rig.take() {
-        Some(DeviceAct::Taken(0, c)) => assert!(rt; c.pieces() == long.pieces()),
-        _ => assert!(rt; false),
+    Ok(())
+}
+
+/// Whether the next chain taken is this one.
+fn takes(ring: &mut PlainRing<Packed>, k: u32, chain: &Chain) -> bool {
+    match ring.take() {
+        Some(DeviceAct::Taken(number, c)) => number == k && c.pieces() == chain.pieces(),
+        _ => false,
     }
-    assert!(rt; matches!(rig.take(), Some(DeviceAct::Taken(1, _))));
-    assert!(rt; matches!(rig.give(0, 15), Some(DeviceAct::Given(0))));
-    assert_eq!(rt; rig.word(1), 0x8082_0000_0000_000f);
+}
+
+/// The next chain has the id that came back, and its table, and leaves the rest of the one before there.
+#[test]
+fn a_table_is_written_again(rt: HostRuntime) -> Result<(), Fail> {
+    let mut ring = PlainRing::<Packed>::make(rt.alloc(), 0, 2, INDIRECT)?;
+    assert!(rt; offers_both(&mut ring));
+    assert!(rt; takes(&mut ring, 0, &longest_chain()) && takes(&mut ring, 1, &Chain::new(OUT)));
     let back = DriverAct::Collected {
         number: 0,
         len: 15,
         head: 0,
     };
-    assert!(rt; rig.collect() == Some(back));
-    // the next chain has id 0 and its table, and leaves the rest of the one before there
-    let mut two = Chain::new(BYTE);
-    assert!(rt; two.push(OUT).is_ok());
-    assert!(rt; rig.offer(&two) == Some(DriverAct::Offered(2)));
-    assert!(rt; (rig.word(0), rig.word(1)) == (0x30, 0x8004_0000_0000_0020));
-    let table = (rig.word(6), rig.word(7), rig.word(8), rig.word(9));
-    assert!(rt; table == (0x1000, 1, 0x2000, 0x0002_0000_0000_0040));
-    assert!(rt; (rig.word(10), rig.word(11)) == (0x1000, 1));
+    let rows = [
+        (Call::Give(0, 15), Told::Given(0)),
+        (Call::Word(1), Told::Word(0x8082_0000_0000_000f)),
+        (Call::Collect, Told::Driver(back)),
+    ];
+    assert_eq!(rt; as_told(&mut ring, &rows), 3);
+    assert!(rt; ring.offer(&short_chain()) == Some(DriverAct::Offered(2)));
+    let rows = [
+        (Call::Word(0), Told::Word(0x30)),
+        (Call::Word(1), Told::Word(0x8004_0000_0000_0020)),
+        (Call::Word(6), Told::Word(0x1000)),
+        (Call::Word(7), Told::Word(1)),
+        (Call::Word(8), Told::Word(0x2000)),
+        (Call::Word(9), Told::Word(0x0002_0000_0000_0040)),
+        (Call::Word(10), Told::Word(0x1000)),
+        (Call::Word(11), Told::Word(1)),
+    ];
+    assert_eq!(rt; as_told(&mut ring, &rows), 8);
     // past its two places a readable piece follows a writable one
-    assert!(rt; matches!(read(&rig, 6, 3), Err(TableFault::Order(2))));
-    match rig.take() {
-        Some(DeviceAct::Taken(2, c)) => assert!(rt; c.pieces() == two.pieces()),
-        _ => assert!(rt; false),
-    }
+    assert!(rt; matches!(read(&ring, 6, 3), Err(TableFault::Order(2))));
+    assert!(rt; takes(&mut ring, 2, &short_chain()));
     Ok(())
 }

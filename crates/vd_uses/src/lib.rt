@@ -1,0 +1,8 @@
+//! Uses of the ring and of streams, as a caller writes them.
+#![tactic(auto)]
+
+mod embedded;
+mod slice;
+
+pub use embedded::{echo, fresh_echo};
+pub use slice::{SliceSource, read_slice};
