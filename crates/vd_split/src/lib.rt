@@ -4,6 +4,7 @@
 mod descriptors;
 mod device;
 mod driver;
+mod lanes;
 mod layout;
 mod pieces;
 mod places;

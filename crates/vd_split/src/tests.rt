@@ -1,6 +1,7 @@
 //! Both ends over plain words, against worked rows and an independent model of the format.
 mod chains;
 mod format;
+mod operations;
 mod rig;
 mod rows;
 mod sleepers;

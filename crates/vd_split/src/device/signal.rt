@@ -9,7 +9,7 @@ ghost use Rattle.vd_split.specs.Telling.{act_of};
 
 use super::{DeviceStep, SplitDevice, Told};
 use crate::driver::{own_lane, wanted};
-use vd_bits::lane16;
+use crate::lanes::lane_at;
 use vd_words::{Access, Op, Port};
 
 impl SplitDevice {
@@ -25,7 +25,7 @@ impl SplitDevice {
         let event_idx = self.features.event_idx;
         let lane = own_lane(self.size, event_idx);
         let word = port.access(Op::Give, Access::Load(2 * self.size + lane / 4));
-        let rings = wanted(event_idx, old, new, lane16(word, lane % 4));
+        let rings = wanted(event_idx, old, new, lane_at(word, lane % 4));
         self.doing = if rings {
             DeviceStep::Ring(old, new)
         } else {

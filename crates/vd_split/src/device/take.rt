@@ -11,7 +11,7 @@ ghost use Rattle.vd_split.specs.Telling.{act_of};
 
 use super::{DeviceStep, SplitDevice, Told};
 use crate::descriptors::{next_place, shows_count};
-use vd_bits::lane16;
+use crate::lanes::lane_at;
 use vd_model::Piece;
 use vd_words::{Access, Op, Port};
 
@@ -100,7 +100,7 @@ impl SplitDevice {
     {
         let lane = self.entry + 2;
         let entry = port.access(Op::Take, Access::Load(2 * self.size + lane / 4));
-        let head = lane16(entry, lane % 4) as u32;
+        let head = lane_at(entry, lane % 4) as u32;
         self.pieces.clear();
         self.doing = DeviceStep::Address(word, head, head);
         Told::Moved

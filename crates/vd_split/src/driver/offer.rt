@@ -10,6 +10,7 @@ ghost use Rattle.vd_split.specs.Telling.{driver_act_of};
 
 use super::{DriverStep, DriverTold, SplitDriver};
 use crate::descriptors::{descriptor_word, fill_slot, next_place, place_at};
+use crate::lanes::set_lane_at;
 use crate::tables::{needed, tabled_word};
 use vd_bits::set_lane16;
 use vd_words::{Access, Op, Port};
@@ -85,7 +86,7 @@ impl SplitDriver {
         let lane = self.entry + 2;
         let i = lane / 4;
         let head = place_at(&self.free, 0);
-        let word = set_lane16(self.area[i as usize], lane % 4, head as u16);
+        let word = set_lane_at(self.area[i as usize], lane % 4, head as u16);
         port.access(Op::Offer, Access::Store(2 * self.size + i, word));
         self.area[i as usize] = word;
         self.doing = DriverStep::Publish;

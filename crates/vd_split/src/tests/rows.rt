@@ -1,8 +1,17 @@
 //! Worked rows: the words after an offer and after its return, and one chain's way through a ring.
+use super::operations::Answer::{
+    Armed, Asleep, Awake, Base as Kept, Collected, Given, Kept as Keeps, Nothing, Offered, Refused,
+    Rested, Resumed, Taken,
+};
+use super::operations::Operation::{
+    ArmDevice, ArmDriver, Base as BaseOf, Collect, DisarmDevice, DisarmDriver, Give, HearDevice,
+    HearDriver, Offer, Rest, Resume, Take,
+};
+use super::operations::{answer_of, first_other, first_other_signal};
 use super::rig::Rig;
 use crate::Split;
 use std::test::*;
-use vd_layout::{BadBase, DeviceAct, DriverAct, Layout};
+use vd_layout::Layout;
 use vd_model::{Base, Chain, Features, Piece};
 
 const PLAIN: Features = Features {
@@ -35,43 +44,39 @@ pub(super) fn words_are<L: Layout>(rig: &Rig<L>, expected: &[u64]) -> bool {
     true
 }
 
-#[test]
-fn one_piece_stands_in_the_words(rt: HostRuntime) -> Result<(), Fail> {
-    let mut rig = Rig::<Split>::new(rt.alloc(), 0, 4, PLAIN)?;
-    assert!(rt; rig.offer(&Chain::new(IN)) == Some(DriverAct::Offered(0)));
-    assert!(rt;
-        words_are(
-            &rig,
-            &[
-                0x1000, 0xa, 0, 0, 0, 0, 0, 0, 0x10000, 0, 0, 0, 0, 0, 0, 1, 0
-            ]
-        )
-    );
-    assert!(rt; matches!(rig.take(), Some(DeviceAct::Taken(0, _))));
-    assert!(rt; matches!(rig.give(0, 10), Some(DeviceAct::Given(0))));
-    assert!(rt;
-        words_are(
-            &rig,
-            &[
-                0x1000, 0xa, 0, 0, 0, 0, 0, 0, 0x10000, 0, 0x10000, 0xa, 0, 0, 0, 1, 1
-            ]
-        )
-    );
-    Ok(())
+const INDEXED: Features = Features {
+    indirect: false,
+    event_idx: true,
+    in_order: false,
+};
+
+/// A readable piece, and a writable one behind it.
+fn chain(both: bool) -> Chain {
+    let mut c = Chain::new(IN);
+    if both {
+        let _ = c.push(OUT);
+    }
+    c
 }
 
+/// The words after an offer and a take, and after a give.
 #[test]
-fn a_chain_goes_through_a_ring(rt: HostRuntime) -> Result<(), Fail> {
-    let mut rig = Rig::<Split>::new(rt.alloc(), 0, 4, PLAIN)?;
-    let mut chain = Chain::new(IN);
-    assert!(rt; chain.push(OUT).is_ok());
-    assert!(rt; matches!(rig.take(), Some(DeviceAct::Nothing)));
-    assert!(rt; rig.collect() == Some(DriverAct::Nothing));
-    assert!(rt; rig.offer(&chain) == Some(DriverAct::Offered(0)));
-    assert!(rt;
-        words_are(
-            &rig,
-            &[
+fn a_chain_stands_in_the_words(rt: HostRuntime) -> Result<(), Fail> {
+    for (both, pieces, offered, given) in [
+        (
+            false,
+            1,
+            [
+                0x1000, 0xa, 0, 0, 0, 0, 0, 0, 0x10000, 0, 0, 0, 0, 0, 0, 1, 0,
+            ],
+            [
+                0x1000, 0xa, 0, 0, 0, 0, 0, 0, 0x10000, 0, 0x10000, 0xa, 0, 0, 0, 1, 1,
+            ],
+        ),
+        (
+            true,
+            2,
+            [
                 0x1000,
                 0x0001_0001_0000_000a,
                 0x2000,
@@ -86,24 +91,11 @@ fn a_chain_goes_through_a_ring(rt: HostRuntime) -> Result<(), Fail> {
                 0,
                 0,
                 0,
-                0
+                0,
+                1,
+                0,
             ],
-        )
-    );
-    match rig.take() {
-        Some(DeviceAct::Taken(0, taken)) => {
-            assert!(rt; taken.pieces() == [IN, OUT].as_slice());
-        }
-        _ => assert!(rt; false),
-    }
-    assert!(rt; rig.holds(0));
-    assert!(rt; !rig.holds(1));
-    assert!(rt; matches!(rig.give(0, 10), Some(DeviceAct::Given(0))));
-    assert!(rt; !rig.holds(0));
-    assert!(rt;
-        words_are(
-            &rig,
-            &[
+            [
                 0x1000,
                 0x0001_0001_0000_000a,
                 0x2000,
@@ -118,29 +110,43 @@ fn a_chain_goes_through_a_ring(rt: HostRuntime) -> Result<(), Fail> {
                 0xa,
                 0,
                 0,
-                0
+                0,
+                1,
+                1,
             ],
-        )
-    );
-    let back = DriverAct::Collected {
-        number: 0,
-        len: 10,
-        head: 0,
-    };
-    assert!(rt; rig.collect() == Some(back));
-    assert!(rt; rig.whole());
-    assert!(rt; matches!(rig.rest(), Some(DeviceAct::Rested)));
-    assert!(rt; rig.base() == Some(Base(1)));
-    assert!(rt;
-        matches!(
-            rig.resume(Base(0)),
-            Some(Err(BadBase {
-                kept: Base(1),
-                given: Base(0)
-            }))
-        )
-    );
-    assert!(rt; matches!(rig.resume(Base(1)), Some(Ok(()))));
+        ),
+    ] {
+        let c = chain(both);
+        assert_eq!(rt; c.pieces().len(), pieces);
+        let mut rig = Rig::<Split>::new(rt.alloc(), 0, 4, PLAIN)?;
+        let first = first_other(&mut rig, &c, &[(Offer, Offered(0)), (Take, Taken(0))]);
+        assert_eq!(rt; first, None);
+        assert!(rt; words_are(&rig, offered.as_slice()));
+        assert_eq!(rt; answer_of(&mut rig, &c, Give(0)), Given(0));
+        assert!(rt; words_are(&rig, given.as_slice()));
+    }
+    Ok(())
+}
+
+/// A chain goes through a ring that rests then. A give is refused where the chain doesn't run.
+#[test]
+fn a_chain_goes_through_a_ring(rt: HostRuntime) -> Result<(), Fail> {
+    let mut rig = Rig::<Split>::new(rt.alloc(), 0, 4, PLAIN)?;
+    let rows = [
+        (Take, Nothing),
+        (Collect, Nothing),
+        (Offer, Offered(0)),
+        (Take, Taken(0)),
+        (Give(1), Refused),
+        (Give(0), Given(0)),
+        (Give(0), Refused),
+        (Collect, Collected(0, 10, 0)),
+        (Rest, Rested),
+        (BaseOf, Kept(1)),
+        (Resume(0), Keeps(1)),
+        (Resume(1), Resumed),
+    ];
+    assert_eq!(rt; first_other(&mut rig, &chain(true), rows.as_slice()), None);
     assert!(rt; rig.counts() == (1, 1, 1, 1, 0));
     assert!(rt; rig.idle() == (true, true));
     assert!(rt; rig.size() == (4, 4));
@@ -148,114 +154,153 @@ fn a_chain_goes_through_a_ring(rt: HostRuntime) -> Result<(), Fail> {
     Ok(())
 }
 
-/// One chain is offered, taken, given and collected.
-fn passes<L: Layout>(rig: &mut Rig<L>, k: u32) -> bool {
-    rig.offer(&Chain::new(IN)) == Some(DriverAct::Offered(k))
-        && matches!(rig.take(), Some(DeviceAct::Taken(_, _)))
-        && matches!(rig.give(k, 10), Some(DeviceAct::Given(_)))
-        && matches!(rig.collect(), Some(DriverAct::Collected { .. }))
-}
-
-/// With EVENT_IDX a side is rung for the entry that its event word names. The word stays once it is awake: for entry 4 event 3 asks for
-/// nothing, nor does event 5.
-#[test]
-fn an_event_word_names_one_entry(rt: HostRuntime) -> Result<(), Fail> {
-    let indexed = Features {
-        indirect: false,
-        event_idx: true,
-        in_order: false,
-    };
-    let mut rig = Rig::<Split>::new(rt.alloc(), 0, 4, indexed)?;
-    for k in 0..3u32 {
-        assert!(rt; passes(&mut rig, k));
-    }
-    // entry 0 alone was rung for: event words are 0 at first
-    assert!(rt; (rig.word(15), rig.word(16)) == (1, 1));
-    assert!(rt; matches!(rig.arm_device(), Some(DeviceAct::Armed)));
-    assert_eq!(rt; rig.word(14), 0x3_0000_0000);
-    assert!(rt; rig.arm_driver() == Some(DriverAct::Armed));
-    assert_eq!(rt; rig.word(9) >> 32, 3);
-    // the bells of entry 0 were not heard yet
-    assert!(rt; matches!(rig.hear_device(), Some(DeviceAct::Awake)));
-    assert!(rt; rig.hear_driver() == Some(DriverAct::Awake));
-    assert!(rt; matches!(rig.arm_device(), Some(DeviceAct::Armed)));
-    assert!(rt; matches!(rig.hear_device(), Some(DeviceAct::Asleep)));
-    assert!(rt; rig.take().is_none());
-    assert!(rt; rig.offer(&Chain::new(IN)) == Some(DriverAct::Offered(3)));
-    assert_eq!(rt; rig.word(15), 2);
-    assert!(rt; matches!(rig.hear_device(), Some(DeviceAct::Awake)));
-    assert!(rt; rig.offer(&Chain::new(IN)) == Some(DriverAct::Offered(4)));
-    assert_eq!(rt; rig.word(15), 2);
-    assert!(rt; matches!(rig.arm_device(), Some(DeviceAct::Awake)));
-    for k in 3..5u32 {
-        assert!(rt; matches!(rig.take(), Some(DeviceAct::Taken(_, _))));
-        assert!(rt; matches!(rig.give(k, 10), Some(DeviceAct::Given(_))));
-    }
-    // entry 3 is rung for, entry 4 isn't
-    assert_eq!(rt; rig.word(16), 2);
-    Ok(())
-}
-
-/// Without EVENT_IDX a side is rung for each entry until it sets its flag, which it does when it wakes, and when it rests.
-#[test]
-fn a_flag_asks_for_no_signal(rt: HostRuntime) -> Result<(), Fail> {
-    let mut rig = Rig::<Split>::new(rt.alloc(), 0, 4, PLAIN)?;
-    assert!(rt; passes(&mut rig, 0));
-    assert!(rt; passes(&mut rig, 1));
-    assert!(rt; (rig.word(15), rig.word(16)) == (2, 2));
-    for (flags, answer) in [(0, DriverAct::Armed), (1, DriverAct::Awake)] {
-        let done = if flags == 0 {
-            rig.arm_driver()
-        } else {
-            rig.disarm_driver()
-        };
-        assert!(rt; done == Some(answer));
-        assert_eq!(rt; rig.word(8) & 0xffff, flags);
-    }
-    assert!(rt; passes(&mut rig, 2));
-    assert!(rt; (rig.word(15), rig.word(16)) == (3, 2));
-    assert!(rt; matches!(rig.arm_device(), Some(DeviceAct::Armed)));
-    assert_eq!(rt; rig.word(10) & 0xffff, 0);
-    assert!(rt; matches!(rig.rest(), Some(DeviceAct::Rested)));
-    assert!(rt; rig.armed() == (false, false));
-    assert_eq!(rt; rig.word(10) & 0xffff, 1);
-    assert!(rt; rig.offer(&Chain::new(IN)) == Some(DriverAct::Offered(3)));
-    assert_eq!(rt; rig.word(15), 3);
-    Ok(())
-}
-
+/// A ring rests where the chains given are all those below their count, and those taken and not given are offered still.
 #[test]
 fn a_rest_takes_chains_back(rt: HostRuntime) -> Result<(), Fail> {
     let mut rig = Rig::<Split>::new(rt.alloc(), 0, 4, PLAIN)?;
-    assert!(rt; matches!(rig.rest(), Some(DeviceAct::Rested)));
-    assert!(rt; rig.base() == Some(Base(0)));
-    assert!(rt; matches!(rig.resume(Base(0)), Some(Ok(()))));
-    for k in 0..3u32 {
-        assert!(rt; rig.offer(&Chain::new(IN)) == Some(DriverAct::Offered(k)));
+    let rows = [
+        (Rest, Rested),
+        (BaseOf, Kept(0)),
+        (Resume(0), Resumed),
+        (Offer, Offered(0)),
+        (Offer, Offered(1)),
+        (Offer, Offered(2)),
+        (Take, Taken(0)),
+        (Take, Taken(1)),
+        (Take, Taken(2)),
+        (Give(1), Given(1)),
+        (Rest, Refused),
+        (Give(0), Given(0)),
+        (Rest, Rested),
+        (Take, Refused),
+        (BaseOf, Kept(2)),
+        (Resume(3), Keeps(2)),
+        (Resume(2), Resumed),
+        (Give(2), Refused),
+        (Take, Taken(2)),
+    ];
+    assert_eq!(rt; first_other(&mut rig, &chain(false), rows.as_slice()), None);
+    assert!(rt; rig.counts() == (3, 0, 3, 2, 1));
+    Ok(())
+}
+
+/// Without EVENT_IDX a side is rung for each entry until it sets its flag, which it does when it wakes, and when it rests. A row ends with
+/// both flags and both bells.
+#[test]
+fn a_flag_asks_for_no_signal(rt: HostRuntime) -> Result<(), Fail> {
+    let mut rig = Rig::<Split>::new(rt.alloc(), 0, 4, PLAIN)?;
+    let rows = [
+        (Offer, Offered(0), (0, 0, 1, 0)),
+        (Take, Taken(0), (0, 0, 1, 0)),
+        (Give(0), Given(0), (0, 0, 1, 1)),
+        (Collect, Collected(0, 10, 0), (0, 0, 1, 1)),
+        (Offer, Offered(1), (0, 0, 2, 1)),
+        (Take, Taken(1), (0, 0, 2, 1)),
+        (Give(1), Given(1), (0, 0, 2, 2)),
+        (Collect, Collected(1, 10, 1), (0, 0, 2, 2)),
+        (ArmDriver, Armed, (0, 0, 2, 2)),
+        (DisarmDriver, Awake, (1, 0, 2, 2)),
+        (Offer, Offered(2), (1, 0, 3, 2)),
+        (Take, Taken(2), (1, 0, 3, 2)),
+        (Give(2), Given(2), (1, 0, 3, 2)),
+        (Collect, Collected(2, 10, 2), (1, 0, 3, 2)),
+        (ArmDevice, Armed, (1, 0, 3, 2)),
+        (Rest, Rested, (1, 1, 3, 2)),
+        (Offer, Offered(3), (1, 1, 3, 2)),
+    ];
+    let first = first_other_signal(&mut rig, &chain(false), false, rows.as_slice());
+    assert_eq!(rt; first, None);
+    assert!(rt; rig.armed() == (false, false));
+    Ok(())
+}
+
+/// With EVENT_IDX a side is rung for the entry that its event word names, 0 at first, and the word stays when the side wakes. A row ends
+/// with both event words and both bells.
+#[test]
+fn an_event_word_names_one_entry(rt: HostRuntime) -> Result<(), Fail> {
+    let mut rig = Rig::<Split>::new(rt.alloc(), 0, 4, INDEXED)?;
+    let rows = [
+        (Offer, Offered(0), (0, 0, 1, 0)),
+        (Take, Taken(0), (0, 0, 1, 0)),
+        (Give(0), Given(0), (0, 0, 1, 1)),
+        (Collect, Collected(0, 10, 0), (0, 0, 1, 1)),
+        (Offer, Offered(1), (0, 0, 1, 1)),
+        (Take, Taken(1), (0, 0, 1, 1)),
+        (Give(1), Given(1), (0, 0, 1, 1)),
+        (Collect, Collected(1, 10, 1), (0, 0, 1, 1)),
+        (ArmDevice, Armed, (0, 2, 1, 1)),
+        (ArmDriver, Armed, (2, 2, 1, 1)),
+        // the bells of entry 0 were not heard yet
+        (HearDevice, Awake, (2, 2, 1, 1)),
+        (HearDriver, Awake, (2, 2, 1, 1)),
+        (ArmDevice, Armed, (2, 2, 1, 1)),
+        (HearDevice, Asleep, (2, 2, 1, 1)),
+        (Take, Refused, (2, 2, 1, 1)),
+        (Offer, Offered(2), (2, 2, 2, 1)),
+        (HearDevice, Awake, (2, 2, 2, 1)),
+        (Offer, Offered(3), (2, 2, 2, 1)),
+        // an arming that finds a chain leaves its word
+        (ArmDevice, Awake, (2, 2, 2, 1)),
+        (Take, Taken(2), (2, 2, 2, 1)),
+        (Give(2), Given(2), (2, 2, 2, 2)),
+        (Take, Taken(3), (2, 2, 2, 2)),
+        (Give(3), Given(3), (2, 2, 2, 2)),
+    ];
+    let first = first_other_signal(&mut rig, &chain(false), true, rows.as_slice());
+    assert_eq!(rt; first, None);
+    Ok(())
+}
+
+/// One chain is offered, taken, given and collected. Whether its offer and its give rang.
+fn rings<L: Layout>(rig: &mut Rig<L>, c: &Chain) -> Option<(bool, bool)> {
+    let before = (rig.word(15), rig.word(16));
+    let _ = answer_of(rig, c, Offer);
+    let _ = answer_of(rig, c, Take);
+    let number = rig.counts().3;
+    let Given(_) = answer_of(rig, c, Give(number)) else {
+        return None;
+    };
+    let Collected(_, _, _) = answer_of(rig, c, Collect) else {
+        return None;
+    };
+    Some((rig.word(15) != before.0, rig.word(16) != before.1))
+}
+
+/// Both sides arm where entry `event` is next, and are disarmed, which leaves their event words. The first entry, of so many, for which one of them is rung though its
+/// event word doesn't name it, or isn't though the word does. Indices go round at 65,536.
+fn first_other_bell<L: Layout>(
+    rig: &mut Rig<L>,
+    c: &Chain,
+    event: u32,
+    entries: u32,
+) -> Option<u32> {
+    let mut named = 0;
+    for k in 0..entries {
+        if k == event {
+            named = event;
+            let _ = answer_of(rig, c, ArmDevice);
+            let _ = answer_of(rig, c, DisarmDevice);
+            let _ = answer_of(rig, c, ArmDriver);
+            let _ = answer_of(rig, c, DisarmDriver);
+        }
+        let is_named = k & 0xffff == named;
+        if rings(rig, c) != Some((is_named, is_named)) {
+            return Some(k);
+        }
     }
-    for _ in 0..3u32 {
-        assert!(rt; matches!(rig.take(), Some(DeviceAct::Taken(_, _))));
+    None
+}
+
+/// A side that publishes one entry is rung for where the other's event word names this entry: with event 4 for entry 4, but not with
+/// event 3, which is just before it, nor with event 5, the next one; with event 65,535 for entry 65,535, after which the index is 0.
+/// Ranges of more entries are never published here; the tests of the event rules have them.
+#[test]
+fn an_event_word_asks_at_its_entry_alone(rt: HostRuntime) -> Result<(), Fail> {
+    for event in [0, 3, 4, 5, 65535] {
+        let mut rig = Rig::<Split>::new(rt.alloc(), 0, 4, INDEXED)?;
+        let first = first_other_bell(&mut rig, &chain(false), event, 65_546);
+        assert_eq!(rt; first, None, "{event}");
     }
-    assert!(rt; matches!(rig.give(1, 0), Some(DeviceAct::Given(1))));
-    assert!(rt; !rig.whole());
-    assert!(rt; rig.rest().is_none());
-    assert!(rt; matches!(rig.give(0, 0), Some(DeviceAct::Given(0))));
-    assert!(rt; matches!(rig.rest(), Some(DeviceAct::Rested)));
-    assert!(rt; rig.counts() == (3, 0, 2, 2, 0));
-    assert!(rt; !rig.holds(2));
-    assert!(rt; rig.take().is_none());
-    assert!(rt; rig.base() == Some(Base(2)));
-    assert!(rt;
-        matches!(
-            rig.resume(Base(3)),
-            Some(Err(BadBase {
-                kept: Base(2),
-                given: Base(3)
-            }))
-        )
-    );
-    assert!(rt; matches!(rig.resume(Base(2)), Some(Ok(()))));
-    assert!(rt; matches!(rig.take(), Some(DeviceAct::Taken(2, _))));
     Ok(())
 }
 

@@ -26,18 +26,18 @@ overflow_cast-head g c = omega (
 
 pub access-requires : goal.access-requires
 access-requires g c =
-    let e : SplitDriver = c.args.self.now in let x : ℕ = c.set_lane16-word.result in
+    let e : SplitDriver = c.args.self.now in let x : ℕ = c.set_lane_at-word.result in
     c.requires.own.2.may op.Offer (Store (2 * e.size + (e.entry + 2) / 4) x)
     (enter_goes e c.requires.own.0 0 x c.requires.now c.requires.own.1
-    (word_of e x c.index.result.now c.place_at-head.result c.set_lane16-word.ensures
+    (word_of e x c.index.result.now c.place_at-head.result c.set_lane_at-word.ensures
     (get_or_read e.area.items ((e.entry + 2) / 4) c.index.result.now (entry_below e c.requires.own.0 c.requires.own.1).0
     c.index.ensures 0) c.place_at-head.ensures)).next
 
 pub returns : goal.returns
 returns g c = λ v st own.
-    let e : SplitDriver = c.args.self.now in let x : ℕ = c.set_lane16-word.result in
+    let e : SplitDriver = c.args.self.now in let x : ℕ = c.set_lane_at-word.result in
     let go = enter_goes e v c.access.result x c.requires.now st
-    (word_of e x c.index.result.now c.place_at-head.result c.set_lane16-word.ensures
+    (word_of e x c.index.result.now c.place_at-head.result c.set_lane_at-word.ensures
     (get_or_read e.area.items ((e.entry + 2) / 4) c.index.result.now (entry_below e v st).0 c.index.ensures 0)
     c.place_at-head.ensures) in
     made g.P.Port.port c.args.port.now c.access.new.self e
