@@ -1,6 +1,7 @@
 #!/usr/bin/env python3
 """Times `vdpa play` on machine files with many chains beside a plain Rust program that does the same: baseline.rs, way `file`, reads the
-file, steps ends with this project's interface, keeps journal and lists of the same size and writes the same report.
+file, steps ends with this project's interface, keeps journal and lists of the same size and writes the same report. The last rows stand beside
+its way `stepped`, which has no file and no report: guest and device in turn make one access each, as the program's parties do.
 
 Processor time of whole runs, file and report included; medians of runs that alternate with the peer's. With valgrind on the machine,
 instructions a chain too. It tests nothing, but that both outputs are equal.
@@ -30,6 +31,26 @@ def by_text(layout, chains):
     return f'layout = "{layout}"\nsize = 256\nregions = [{{ addr = 0, size = 4096 }}]\nqueues = [[{texts}]]\n'
 
 
+def by_one(layout, chains):
+    """One text for so many chains of one piece."""
+    return f'layout = "{layout}"\nsize = 256\nwindow = 16\nregions = [{{ addr = 0, size = 4096 }}]\nqueues = [["{chains}*r0+10"]]\n'
+
+
+def beside_steps(program, plain, layout, chains, path, rounds):
+    """Single accesses of both programs: the processor time, and the instructions, of a chain."""
+    with open(path, "w") as file:
+        file.write(by_one(layout, chains))
+    words = [plain, "stepped", "plain", layout, f"chains={chains}", "window=16", "journal=1", "runs=1"]
+    mine, theirs = [], []
+    for _ in range(rounds):
+        mine.append(cpu([program, "play"], path) / chains)
+        theirs.append(cpu(words) / chains)
+    here, there, ratio = medians(mine, theirs)
+    count, other = instructions([program, "play"], path), instructions(words)
+    told = "" if count is None or other is None else f", instructions a chain {count / chains:.0f} and {other / chains:.0f}"
+    print(f"{layout}, {chains} chains of one piece, beside `stepped`: {here:.0f} ns a chain, peer {there:.0f} ns, ratio {ratio:.2f}{told}", flush=True)
+
+
 def main():
     rounds = int(sys.argv[1]) if len(sys.argv) > 1 else 5
     program, plain = os.path.join(CRATES, "vd_main", "out", "vd_main"), baseline()
@@ -56,6 +77,8 @@ def main():
             count, other = instructions([program, "play"], path), instructions([plain, "file"], path)
             told = "" if count is None or other is None else f", instructions a chain {count / chains:.0f} and {other / chains:.0f}"
             print(f"{name}: {here:.0f} ns a chain, peer {there:.0f} ns, ratio {ratio:.2f}{told}{same}", flush=True)
+        for layout in ("split", "packed"):
+            beside_steps(program, plain, layout, 200000, path, rounds)
 
 
 main()

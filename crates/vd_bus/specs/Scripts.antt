@@ -17,7 +17,11 @@ chains s = run_chains s.runs
 abbrev pub run_count : List Run → ℕ
 run_count rs = sum_by (λ r. r.count) rs
 
--- at most 4,000,000,000 chains and commands
+-- how many chains or commands a script may have
+abbrev pub most_scripted : ℕ
+most_scripted = 4000000000
+
+-- no more chains and commands than that
 pub record IsScript (s : Script) : Type 0 where
-  pub chains : run_count s.runs ≤ 4000000000
-  pub commands : length s.commands ≤ 4000000000
+  pub chains : run_count s.runs ≤ most_scripted
+  pub commands : length s.commands ≤ most_scripted

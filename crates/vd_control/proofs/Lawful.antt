@@ -5,6 +5,7 @@ use Rattle.std.proofs.lemmas.List.{length-replicate, get_or-replicate, get_or-dr
 use Rattle.std.proofs.lemmas.List.Elements.{All-head, All-tail}
 use Rattle.std.proofs.lemmas.Bool.{and_parts, eqb-true, leb-true, ltb-true, cases_lt}
 use Rattle.vd_control.specs.declared.command.Command.{Command}
+use Rattle.vd_control.specs.declared.command.TheConstants.{MOST_PAIRS}
 use Rattle.vd_control.specs.declared.command.Command.TheVariants.{Rx, Mac, VlanAdd, VlanDel, Pairs, Offloads}
 use Rattle.vd_control.specs.declared.settings.Settings.{Settings}
 use Rattle.vd_control.specs.Commands.{IsCommand, command, is_row, le16, le64}
@@ -103,7 +104,7 @@ command_lawful bytes small =
     let code = slice_index bytes 1 in
     let short = le16 bytes in
     let last : Option Command = if is_row bytes 5 0 8 then Some (Offloads (le64 bytes)) else None in
-    let fifth : Option Command = if is_row bytes 4 0 2 && nat_le 1 short && nat_le short 32768 then Some (Pairs short) else last in
+    let fifth : Option Command = if is_row bytes 4 0 2 && nat_le 1 short && nat_le short MOST_PAIRS then Some (Pairs short) else last in
     let fourth : Option Command = if is_row bytes 2 1 2 && nat_le short 4095 then Some (VlanDel short) else fifth in
     let third : Option Command = if is_row bytes 2 0 2 && nat_le short 4095 then Some (VlanAdd short) else fourth in
     let second : Option Command = if is_row bytes 1 1 6 then Some (Mac (drop 2 bytes)) else third in
@@ -115,9 +116,9 @@ command_lawful bytes small =
     (λ e. leb-true short 4095 (and_parts (is_row bytes 2 0 2) (nat_le short 4095) e).1)
     (choice (is_row bytes 2 1 2 && nat_le short 4095) (VlanDel short) fifth
     (λ e. leb-true short 4095 (and_parts (is_row bytes 2 1 2) (nat_le short 4095) e).1)
-    (choice (is_row bytes 4 0 2 && nat_le 1 short && nat_le short 32768) (Pairs short) last
-    (λ e. (let both = and_parts (is_row bytes 4 0 2 && nat_le 1 short) (nat_le short 32768) e in
-    (leb-true 1 short (and_parts (is_row bytes 4 0 2) (nat_le 1 short) both.0).1, leb-true short 32768 both.1)))
+    (choice (is_row bytes 4 0 2 && nat_le 1 short && nat_le short MOST_PAIRS) (Pairs short) last
+    (λ e. (let both = and_parts (is_row bytes 4 0 2 && nat_le 1 short) (nat_le short MOST_PAIRS) e in
+    (leb-true 1 short (and_parts (is_row bytes 4 0 2) (nat_le 1 short) both.0).1, leb-true short MOST_PAIRS both.1)))
     (choice (is_row bytes 5 0 8) (Offloads (le64 bytes)) None (λ e. le64-small bytes small) tt)))))
 
 step_lawful : (o : Option Command) (s : Settings) (rest : List Command)

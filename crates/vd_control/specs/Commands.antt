@@ -2,6 +2,7 @@
 use Rattle.std.specs.Prelude.{◌≡◌, ℕ, ◌+◌, ◌<◌, ◌≤◌, ◌^◌, ◌==◌, nat_lt, nat_le, not, ◌&&◌, Bool, List, [], ◌∷◌, length, drop, slice_index, Option, Some, None, if◌then◌else◌}
 use Rattle.std.specs.Int.{w16, w64, to_le_bytes, from_le_bytes}
 use Rattle.vd_control.specs.declared.command.Command.{Command}
+use Rattle.vd_control.specs.declared.command.TheConstants.{MOST_PAIRS}
 use Rattle.vd_control.specs.declared.command.Command.TheVariants.{Rx, Mac, VlanAdd, VlanDel, Pairs, Offloads}
 
 -- the bytes are this class, this command and a payload of this size, with nothing after it
@@ -25,7 +26,7 @@ command bytes =
     else (if is_row bytes 1 1 6 then Some (Mac (drop 2 bytes))
     else (if is_row bytes 2 0 2 && nat_le (le16 bytes) 4095 then Some (VlanAdd (le16 bytes))
     else (if is_row bytes 2 1 2 && nat_le (le16 bytes) 4095 then Some (VlanDel (le16 bytes))
-    else (if is_row bytes 4 0 2 && nat_le 1 (le16 bytes) && nat_le (le16 bytes) 32768 then Some (Pairs (le16 bytes))
+    else (if is_row bytes 4 0 2 && nat_le 1 (le16 bytes) && nat_le (le16 bytes) MOST_PAIRS then Some (Pairs (le16 bytes))
     else (if is_row bytes 5 0 8 then Some (Offloads (le64 bytes))
     else None)))))
 
@@ -44,5 +45,5 @@ IsCommand (Rx flag on) = flag < 6
 IsCommand (Mac mac) = length mac ≡ 6
 IsCommand (VlanAdd vlan) = vlan ≤ 4095
 IsCommand (VlanDel vlan) = vlan ≤ 4095
-IsCommand (Pairs pairs) = (1 ≤ pairs) × (pairs ≤ 32768)
+IsCommand (Pairs pairs) = (1 ≤ pairs) × (pairs ≤ MOST_PAIRS)
 IsCommand (Offloads offloads) = offloads < 2 ^ 64

@@ -3,6 +3,7 @@ use Rattle.std.specs.Prelude.{◌≡◌, ℕ, zero, suc, ◌+◌, ◌*◌, ◌/�
 use Rattle.std.specs.List.{range_with_len, filter_map, list_all}
 use Rattle.std.specs.Int.{bit_at}
 use Rattle.vd_control.specs.declared.command.Command.{Command}
+use Rattle.vd_control.specs.declared.command.TheConstants.{MOST_PAIRS}
 use Rattle.vd_control.specs.declared.command.Command.TheVariants.{Rx, Mac, VlanAdd, VlanDel, Pairs, Offloads}
 use Rattle.vd_control.specs.declared.settings.Settings.{Settings}
 use Rattle.vd_control.specs.Commands.{command, spelled}
@@ -74,7 +75,7 @@ replay s =
 
 -- the number of pairs is one that a command can set
 abbrev pub HasPairs : Settings → Type 0
-HasPairs s = (1 ≤ s.pairs) × (s.pairs ≤ 32768)
+HasPairs s = (1 ≤ s.pairs) × (s.pairs ≤ MOST_PAIRS)
 
 -- what a fold gives comes back: writing its replay list and folding that gives the same settings
 abbrev pub FoldsComeBack : Type 0

@@ -4,6 +4,9 @@ ghost use Rattle.vd_control.specs.Commands.{IsCommand, command, spelled};
 
 use arrayvec::ArrayVec;
 
+/// How many pairs of queues a command may set (VIRTIO 1.2, 5.1.6.5.6).
+const MOST_PAIRS: u16 = 32_768;
+
 /// A command of the control queue (VIRTIO 1.2, 5.1.6.5).
 #[derive(Copy, Clone, Debug, PartialEq, Eq)]
 pub enum Command {
@@ -16,7 +19,7 @@ pub enum Command {
     VlanAdd(u16),
     /// VIRTIO_NET_CTRL_VLAN_DEL, at most 4,095 (VIRTIO 1.2, 5.1.6.5.3).
     VlanDel(u16),
-    /// VIRTIO_NET_CTRL_MQ_VQ_PAIRS_SET: 1 to 32,768 pairs of queues (VIRTIO 1.2, 5.1.6.5.6).
+    /// VIRTIO_NET_CTRL_MQ_VQ_PAIRS_SET: 1 to `MOST_PAIRS` pairs of queues (VIRTIO 1.2, 5.1.6.5.6).
     Pairs(u16),
     /// VIRTIO_NET_CTRL_GUEST_OFFLOADS_SET: the offloads as bits (VIRTIO 1.2, 5.1.6.5.8).
     Offloads(u64),
@@ -42,7 +45,7 @@ impl Command {
             }
             [4, 0, low, high] => {
                 let pairs = u16::from_le_bytes([low, high]);
-                (1 <= pairs && pairs <= 32768).then_some(Command::Pairs(pairs))
+                (1 <= pairs && pairs <= MOST_PAIRS).then_some(Command::Pairs(pairs))
             }
             [5, 0, a, b, c, d, e, f, g, h] => {
                 Some(Command::Offloads(u64::from_le_bytes([a, b, c, d, e, f, g, h])))

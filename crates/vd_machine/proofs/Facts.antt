@@ -8,16 +8,20 @@ use Rattle.vd_model.specs.declared.chain.Piece.{Piece}
 use Rattle.vd_model.specs.declared.features.Features.{Features}
 use Rattle.vd_model.specs.declared.record.Run.{Run}
 use Rattle.vd_model.specs.declared.record.Script.{Script}
-use Rattle.vd_text.specs.Grammar.{has_bytes, is_lawful, is_within}
+use Rattle.vd_text.specs.Grammar.{has_bytes, is_lawful, is_ordered, is_within}
 use Rattle.vd_text.proofs.Order.{all_at}
 use Rattle.vd_machine.specs.Rings.{is_power, is_lawful_size, is_window}
 use Rattle.vd_machine.specs.Regions.{is_region, all_apart, are_regions}
 use Rattle.vd_machine.specs.Queues.{most_pieces, is_script, are_scripts, holds, lies_in, run_lies_in, script_lies_in, all_lie, chains_of, is_short, few}
+use Rattle.vd_model.specs.declared.map.TheConstants.Map.{MOST}
+use Rattle.vd_text.specs.declared.chains.TheConstants.{MOST_PIECES}
+use Rattle.vd_machine.specs.declared.limits.TheConstants.{MOST_CHAINS, MOST_CHAINS_OF_ALL}
+use Rattle.vd_machine.specs.declared.rings.TheConstants.{MOST_PLACES, MOST_WINDOW}
 use Rattle.vd_machine.specs.declared.regions.Region.{Region}
 
 -- the size
 
--- a power of two from 2 to 1,024
+-- a power of two from 2 to the most places
 pub record IsPower (n : ℕ) : Type 0 where
   pub exponent : ℕ
   pub least : 1 ≤ exponent
@@ -44,29 +48,29 @@ is_power_of n h =
     either 128 n _ i7 (power n 7 (lit≤ tt) (lit≤ tt)) (λ i8.
     either 256 n _ i8 (power n 8 (lit≤ tt) (lit≤ tt)) (λ i9.
     either 512 n _ i9 (power n 9 (lit≤ tt) (lit≤ tt)) (λ i10.
-    either 1024 n _ i10 (power n 10 (lit≤ tt) (lit≤ tt)) (λ i. absurd (false≢true i)))))))))))
+    either MOST_PLACES n _ i10 (power n 10 (lit≤ tt) (lit≤ tt)) (λ i. absurd (false≢true i)))))))))))
 
-power_bounds : (n : ℕ) → is_power n ≡ true → (2 ≤ n) × (n ≤ 1024)
+power_bounds : (n : ℕ) → is_power n ≡ true → (2 ≤ n) × (n ≤ MOST_PLACES)
 power_bounds n h = grind (arith, nat_tests)
 
-pub size_bounds : (packed : Bool) (n : ℕ) → is_lawful_size packed n ≡ true → (2 ≤ n) × (n ≤ 1024)
-size_bounds true n h = let parts = and_parts (nat_le 2 n) (nat_le n 1024) h in (leb-true 2 n parts.0, leb-true n 1024 parts.1)
+pub size_bounds : (packed : Bool) (n : ℕ) → is_lawful_size packed n ≡ true → (2 ≤ n) × (n ≤ MOST_PLACES)
+size_bounds true n h = let parts = and_parts (nat_le 2 n) (nat_le n MOST_PLACES) h in (leb-true 2 n parts.0, leb-true n MOST_PLACES parts.1)
 size_bounds false n h = power_bounds n h
 
-pub window_bounds : (n : ℕ) → is_window n ≡ true → (1 ≤ n) × (n ≤ 64)
-window_bounds n h = let parts = and_parts (nat_le 1 n) (nat_le n 64) h in (leb-true 1 n parts.0, leb-true n 64 parts.1)
+pub window_bounds : (n : ℕ) → is_window n ≡ true → (1 ≤ n) × (n ≤ MOST_WINDOW)
+window_bounds n h = let parts = and_parts (nat_le 1 n) (nat_le n MOST_WINDOW) h in (leb-true 1 n parts.0, leb-true n MOST_WINDOW parts.1)
 
 -- the regions
 
-region_parts : (rs : List Region) → are_regions rs ≡ true → (nat_le (length rs) 64 ≡ true) × (list_all is_region rs ≡ true)
+region_parts : (rs : List Region) → are_regions rs ≡ true → (nat_le (length rs) MOST ≡ true) × (list_all is_region rs ≡ true)
     × (all_apart rs ≡ true)
 region_parts rs h =
-    let few_rest = and_parts (nat_le (length rs) 64) (list_all is_region rs && all_apart rs) h in
+    let few_rest = and_parts (nat_le (length rs) MOST) (list_all is_region rs && all_apart rs) h in
     let rest = and_parts (list_all is_region rs) (all_apart rs) few_rest.1 in
     (few_rest.0, rest.0, rest.1)
 
-pub few_regions : (rs : List Region) → are_regions rs ≡ true → length rs ≤ 64
-few_regions rs h = leb-true (length rs) 64 (region_parts rs h).0
+pub few_regions : (rs : List Region) → are_regions rs ≡ true → length rs ≤ MOST
+few_regions rs h = leb-true (length rs) MOST (region_parts rs h).0
 
 region_fits : (r : Region) → is_region r ≡ true → (1 ≤ r.size) × (r.addr + r.size ≤ 2 ^ 63)
 region_fits r h =
@@ -97,11 +101,12 @@ piece_end rs p h lies = end_in rs p (region_parts rs h).1 lies
 -- the queues
 
 few_parts : (qs : List Script) → few qs ≡ true → (nat_le 1 (length qs) ≡ true) × (nat_le (length qs) 1 ≡ true)
-    × (list_all is_short qs ≡ true) × (nat_le (sum_by chains_of qs) 400000 ≡ true)
+    × (list_all is_short qs ≡ true) × (nat_le (sum_by chains_of qs) MOST_CHAINS_OF_ALL ≡ true)
 few_parts qs h =
-    let both = and_parts (nat_le 1 (length qs) && nat_le (length qs) 1) (list_all is_short qs && nat_le (sum_by chains_of qs) 400000) h in
+    let both = and_parts (nat_le 1 (length qs) && nat_le (length qs) 1)
+    (list_all is_short qs && nat_le (sum_by chains_of qs) MOST_CHAINS_OF_ALL) h in
     let queues = and_parts (nat_le 1 (length qs)) (nat_le (length qs) 1) both.0 in
-    let chains = and_parts (list_all is_short qs) (nat_le (sum_by chains_of qs) 400000) both.1 in
+    let chains = and_parts (list_all is_short qs) (nat_le (sum_by chains_of qs) MOST_CHAINS_OF_ALL) both.1 in
     (queues.0, queues.1, chains.0, chains.1)
 
 pub one_queue : (qs : List Script) → few qs ≡ true → length qs ≡ 1
@@ -110,11 +115,11 @@ one_queue qs h = let parts = few_parts qs h in
     let high = leb-true (length qs) 1 parts.1 in
     omega arith
 
-pub queue_is_short : (qs : List Script) (d : Script) (k : ℕ) → few qs ≡ true → k < length qs → chains_of (get_or qs k d) ≤ 200000
-queue_is_short qs d k h below = leb-true (chains_of (get_or qs k d)) 200000 (all_at is_short qs d k (few_parts qs h).2 below)
+pub queue_is_short : (qs : List Script) (d : Script) (k : ℕ) → few qs ≡ true → k < length qs → chains_of (get_or qs k d) ≤ MOST_CHAINS
+queue_is_short qs d k h below = leb-true (chains_of (get_or qs k d)) MOST_CHAINS (all_at is_short qs d k (few_parts qs h).2 below)
 
-pub all_chains : (qs : List Script) → few qs ≡ true → sum_by chains_of qs ≤ 400000
-all_chains qs h = leb-true (sum_by chains_of qs) 400000 (few_parts qs h).3
+pub all_chains : (qs : List Script) → few qs ≡ true → sum_by chains_of qs ≤ MOST_CHAINS_OF_ALL
+all_chains qs h = leb-true (sum_by chains_of qs) MOST_CHAINS_OF_ALL (few_parts qs h).3
 
 pub queue_has_no_commands : (most : ℕ) (qs : List Script) (d : Script) (k : ℕ) → are_scripts most qs ≡ true → k < length qs
     → length (get_or qs k d).commands ≡ 0
@@ -126,7 +131,7 @@ queue_has_no_commands most qs d k h below =
 -- one chain or more, of at most so many pieces, each in one region
 pub record IsRunIn (most : ℕ) (rs : List Region) (r : Run) : Type 0 where
   pub once : 1 ≤ r.count
-  pub pieces : length r.chain ≤ 16
+  pub pieces : length r.chain ≤ MOST_PIECES
   pub within : length r.chain ≤ most
   pub bytes : total r.chain ≤ 0xffff_ffff
   pub some : list_all has_bytes r.chain ≡ true
@@ -134,13 +139,15 @@ pub record IsRunIn (most : ℕ) (rs : List Region) (r : Run) : Type 0 where
 
 run_in : (most : ℕ) (rs : List Region) (r : Run) → is_lawful most r ≡ true → run_lies_in rs r ≡ true → IsRunIn most rs r
 run_in most rs r h lies =
-    let counts = and_parts (nat_le 1 r.count) (list_all has_bytes r.chain && is_within most r.chain) h in
-    let pieces = and_parts (list_all has_bytes r.chain) (is_within most r.chain) counts.1 in
-    let bounds = and_parts (nat_le (length r.chain) 16) (nat_le (length r.chain) most && nat_le (total r.chain) 0xffff_ffff) pieces.1 in
+    let counts = and_parts (nat_le 1 r.count) (list_all has_bytes r.chain && (is_ordered r.chain && is_within most r.chain)) h in
+    let pieces = and_parts (list_all has_bytes r.chain) (is_ordered r.chain && is_within most r.chain) counts.1 in
+    let order = and_parts (is_ordered r.chain) (is_within most r.chain) pieces.1 in
+    let bounds = and_parts (nat_le (length r.chain) MOST_PIECES) (nat_le (length r.chain) most && nat_le (total r.chain) 0xffff_ffff)
+    order.1 in
     let rest = and_parts (nat_le (length r.chain) most) (nat_le (total r.chain) 0xffff_ffff) bounds.1 in
     record {
       once = leb-true 1 r.count counts.0;
-      pieces = leb-true (length r.chain) 16 bounds.0;
+      pieces = leb-true (length r.chain) MOST_PIECES bounds.0;
       within = leb-true (length r.chain) most rest.0;
       bytes = leb-true (total r.chain) 0xffff_ffff rest.1;
       some = pieces.0;
@@ -155,7 +162,7 @@ run_at most rs qs d e k j h lie below within =
     run_in most rs (get_or q.runs j e) (all_at (is_lawful most) q.runs e j runs within)
     (all_at (run_lies_in rs) q.runs e j (all_at (script_lies_in rs) qs d k lie below) within)
 
-needs_by : (b : Bool) (size : ℕ) (ps : List Piece) → 2 ≤ size → length ps ≤ cond b 16 size → cond b 1 (length ps) ≤ size
+needs_by : (b : Bool) (size : ℕ) (ps : List Piece) → 2 ≤ size → length ps ≤ cond b MOST_PIECES size → cond b 1 (length ps) ≤ size
 needs_by true size ps low h = omega arith
 needs_by false size ps low h = h
 

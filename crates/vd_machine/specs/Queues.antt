@@ -9,6 +9,8 @@ use Rattle.vd_model.specs.declared.record.Run.{Run}
 use Rattle.vd_model.specs.declared.record.Script.{Script}
 use Rattle.vd_text.specs.Grammar.{all_some, run, run_within, is_lawful}
 use Rattle.vd_machine.specs.Lookup.{items_at, list_in}
+use Rattle.vd_text.specs.declared.chains.TheConstants.{MOST_PIECES}
+use Rattle.vd_machine.specs.declared.limits.TheConstants.{MOST_CHAINS, MOST_CHAINS_OF_ALL}
 use Rattle.vd_machine.specs.declared.regions.Region.{Region}
 
 -- the value is a text that writes a chain, the readable pieces first
@@ -23,9 +25,9 @@ queue_writes_chains d = option_map_or (list_all writes_chain) (list_in d) false
 unfoldable pub all_write_chains : Members → Bool
 all_write_chains ms = list_all queue_writes_chains (items_at (codes "queues") ms)
 
--- how many pieces a chain may have beside the limit of 16: the ring's size, and with tables no fewer (VIRTIO 1.2, 2.7.5.3)
+-- how many pieces a chain may have beside the limit of every chain: the ring's size, and with tables no fewer (VIRTIO 1.2, 2.7.5.3)
 abbrev pub most_pieces : Features → ℕ → ℕ
-most_pieces f size = if f.indirect then 16 else size
+most_pieces f size = if f.indirect then MOST_PIECES else size
 
 -- what a data queue offers
 abbrev pub script : List Run → Script
@@ -75,10 +77,10 @@ all_lie rs qs = list_all (script_lies_in rs) qs
 abbrev pub chains_of : Script → ℕ
 chains_of q = sum_by (λ (r : Run). r.count) q.runs
 
--- at most 200,000 chains
+-- no more chains than a queue may have
 abbrev pub is_short : Script → Bool
-is_short q = nat_le (chains_of q) 200000
+is_short q = nat_le (chains_of q) MOST_CHAINS
 
 -- one queue at least and one at most, and no more chains in one queue and in all than may be
 abbrev pub few : List Script → Bool
-few qs = (nat_le 1 (length qs) && nat_le (length qs) 1) && (list_all is_short qs && nat_le (sum_by chains_of qs) 400000)
+few qs = (nat_le 1 (length qs) && nat_le (length qs) 1) && (list_all is_short qs && nat_le (sum_by chains_of qs) MOST_CHAINS_OF_ALL)

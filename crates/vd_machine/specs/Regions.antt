@@ -3,6 +3,7 @@ use Rattle.std.specs.Prelude.{ℕ, ◌+◌, Bool, true, ◌&&◌, ◌||◌, nat_
 use Rattle.std.specs.List.{list_all}
 use Rattle.toml.specs.Data.{Data, Members, as_table}
 use Rattle.vd_text.specs.Grammar.{all_some}
+use Rattle.vd_model.specs.declared.map.TheConstants.Map.{MOST}
 use Rattle.vd_machine.specs.Lookup.{natural_at, items_at}
 use Rattle.vd_machine.specs.declared.regions.Region.{Region}
 
@@ -19,9 +20,9 @@ abbrev pub all_apart : List Region → Bool
 all_apart [] = true
 all_apart (r ∷ rs) = list_all (are_apart r) rs && all_apart rs
 
--- at most 64 regions, each of them lawful, no two that overlap
+-- no more regions than a map has mappings, each of them lawful, no two that overlap
 abbrev pub are_regions : List Region → Bool
-are_regions rs = nat_le (length rs) 64 && (list_all is_region rs && all_apart rs)
+are_regions rs = nat_le (length rs) MOST && (list_all is_region rs && all_apart rs)
 
 -- a region of this address and size
 abbrev pub region_at : Option ℕ → Option ℕ → Option Region

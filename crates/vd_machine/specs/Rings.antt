@@ -5,6 +5,7 @@ use Rattle.std.specs.Option.{option_map_or}
 use Rattle.std.specs.Str.{bytes_eq}
 use Rattle.toml.specs.Data.{Data, Members, as_str}
 use Rattle.vd_model.specs.declared.features.Features.{Features}
+use Rattle.vd_machine.specs.declared.rings.TheConstants.{MOST_PLACES, MOST_WINDOW}
 use Rattle.vd_machine.specs.Lookup.{natural_at, natural_or, text_at, items_at}
 
 -- whether the layout of this name is packed (VIRTIO 1.2, 2.7 and 2.8)
@@ -15,13 +16,13 @@ layout text = if bytes_eq text (codes "split") then Some false else if bytes_eq 
 unfoldable pub layout_of : Members → Option Bool
 layout_of ms = option_and_then layout (text_at (codes "layout") ms)
 
--- a power of two from 2 to 1,024
+-- a power of two from 2 to the most places
 abbrev pub is_power : ℕ → Bool
-is_power n = list_any (λ p. p == n) (2 ∷ 4 ∷ 8 ∷ 16 ∷ 32 ∷ 64 ∷ 128 ∷ 256 ∷ 512 ∷ 1024 ∷ [])
+is_power n = list_any (λ p. p == n) (2 ∷ 4 ∷ 8 ∷ 16 ∷ 32 ∷ 64 ∷ 128 ∷ 256 ∷ 512 ∷ MOST_PLACES ∷ [])
 
 -- a size that a ring of the layout may have
 abbrev pub is_lawful_size : Bool → ℕ → Bool
-is_lawful_size true n = nat_le 2 n && nat_le n 1024
+is_lawful_size true n = nat_le 2 n && nat_le n MOST_PLACES
 is_lawful_size false n = is_power n
 
 -- the size, where it is lawful
@@ -68,12 +69,12 @@ features_of ms = if_features (items_at (codes "features") ms)
 
 -- how many chains a device may hold at once
 abbrev pub is_window : ℕ → Bool
-is_window n = nat_le 1 n && nat_le n 64
+is_window n = nat_le 1 n && nat_le n MOST_WINDOW
 
--- the window, where it is 1 to 64
+-- the window, where it is lawful
 abbrev pub if_window : ℕ → Option ℕ
 if_window n = if is_window n then Some n else None
 
--- the window of the file, where it is 1 to 64; a missing one is 1
+-- the window of the file, where it is lawful; a missing one is 1
 unfoldable pub window_of : Members → Option ℕ
 window_of ms = option_and_then if_window (natural_or 1 (codes "window") ms)

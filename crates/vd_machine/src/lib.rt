@@ -11,8 +11,10 @@ mod regions;
 mod rings;
 mod types;
 
+pub use limits::MOST_CHAINS;
 pub use machine::{Machine, MachineFault, ReadRefusal, Switch, To};
 pub use regions::Region;
+pub use rings::{MOST_PLACES, MOST_WINDOW};
 
 #[cfg(test)]
 mod tests;

@@ -6,12 +6,23 @@ ghost use Rattle.vd_machine.specs.Queues.{most_pieces, holds, lies_in, run_lies_
 
 use crate::Region;
 use vd_model::{Features, Piece, Run, Script};
+use vd_text::MOST_PIECES;
 
-/// How many pieces a chain may have beside the limit of 16.
+/// How many chains a queue may have.
+pub const MOST_CHAINS: u32 = 200_000;
+
+/// How many chains all queues may have.
+const MOST_CHAINS_OF_ALL: u32 = 400_000;
+
+/// How many pieces a chain may have beside `MOST_PIECES`.
 pub fn most_pieces(features: Features, size: u32) -> u32
     ensures { result ≡ most_pieces features size }
 {
-    if features.indirect { 16 } else { size }
+    if features.indirect {
+        MOST_PIECES as u32
+    } else {
+        size
+    }
 }
 
 fn holds(piece: &Piece, region: &Region) -> bool
@@ -74,7 +85,7 @@ fn chains_of(script: &Script) -> u128
 fn is_short(script: &Script) -> bool
     ensures { result ≡ is_short script.now }
 {
-    chains_of(script) <= 200_000
+    chains_of(script) <= MOST_CHAINS as u128
 }
 
 fn each_is_short(queues: &[Script]) -> bool
@@ -101,5 +112,8 @@ fn total_within(queues: &[Script], most: u128) -> bool
 pub fn few(queues: &[Script]) -> bool
     ensures { result ≡ few queues.now }
 {
-    1 <= queues.len() && queues.len() <= 1 && each_is_short(queues) && total_within(queues, 400_000)
+    1 <= queues.len()
+        && queues.len() <= 1
+        && each_is_short(queues)
+        && total_within(queues, MOST_CHAINS_OF_ALL as u128)
 }

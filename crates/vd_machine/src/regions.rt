@@ -9,6 +9,7 @@ use crate::lookup::{items_at, natural_at};
 use sqlite_items::Items;
 use std::alloc::{AllocError, Global};
 use toml::{Table, Value};
+use vd_model::Map;
 
 /// A range of the guest's addresses: `size` bytes from `addr`.
 #[derive(Copy, Clone, Debug, PartialEq, Eq)]
@@ -73,7 +74,7 @@ fn all_apart(regions: &[Region]) -> bool
 fn are_regions(regions: &[Region]) -> bool
     ensures { result ≡ are_regions regions.now }
 {
-    regions.len() <= 64 && each_is_region(regions) && all_apart(regions)
+    regions.len() <= Map::MOST && each_is_region(regions) && all_apart(regions)
 }
 
 fn all_regions(alloc: Global, values: &[Value]) -> Result<Option<Vec<Region>>, AllocError>

@@ -9,6 +9,12 @@ use crate::lookup::{items_at, natural_at, natural_or, text_at};
 use toml::{Table, Value};
 use vd_model::Features;
 
+/// How many places a ring may have.
+pub const MOST_PLACES: u64 = 1_024;
+
+/// How many chains a device may be let hold at once.
+pub const MOST_WINDOW: u64 = 64;
+
 fn layout(text: &str) -> Option<bool>
     ensures { result ≡ layout text.now }
 {
@@ -35,9 +41,12 @@ fn is_lawful_size(packed: bool, size: u64) -> bool
     ensures small { OnTrue result (size < 2 ^ 32) }
 {
     if packed {
-        2 <= size && size <= 1024
+        2 <= size && size <= MOST_PLACES
     } else {
-        matches!(size, 2 | 4 | 8 | 16 | 32 | 64 | 128 | 256 | 512 | 1024)
+        matches!(
+            size,
+            2 | 4 | 8 | 16 | 32 | 64 | 128 | 256 | 512 | MOST_PLACES
+        )
     }
 }
 
@@ -130,7 +139,7 @@ pub fn features_of(file: &Table) -> Option<Features>
     }
 }
 
-/// The window, where it is 1 to 64.
+/// The window, where it is lawful.
 #[tactic(auto, unfolding(crate::specs::Rings::window_of))]
 pub fn window_of(file: &Table) -> Option<u32>
     ensures value { result ≡ window_of (table_view file.now) }
@@ -139,7 +148,7 @@ pub fn window_of(file: &Table) -> Option<u32>
     match natural_or(1, file, "window") {
         None => None,
         Some(window) => {
-            if 1 <= window && window <= 64 {
+            if 1 <= window && window <= MOST_WINDOW {
                 Some(window as u32)
             } else {
                 None

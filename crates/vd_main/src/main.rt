@@ -12,7 +12,7 @@ use vd_machine::MachineFault;
 use vd_packed::Packed;
 use vd_runner::{Status, vdpa};
 use vd_split::Split;
-use vd_stream::{ReadSource, WriteSink};
+use vd_stream::{MOST_BYTES, ReadSource, WriteSink};
 
 /// The status with which the process ends.
 fn number(status: Status) -> u8 {
@@ -61,7 +61,9 @@ fn explain(rt: &HostRuntime, status: Status) -> io::Result<()> {
         Status::ReadFault => eprintln!(rt; "vdpa: read fault"),
         Status::WriteFault => eprintln!(rt; "vdpa: write fault"),
         Status::DeviceFault(queue) => eprintln!(rt; "vdpa: device fault on queue {queue}"),
-        Status::TooLarge(_) => eprintln!(rt; "vdpa: machine file is larger than 1048576 bytes"),
+        Status::TooLarge(_) => eprintln!(rt;
+            "vdpa: machine file is larger than {MOST_BYTES} bytes"
+        ),
         Status::TooFewParties {
             need,
             guests,

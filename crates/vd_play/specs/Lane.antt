@@ -16,6 +16,7 @@ use Rattle.vd_bus.specs.declared.event.Event.{Event}
 use Rattle.vd_bus.specs.Device.{IsBegun, chains_of, lens_of}
 use Rattle.vd_bus.specs.Orders.{IsData}
 use Rattle.vd_machine.specs.File.{Plan}
+use Rattle.vd_machine.specs.declared.limits.TheConstants.{MOST_CHAINS}
 use Rattle.vd_play.specs.Epochs.{AreChained, ArePassing, begun_before}
 use Rattle.vd_play.specs.Journal.{queue_script, queue_chains, queue_epochs, guest_frame, epoch_events, attach_event}
 use Rattle.vd_play.specs.Setting.{Setting}
@@ -24,7 +25,7 @@ use Rattle.vd_play.specs.Setting.{Setting}
 pub record IsQueue (l : LayoutModel) (plan : Plan) (q : ℕ) : Type 0 where
   pub low : q < 8
   pub plain : (queue_script plan q).commands ≡ []
-  pub few : length (queue_chains plan q) ≤ 200000
+  pub few : length (queue_chains plan q) ≤ MOST_CHAINS
   pub sized : 2 ≤ plan.size
   pub epochs : length (queue_epochs plan q) ≤ 18
   pub chained : AreChained (length (queue_chains plan q)) (queue_epochs plan q)

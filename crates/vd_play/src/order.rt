@@ -9,7 +9,7 @@ use vd_model::{Map, Mapping, Run};
 
 /// The map of the mode pass: each region at its own address, in file order.
 pub(crate) fn pass_map(regions: &[Region]) -> Map
-    requires { length regions.now ≤ 64 }
+    requires { length regions.now ≤ Map.MOST }
     ensures { result ≡ map own_address regions.now }
 {
     let mut map = Map::new();
@@ -25,7 +25,7 @@ pub(crate) fn pass_map(regions: &[Region]) -> Map
 
 /// How many chains the runs have.
 pub(crate) fn chain_count(runs: &[Run]) -> u32
-    requires { run_count runs.now ≤ 4000000000 }
+    requires { run_count runs.now ≤ u32.MAX }
     ensures { result ≡ run_count runs.now }
 {
     runs.iter().map(|run| run.count).sum()

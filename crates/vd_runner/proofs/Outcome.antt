@@ -1,10 +1,11 @@
 -- The answer that follows from the bytes of a source and from the numbers of parties, where nothing fails.
-use Rattle.std.proofs.Common.{◌≡◌, ℕ, ◌<◌, ◌≤◌, List, ◌++◌, ◌⊎◌, length, get_or, Option, Some, None, Bool, true, false, ◌&&◌, nat_le, if◌then◌else◌, inl, inr, refl, ap, sym, subst, ◌∙◌, arith, append-nil, length-append}
+use Rattle.std.proofs.Common.{◌≡◌, ℕ, ◌+◌, ◌<◌, ◌≤◌, List, ◌++◌, ◌⊎◌, length, get_or, Option, Some, None, Bool, true, false, ◌&&◌, nat_le, if◌then◌else◌, inl, inr, refl, ap, sym, subst, ◌∙◌, arith, append-nil, length-append}
 use Rattle.std.proofs.lemmas.Bool.{lt-ltb, le-ltb, le-leb, lt-leb}
 use Rattle.std.proofs.lemmas.Option.{slice_get-get_or, slice_get_cases}
 use Rattle.std.specs.Io.KnownBytes.{Consumes, IsAtEnd}
 use Rattle.std.specs.Option.{option_map_or}
 use Rattle.vd_stream.specs.Causes.{Rose}
+use Rattle.vd_stream.specs.declared.reading.TheConstants.{MOST_BYTES}
 use Rattle.vd_machine.specs.File.{Plan, first}
 use Rattle.vd_machine.specs.declared.machine.MachineFault.{MachineFault}
 use Rattle.vd_play.specs.declared.bench.Bench.{Bench}
@@ -26,9 +27,10 @@ front_is : (bytes bs : List ℕ) (rest : Option (List ℕ)) → Consumes (Some b
 front_is bytes bs None taken = absurd taken
 front_is bytes bs (Some ys) taken = omega (arith, ap length taken, length-append bs ys)
 
-small_expected : (bytes : List ℕ) (n k : ℕ) → length bytes ≤ 1048576 → expected bytes n k ≡ verdict (first bytes) (need bytes) n k
-small_expected bytes n k small = ap (λ (b : Bool). if b then status.TooLarge 1048577 else verdict (first bytes) (need bytes) n k)
-    (le-ltb 1048576 (length bytes) small)
+small_expected : (bytes : List ℕ) (n k : ℕ) → length bytes ≤ MOST_BYTES → expected bytes n k ≡ verdict (first bytes) (need bytes) n k
+small_expected bytes n k small =
+    ap (λ (b : Bool). if b then status.TooLarge (MOST_BYTES + 1) else verdict (first bytes) (need bytes) n k)
+    (le-ltb MOST_BYTES (length bytes) small)
 
 expects_rule : (bytes : List ℕ) (n k : ℕ) (rest : Option (List ℕ)) (rule : MachineFault) → BreaksFirst (Some bytes) rest rule
     → expected bytes n k ≡ status.Machine rule
@@ -37,10 +39,11 @@ expects_rule bytes n k rest rule h =
     ap (λ bs. expected bs n k) is ∙ small_expected h.bytes n k h.read.small ∙ ap (λ r. verdict r (need h.bytes) n k) h.broken
 
 expects_large : (bytes : List ℕ) (n k : ℕ) (rest : Option (List ℕ)) → ReadsTooMuch (Some bytes) rest
-    → expected bytes n k ≡ status.TooLarge 1048577
+    → expected bytes n k ≡ status.TooLarge (MOST_BYTES + 1)
 expects_large bytes n k rest h =
-    let long : 1048576 < length bytes = omega (arith, front_is bytes h.bytes rest h.taken, h.large) in
-    ap (λ (b : Bool). if b then status.TooLarge 1048577 else verdict (first bytes) (need bytes) n k) (lt-ltb 1048576 (length bytes) long)
+    let long : MOST_BYTES < length bytes = omega (arith, front_is bytes h.bytes rest h.taken, h.large) in
+    ap (λ (b : Bool). if b then status.TooLarge (MOST_BYTES + 1) else verdict (first bytes) (need bytes) n k)
+    (lt-ltb MOST_BYTES (length bytes) long)
 
 expects_parties : (bytes : List ℕ) (n k : ℕ) (rest : Option (List ℕ)) (plan : Plan) → ReadsMachine (Some bytes) rest plan
     → expected bytes n k ≡ verdict None (length plan.queues) n k

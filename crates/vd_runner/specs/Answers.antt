@@ -1,6 +1,7 @@
 -- Which answers have done what, and the answer that is expected.
-use Rattle.std.specs.Prelude.{◌≡◌, ◌⊎◌, ℕ, Bool, true, false, ◌&&◌, List, length, nat_le, nat_lt, if◌then◌else◌, Option, Some, None}
+use Rattle.std.specs.Prelude.{◌≡◌, ◌⊎◌, ℕ, ◌+◌, Bool, true, false, ◌&&◌, List, length, nat_le, nat_lt, if◌then◌else◌, Option, Some, None}
 use Rattle.std.specs.Option.{option_map_or}
+use Rattle.vd_stream.specs.declared.reading.TheConstants.{MOST_BYTES}
 use Rattle.vd_machine.specs.File.{Plan, first, means}
 use Rattle.vd_machine.specs.declared.machine.MachineFault.{MachineFault}
 use Rattle.vd_runner.specs.declared.status.Status.{Status}
@@ -36,7 +37,7 @@ verdict None n guests devices = if nat_le n guests && nat_le n devices then stat
 -- the answer of `play` to a source of these bytes, with so many guests and devices, where nothing fails
 abbrev pub expected : List ℕ → ℕ → ℕ → Status
 expected bytes guests devices =
-    if nat_lt 1048576 (length bytes) then status.TooLarge 1048577 else verdict (first bytes) (need bytes) guests devices
+    if nat_lt MOST_BYTES (length bytes) then status.TooLarge (MOST_BYTES + 1) else verdict (first bytes) (need bytes) guests devices
 
 -- this answer, or want of memory
 abbrev pub IsOrMemory : Status → Status → Type 0

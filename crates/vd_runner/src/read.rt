@@ -6,7 +6,7 @@ ghost use Rattle.vd_runner.specs.Reading.{RefusesToRead, ReadsMachine};
 use crate::status::Status;
 use std::alloc::Global;
 use vd_machine::{Machine, ReadRefusal};
-use vd_stream::{ReadFault, Source, read_whole};
+use vd_stream::{MOST_BYTES, ReadFault, Source, read_whole};
 
 /// The machine that the source's bytes mean, or how the command ends.
 pub fn read_machine<S: Source>(alloc: Global, source: &mut S) -> Result<Machine, Status>
@@ -16,7 +16,7 @@ pub fn read_machine<S: Source>(alloc: Global, source: &mut S) -> Result<Machine,
     let bytes = match read_whole(alloc, source) {
         Ok(bytes) => bytes,
         Err(ReadFault::Failed) => return Err(Status::ReadFault),
-        Err(ReadFault::TooLarge) => return Err(Status::TooLarge(1_048_577)),
+        Err(ReadFault::TooLarge) => return Err(Status::TooLarge(MOST_BYTES as u32 + 1)),
         Err(ReadFault::Memory) => return Err(Status::Memory),
     };
     match Machine::read(alloc, &bytes) {

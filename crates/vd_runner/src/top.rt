@@ -1,8 +1,9 @@
 //! The top call.
-ghost use Rattle.std.specs.Prelude.{◌≡◌, ◌⊎◌, ℕ, List, Some, true, false, length, map};
+ghost use Rattle.std.specs.Prelude.{◌≡◌, ◌⊎◌, ◌+◌, ℕ, List, Some, true, false, length, map};
 ghost use Rattle.std.specs.Io.KnownBytes.{Appends};
 ghost use Rattle.vd_machine.specs.declared.machine.MachineFault.{MachineFault};
 ghost use Rattle.vd_stream.specs.Causes.{Rose};
+ghost use Rattle.vd_stream.specs.declared.reading.TheConstants.{MOST_BYTES};
 ghost use Rattle.vd_stream.specs.Sinks.{AppendsFront};
 ghost use Rattle.vd_packed.specs.DeviceEnd.{packed_device};
 ghost use Rattle.vd_packed.specs.DriverEnd.{packed_driver};
@@ -55,7 +56,7 @@ pub fn vdpa<
     ensures no_command { is_play (map (λ w. w.now) words.now) ≡ false → result ≡ Status.Usage }
     // The first rule that the bytes read to the end break.
     ensures machine { (rule : MachineFault) → result ≡ Status.Machine rule → BreaksFirst (S.left source.old) (S.left source.new) rule }
-    ensures large { (n : ℕ) → result ≡ Status.TooLarge n → (n ≡ 1048577) × ReadsTooMuch (S.left source.old) (S.left source.new) }
+    ensures large { (n : ℕ) → result ≡ Status.TooLarge n → (n ≡ MOST_BYTES + 1) × ReadsTooMuch (S.left source.old) (S.left source.new) }
     // The machine has more queues than the bench of its layout has guests or devices.
     ensures few { (need : ℕ) (guests : ℕ) (devices : ℕ) → result ≡ Status.TooFewParties need guests devices
         → OfMachine (S.left source.old) (S.left source.new) (λ plan. OfLayout plan.packed

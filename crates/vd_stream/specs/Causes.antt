@@ -2,6 +2,7 @@
 use Rattle.std.specs.Prelude.{◌≡◌, ℕ, ◌+◌, ◌-◌, ◌^◌, ◌≤◌, min, List, length, OnOk, OnErr, Option, Result}
 use Rattle.std.specs.Io.KnownBytes.{Consumes, IsAtEnd}
 use Rattle.vd_stream.specs.declared.reading.ReadFault.{ReadFault}
+use Rattle.vd_stream.specs.declared.reading.TheConstants.{MOST_BYTES}
 use Rattle.vd_stream.specs.declared.reading.ReadFault.TheVariants as fault
 
 -- a count that went up by one, or stands still at the last number
@@ -22,10 +23,11 @@ pub record HasCause {T E : Type 0} (before now : ℕ) (result : Result T E) : Ty
 pub record ReadsWhole (left rest : Option (List ℕ)) (bytes : List ℕ) : Type 0 where
   pub taken : Consumes left rest bytes
   pub end : IsAtEnd rest
-  pub small : length bytes ≤ 1048576
+  pub small : length bytes ≤ MOST_BYTES
 
 -- when each fault of reading comes; the count of faults went up by one where a take failed, and else is as it was
 abbrev pub ReadsFaulty : Option (List ℕ) → Option (List ℕ) → ℕ → ℕ → ReadFault → Type 0
 ReadsFaulty left rest before now fault.Failed = now ≡ raised before
-ReadsFaulty left rest before now fault.TooLarge = (bytes : List ℕ) × Consumes left rest bytes × (length bytes ≡ 1048577) × (now ≡ before)
+ReadsFaulty left rest before now fault.TooLarge = (bytes : List ℕ) × Consumes left rest bytes × (length bytes ≡ MOST_BYTES + 1)
+    × (now ≡ before)
 ReadsFaulty left rest before now fault.Memory = now ≡ before

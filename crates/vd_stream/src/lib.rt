@@ -11,7 +11,7 @@ mod source;
 pub use memory_sink::MemorySink;
 pub use memory_source::MemorySource;
 pub use outside::{ReadSource, WriteSink};
-pub use reading::{MOST, ReadFault, read_whole};
+pub use reading::{MOST_BYTES, ReadFault, read_whole};
 pub use sink::{Sink, put_all};
 pub use source::Source;
 

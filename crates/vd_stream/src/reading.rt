@@ -11,15 +11,15 @@ use std::alloc::{AllocError, Global};
 pub enum ReadFault {
     /// A take failed.
     Failed,
-    /// There are more bytes: 1,048,577 were read.
+    /// There are more than `MOST_BYTES`: one more was read.
     TooLarge,
     Memory,
 }
 
 /// How many bytes a source may have; one more shows that there are too many.
-pub const MOST: usize = 1_048_576;
+pub const MOST_BYTES: usize = 1_048_576;
 
-/// Reads to the end, which comes after at most 1,048,576 bytes. Of a longer source 1,048,577 bytes are read.
+/// Reads to the end, which comes after at most `MOST_BYTES`. Of a longer source one byte more is read.
 pub fn read_whole<S: Source>(alloc: Global, source: &mut S) -> Result<Vec<u8>, ReadFault>
     ensures ok { IfOk result (λ bytes. ReadsWhole (S.left source.old) (S.left source.new) bytes.items) }
     ensures fault { IfErr result (ReadsFaulty (S.left source.old) (S.left source.new) (S.faults source.old) (S.faults source.new)) }
@@ -28,8 +28,8 @@ pub fn read_whole<S: Source>(alloc: Global, source: &mut S) -> Result<Vec<u8>, R
 {
     let mut bytes = Vec::new(alloc);
     let mut buffer = [0u8; 4096];
-    while bytes.len() <= MOST {
-        let room = (MOST + 1 - bytes.len()).min(buffer.len());
+    while bytes.len() <= MOST_BYTES {
+        let room = (MOST_BYTES + 1 - bytes.len()).min(buffer.len());
         match source.take(&mut buffer[..room]) {
             Err(Failed) => return Err(ReadFault::Failed),
             Ok(0) => return Ok(bytes),

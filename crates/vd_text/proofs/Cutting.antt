@@ -3,6 +3,7 @@ use Rattle.std.proofs.Common.{◌≡◌, ℕ, suc, ◌<◌, ◌==◌, true, fals
 use Rattle.std.proofs.lemmas.Bool.{lt-leb, le-leb}
 use Rattle.std.proofs.lemmas.Grind.{common_steps}
 use Rattle.vd_model.specs.declared.chain.Piece.{Piece}
+use Rattle.vd_text.specs.declared.chains.TheConstants.{MOST_PIECES}
 use Rattle.vd_text.specs.Grammar.{cut, split, grown, piece, pieces, all_some}
 use Rattle.vd_text.specs.Bounds.{if_at_most}
 
@@ -105,29 +106,31 @@ pub pieces_none : (found : List Piece) (text : List ℕ) → cut 32 text ≡ Non
 pieces_none found text h e = ap (after found) (last_pieces text h ∙ ap (λ o. then_some o (Some [])) e)
 
 -- more pieces are found than may be
-past_full : (found : List Piece) (p : Piece) (o : Option (List Piece)) → length found ≡ 16
-    → option_and_then (if_at_most 16) (after (found ++ p ∷ []) o) ≡ None
+past_full : (found : List Piece) (p : Piece) (o : Option (List Piece)) → length found ≡ MOST_PIECES
+    → option_and_then (if_at_most MOST_PIECES) (after (found ++ p ∷ []) o) ≡ None
 past_full found p None h = refl
 past_full found p (Some ps) h =
-    let e : nat_le (length ((found ++ p ∷ []) ++ ps)) 16 ≡ false =
-    lt-leb (length ((found ++ p ∷ []) ++ ps)) 16 (omega (arith, length-append (found ++ p ∷ []) ps, length-append found (p ∷ []))) in
+    let e : nat_le (length ((found ++ p ∷ []) ++ ps)) MOST_PIECES ≡ false =
+    lt-leb (length ((found ++ p ∷ []) ++ ps)) MOST_PIECES
+    (omega (arith, length-append (found ++ p ∷ []) ps, length-append found (p ∷ []))) in
     rw e refl
 
-pub full : (found : List Piece) → length found ≡ 16 → (text word rest : List ℕ) (p : Piece) → cut 32 text ≡ Some (word, rest)
-    → piece word ≡ Some p → (o : Option (List Piece)) → after found (pieces text) ≡ o → option_and_then (if_at_most 16) o ≡ None
+pub full : (found : List Piece) → length found ≡ MOST_PIECES → (text word rest : List ℕ) (p : Piece) → cut 32 text ≡ Some (word, rest)
+    → piece word ≡ Some p → (o : Option (List Piece)) → after found (pieces text) ≡ o → option_and_then (if_at_most MOST_PIECES) o ≡ None
 full found h text word rest p cuts e o same =
-    ap (option_and_then (if_at_most 16)) (sym same ∙ pieces_past found text word rest p cuts e) ∙ past_full found p (pieces rest) h
+    ap (option_and_then (if_at_most MOST_PIECES)) (sym same ∙ pieces_past found text word rest p cuts e) ∙ past_full found p (pieces rest) h
 
-pub full_last : (found : List Piece) → length found ≡ 16 → (text : List ℕ) (p : Piece) → cut 32 text ≡ None → piece text ≡ Some p
-    → (o : Option (List Piece)) → after found (pieces text) ≡ o → option_and_then (if_at_most 16) o ≡ None
+pub full_last : (found : List Piece) → length found ≡ MOST_PIECES → (text : List ℕ) (p : Piece) → cut 32 text ≡ None
+    → piece text ≡ Some p → (o : Option (List Piece)) → after found (pieces text) ≡ o → option_and_then (if_at_most MOST_PIECES) o ≡ None
 full_last found h text p cuts e o same =
-    let n : nat_le (length (found ++ p ∷ [])) 16 ≡ false =
-    lt-leb (length (found ++ p ∷ [])) 16 (omega (arith, length-append found (p ∷ []))) in
-    ap (option_and_then (if_at_most 16)) (sym same ∙ pieces_last found text p cuts e) ∙ rw n refl
+    let n : nat_le (length (found ++ p ∷ [])) MOST_PIECES ≡ false =
+    lt-leb (length (found ++ p ∷ [])) MOST_PIECES (omega (arith, length-append found (p ∷ []))) in
+    ap (option_and_then (if_at_most MOST_PIECES)) (sym same ∙ pieces_last found text p cuts e) ∙ rw n refl
 
-pub not_full_last : (found : List Piece) → length found < 16 → (text : List ℕ) (p : Piece) → cut 32 text ≡ None → piece text ≡ Some p
-    → (o : Option (List Piece)) → after found (pieces text) ≡ o → option_and_then (if_at_most 16) o ≡ Some (found ++ p ∷ [])
+pub not_full_last : (found : List Piece) → length found < MOST_PIECES → (text : List ℕ) (p : Piece) → cut 32 text ≡ None
+    → piece text ≡ Some p → (o : Option (List Piece)) → after found (pieces text) ≡ o
+    → option_and_then (if_at_most MOST_PIECES) o ≡ Some (found ++ p ∷ [])
 not_full_last found h text p cuts e o same =
-    let n : nat_le (length (found ++ p ∷ [])) 16 ≡ true =
-    le-leb (length (found ++ p ∷ [])) 16 (omega (arith, length-append found (p ∷ []))) in
-    ap (option_and_then (if_at_most 16)) (sym same ∙ pieces_last found text p cuts e) ∙ rw n refl
+    let n : nat_le (length (found ++ p ∷ [])) MOST_PIECES ≡ true =
+    le-leb (length (found ++ p ∷ [])) MOST_PIECES (omega (arith, length-append found (p ∷ []))) in
+    ap (option_and_then (if_at_most MOST_PIECES)) (sym same ∙ pieces_last found text p cuts e) ∙ rw n refl

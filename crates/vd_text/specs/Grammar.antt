@@ -6,6 +6,7 @@ use Rattle.std.specs.Str.Parse.{digits_value}
 use Rattle.vd_model.specs.Chains.{total}
 use Rattle.vd_model.specs.declared.chain.Piece.{Piece}
 use Rattle.vd_model.specs.declared.record.Run.{Run}
+use Rattle.vd_text.specs.declared.chains.TheConstants.{MOST_PIECES}
 
 -- what stands before and after the first such byte
 abbrev pub cut : ℕ → List ℕ → Option (List ℕ × List ℕ)
@@ -90,9 +91,9 @@ times n ps = record { count = n; chain = ps }
 unfoldable pub run : List ℕ → Option Run
 run text = option_and_then (λ p. option_map (times p.0) (chain p.1)) (count text)
 
--- at most 16 pieces, at most so many, and a total length below 2 ^ 32
+-- no more pieces than any chain may have, at most so many, and a total length below 2 ^ 32
 abbrev pub is_within : ℕ → List Piece → Bool
-is_within most ps = nat_le (length ps) 16 && (nat_le (length ps) most && nat_le (total ps) 0xffff_ffff)
+is_within most ps = nat_le (length ps) MOST_PIECES && (nat_le (length ps) most && nat_le (total ps) 0xffff_ffff)
 
 -- the run, where its chain is within the bounds
 abbrev pub if_within : ℕ → Run → Option Run
@@ -106,6 +107,10 @@ run_within most text = option_and_then (if_within most) (run text)
 abbrev pub has_bytes : Piece → Bool
 has_bytes p = nat_le 1 p.len
 
--- one chain or more of pieces with bytes, within these bounds
+-- a piece at least, the readable ones first
+abbrev pub is_ordered : List Piece → Bool
+is_ordered ps = nat_le 1 (length ps) && is_readable_first ps
+
+-- one chain or more of pieces with bytes, the readable ones first, within these bounds
 abbrev pub is_lawful : ℕ → Run → Bool
-is_lawful most r = nat_le 1 r.count && (list_all has_bytes r.chain && is_within most r.chain)
+is_lawful most r = nat_le 1 r.count && (list_all has_bytes r.chain && (is_ordered r.chain && is_within most r.chain))

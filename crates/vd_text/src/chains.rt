@@ -5,10 +5,14 @@ ghost use Rattle.std.specs.List.{All, list_all};
 ghost use Rattle.vd_model.specs.Chains.{total, IsPiece};
 ghost use Rattle.vd_text.specs.Grammar.{pieces, is_readable_first, chain, count, run, is_within, run_within, has_bytes, is_lawful};
 ghost use Rattle.vd_text.specs.Bounds.{if_at_most};
+ghost use Rattle.vd_text.specs.declared.chains.TheConstants.{MOST_PIECES};
 
 use crate::reading::{cut_at, number_in, read_piece};
 use arrayvec::ArrayVec;
 use vd_model::{Chain, Piece, Run};
+
+/// How many pieces a chain may have.
+pub const MOST_PIECES: usize = 16;
 
 /// The count, and what stands after its `*`.
 fn count_in(text: &[u8]) -> Option<(u32, &[u8])>
@@ -59,9 +63,9 @@ pub fn is_chain(text: &[u8]) -> bool
     }
 }
 
-/// The pieces, where there are at most 16.
-fn pieces_in(text: &[u8]) -> Option<ArrayVec<Piece, 16>>
-    ensures value { option_map (λ v. v.items) result ≡ option_and_then (if_at_most 16) (pieces text.now) }
+/// The pieces, where there are at most `MOST_PIECES`.
+fn pieces_in(text: &[u8]) -> Option<ArrayVec<Piece, MOST_PIECES>>
+    ensures value { option_map (λ v. v.items) result ≡ option_and_then (if_at_most MOST_PIECES) (pieces text.now) }
     ensures some { IfSome result (λ v. 0 < length v.items) }
     ensures fits { IfSome result (λ v. All IsPiece v.items) }
     ensures bytes { IfSome result (λ v. list_all has_bytes v.items ≡ true) }
@@ -106,21 +110,21 @@ fn is_readable_first(pieces: &[Piece]) -> bool
 }
 
 fn total(pieces: &[Piece]) -> u64
-    requires { length pieces.now ≤ 16 }
+    requires { length pieces.now ≤ MOST_PIECES }
     ensures { result ≡ total pieces.now }
 {
     pieces.iter().map(|piece| piece.len as u64).sum()
 }
 
 fn is_within(most: u32, pieces: &[Piece]) -> bool
-    requires { length pieces.now ≤ 16 }
+    requires { length pieces.now ≤ MOST_PIECES }
     ensures { result ≡ is_within most pieces.now }
 {
     pieces.len() <= most as usize && total(pieces) <= 0xffff_ffff
 }
 
-/// The chain that the text writes and its count, where the chain has at most 16 pieces and at most `most`, and a total
-/// length of at most 4,294,967,295 bytes.
+/// The chain that the text writes and its count, where the chain has at most `MOST_PIECES` and at most `most` pieces, and a
+/// total length of at most 4,294,967,295 bytes.
 #[tactic(auto, unfolding(crate::specs::Grammar::run, crate::specs::Grammar::run_within))]
 pub fn read_run(text: &[u8], most: u32) -> Option<Run>
     ensures value { result ≡ run_within most text.now }

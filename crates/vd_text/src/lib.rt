@@ -4,7 +4,7 @@
 mod chains;
 mod reading;
 
-pub use chains::{is_chain, read_run};
+pub use chains::{MOST_PIECES, is_chain, read_run};
 
 #[cfg(test)]
 mod tests;

@@ -3,6 +3,7 @@ use Rattle.std.proofs.lemmas.Bool.{eqb-true, eqb-false, le-leb}
 use Rattle.std.proofs.lemmas.List.Elements.{All-push}
 use Rattle.vd_model.specs.Chains.{IsPiece}
 use Rattle.std.proofs.lemmas.List.Folds.{list_all-append}
+use Rattle.vd_text.specs.declared.chains.TheConstants.{MOST_PIECES}
 use Rattle.vd_text.specs.Grammar.{has_bytes}
 use Rattle.vd_text.specs.Bounds.{if_at_most}
 use Rattle.vd_text.proofs.Cutting.{pieces_stop, pieces_past, pieces_none, cut_shorter, full, full_last, not_full_last}
@@ -10,13 +11,14 @@ use Rattle.vd_text.proofs.chains.pieces_in.Goals as goal
 
 pub returns-in-None-clause-value : goal.returns-in-None-clause-value
 returns-in-None-clause-value c =
-    sym (ap (option_and_then (if_at_most 16))
+    sym (ap (option_and_then (if_at_most MOST_PIECES))
     (sym c.loop-word.invariant.value ∙ pieces_stop c.loop-word.found.items c.loop-word.rest.now c.in-Some.word.now c.in-Some.after.now
     (sym c.in-Some.ensures) (sym c.in-None.ensures.value)))
 
 pub returns-then-is_full-clause-value : goal.returns-then-is_full-clause-value
 returns-then-is_full-clause-value c =
-    let h : length c.loop-word.found.items ≡ 16 = eqb-true (length c.loop-word.found.items) 16 (sym c.if-is_full.ensures.value) in
+    let h : length c.loop-word.found.items ≡ MOST_PIECES =
+    eqb-true (length c.loop-word.found.items) MOST_PIECES (sym c.if-is_full.ensures.value) in
     sym (full c.loop-word.found.items h c.loop-word.rest.now c.in-Some.word.now c.in-Some.after.now c.in-Some-read_piece.piece
     (sym c.in-Some.ensures) (sym c.in-Some-read_piece.ensures.value) _ c.loop-word.invariant.value)
 
@@ -36,20 +38,21 @@ loop-word-preserved c =
 
 pub returns-in-None-read_piece-clause-value : goal.returns-in-None-read_piece-clause-value
 returns-in-None-read_piece-clause-value c =
-    sym (ap (option_and_then (if_at_most 16))
+    sym (ap (option_and_then (if_at_most MOST_PIECES))
     (sym c.loop-word.invariant.value ∙ pieces_none c.loop-word.found.items c.loop-word.rest.now (sym c.in_default.ensures)
     (sym c.in-None-read_piece.ensures.value)))
 
 pub returns-then-is_full-2-clause-value : goal.returns-then-is_full-2-clause-value
 returns-then-is_full-2-clause-value c =
-    let h : length c.loop-word.found.items ≡ 16 = eqb-true (length c.loop-word.found.items) 16 (sym c.if-is_full-2.ensures.value) in
+    let h : length c.loop-word.found.items ≡ MOST_PIECES =
+    eqb-true (length c.loop-word.found.items) MOST_PIECES (sym c.if-is_full-2.ensures.value) in
     sym (full_last c.loop-word.found.items h c.loop-word.rest.now c.in-Some-read_piece-2.piece (sym c.in_default.ensures)
     (sym c.in-Some-read_piece-2.ensures.value) _ c.loop-word.invariant.value)
 
 pub returns-else-is_full-2-clause-value : goal.returns-else-is_full-2-clause-value
 returns-else-is_full-2-clause-value c =
-    let ne = eqb-false (length c.loop-word.found.items) 16 (sym c.if-is_full-2.ensures.value) in
-    let room : length c.loop-word.found.items < 16 = omega (arith, ne, c.if-is_full-2.ensures.fits) in
+    let ne = eqb-false (length c.loop-word.found.items) MOST_PIECES (sym c.if-is_full-2.ensures.value) in
+    let room : length c.loop-word.found.items < MOST_PIECES = omega (arith, ne, c.if-is_full-2.ensures.fits) in
     let e : c.push-in-Some-read_piece-2.new.self.items ≡ c.loop-word.found.items ++ c.in-Some-read_piece-2.piece ∷ [] =
     c.push-in-Some-read_piece-2.ensures.items in
     rw e (sym (not_full_last c.loop-word.found.items room c.loop-word.rest.now c.in-Some-read_piece-2.piece (sym c.in_default.ensures)
