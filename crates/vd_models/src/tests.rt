@@ -1,5 +1,6 @@
 //! The parties over rings of plain words, by single steps.
 mod pair;
+mod played;
 mod rows;
 mod scripts;
 mod sleeping;

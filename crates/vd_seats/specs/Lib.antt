@@ -4,3 +4,5 @@ pub mod Closing
 pub mod Fresh
 pub mod Asleep
 pub mod Open
+pub mod Two
+pub mod Around

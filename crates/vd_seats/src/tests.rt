@@ -1,7 +1,8 @@
 mod asleep;
-mod one_chain;
+mod kinds;
 mod rows;
 mod run;
+mod told;
 mod told_packed;
 mod told_split;
 mod turns;

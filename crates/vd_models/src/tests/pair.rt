@@ -129,21 +129,8 @@ impl<L: Layout, G: Guest<L>, V: Device<L>> Pair<L, G, V> {
         Some(base)
     }
 
-    pub fn reset(&mut self) -> bool {
-        if self.end.is_none() || self.events == 0 {
-            return false;
-        }
-        self.device.reset();
-        self.events -= 1;
-        true
-    }
-
     pub fn journal(&self) -> &Journal {
         self.device.journal()
-    }
-
-    pub fn faults(&self) -> u64 {
-        self.device.faults()
     }
 
     pub fn device_done(&self) -> bool {
@@ -184,13 +171,8 @@ impl<L: Layout, G: Guest<L>, V: Device<L>> Pair<L, G, V> {
         100
     }
 
-    /// How many accesses the guest and the device made, and how many bells each heard.
-    pub fn counts(&self) -> [u64; 4] {
-        [
-            self.guest.accesses(),
-            self.device.accesses(),
-            self.guest.heard(),
-            self.device.heard(),
-        ]
+    /// How many bells the guest heard.
+    pub fn heard(&self) -> u64 {
+        self.guest.heard()
     }
 }

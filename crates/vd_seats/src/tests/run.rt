@@ -1,6 +1,6 @@
 //! Two threads move chains through one ring, each with its own end and port, and sleep by yielding. The threads are started over any
 //! two ports.
-ghost use Rattle.std.specs.Prelude.{◌≡◌, false};
+ghost use Rattle.std.specs.Prelude.{◌≡◌, true};
 ghost use Rattle.vd_ring.specs.declared.driver.DriverView.{DriverView};
 ghost use Rattle.vd_ring.specs.declared.device.DeviceView.{DeviceView};
 ghost use Rattle.vd_layout.specs.Layout.{CanMake};
@@ -19,18 +19,6 @@ use vd_model::Features;
 use vd_packed::Packed;
 use vd_split::Split;
 use vd_words::Port;
-
-const PLAIN: Features = Features {
-    indirect: false,
-    event_idx: false,
-    in_order: false,
-};
-
-const INDEXED: Features = Features {
-    indirect: false,
-    event_idx: true,
-    in_order: false,
-};
 
 // Offers so many chains, and collects them.
 fn drive<R: Wait, E: DriverEnd, P: Port + Drop>(
@@ -129,33 +117,38 @@ const ALL: Counts = Counts {
     collected: 1000,
 };
 
+// Whether 1,000 chains come through four places with each set of features.
+fn moves_always<R: Threads + Wait + Sync, L: Layout + Send + Sync>(
+    rt: &R,
+    alloc: Global,
+) -> Result<bool, AllocError>
+where
+    L::Driver: Send + Sync,
+    L::Device: Send + Sync,
+    requires lawful { L.layout.lawful_size 4 ≡ true }
+{
+    for kind in 0..8u32 {
+        let f = Features {
+            indirect: kind & 1 != 0,
+            event_idx: kind & 2 != 0,
+            in_order: kind & 4 != 0,
+        };
+        let (counts, collected, taken) = move_all::<R, L>(rt, alloc, 4, f, 1000)?;
+        if counts != ALL || collected != 509_500 || taken != 499_500 {
+            return Ok(false);
+        }
+    }
+    Ok(true)
+}
+
 #[test]
 fn two_threads_move_chains_through_split_words(rt: HostRuntime) -> Result<(), Fail> {
-    let (counts, collected, taken) = move_all::<_, Split>(&rt, rt.alloc(), 4, PLAIN, 1000)?;
-    assert!(rt; counts == ALL);
-    assert!(rt; collected == 499_500 + 10_000);
-    assert!(rt; taken == 499_500);
+    assert!(rt; moves_always::<_, Split>(&rt, rt.alloc())?);
     Ok(())
 }
 
 #[test]
 fn two_threads_move_chains_through_packed_words(rt: HostRuntime) -> Result<(), Fail> {
-    let (counts, collected, taken) = move_all::<_, Packed>(&rt, rt.alloc(), 4, PLAIN, 1000)?;
-    assert!(rt; counts == ALL);
-    assert!(rt; collected == 499_500 + 10_000);
-    assert!(rt; taken == 499_500);
-    Ok(())
-}
-
-#[test]
-fn two_threads_sleep_by_event_indices(rt: HostRuntime) -> Result<(), Fail> {
-    let (counts, collected, taken) = move_all::<_, Split>(&rt, rt.alloc(), 4, INDEXED, 1000)?;
-    assert!(rt; counts == ALL);
-    assert!(rt; collected == 499_500 + 10_000);
-    assert!(rt; taken == 499_500);
-    let (counts, collected, taken) = move_all::<_, Packed>(&rt, rt.alloc(), 4, INDEXED, 1000)?;
-    assert!(rt; counts == ALL);
-    assert!(rt; collected == 499_500 + 10_000);
-    assert!(rt; taken == 499_500);
+    assert!(rt; moves_always::<_, Packed>(&rt, rt.alloc())?);
     Ok(())
 }

@@ -1,5 +1,5 @@
 //! What a load through a seat's port of a split ring tells its caller, one function for each kind of load.
-ghost use Rattle.std.specs.Prelude.{◌≡◌, ◌<◌, ℕ, List, [], ◌∷◌, ◌++◌, false, length};
+ghost use Rattle.std.specs.Prelude.{◌≡◌, ◌<◌, ◌≤◌, ℕ, List, [], ◌∷◌, ◌++◌, false, length};
 ghost use Rattle.std.specs.Prelude.{slice_index};
 ghost use Rattle.vd_bits.specs.Lanes.{lane32};
 ghost use Rattle.vd_words.specs.declared.access.Access.TheVariants.{Load};
@@ -8,10 +8,11 @@ ghost use Rattle.vd_ring.specs.declared.driver.DriverNow.TheVariants as driver;
 ghost use Rattle.vd_ring.specs.declared.driver.DriverView.{DriverView};
 ghost use Rattle.vd_ring.specs.declared.device.DeviceNow.TheVariants as device;
 ghost use Rattle.vd_ring.specs.declared.device.DeviceView.{DeviceView};
-ghost use Rattle.vd_ring.specs.History.{takes};
+ghost use Rattle.vd_ring.specs.History.{takes, gives, offers};
 ghost use Rattle.vd_split_ring.specs.SplitWords.{IsDrivers, IsDevices};
-ghost use Rattle.vd_split_ring.specs.SplitDriver.{DriverNext, ShowsGives, NamesOpen};
-ghost use Rattle.vd_split_ring.specs.SplitDevice.{DeviceNext, ShowsChains, IsNewHead, BeginsChain, loaded_head};
+ghost use Rattle.vd_split_ring.specs.SplitDriver.{DriverNext, ShowsGives, NamesOpen, driver_after};
+ghost use Rattle.vd_split_ring.specs.SplitDevice.{DeviceNext, device_after, ShowsChains, IsNewHead, BeginsChain, loaded_head};
+ghost use Rattle.vd_split_ring.specs.SplitRing.{Ring};
 ghost use Rattle.vd_split.specs.laws.SplitLayout.{split_layout};
 ghost use Rattle.vd_seats.specs.Seat.{DrivesAt, ServesAt};
 
@@ -42,6 +43,24 @@ fn look_driver(port: &mut SeatPort<Split>, place: u32) -> u64
     ensures { (v : DriverView) → DrivesAt split_layout port.old v → v.doing ≡ driver.Idle → ShowsGives v result }
 {
     port.access(Op::Collect, Access::Load(place))
+}
+
+/// The index that the driver's look shows is at most the count of chains that the device had given at that load.
+fn look_published(port: &mut SeatPort<Split>, place: u32) -> u64
+    requires { (v : DriverView) × DrivesAt split_layout port.old v × DriverNext v op.Collect (Load place) }
+    ensures { (v : DriverView) → DrivesAt split_layout port.old v → DriverNext v op.Collect (Load place)
+        → (ws : List ℕ) × (w : DeviceView) × Ring ws v w × ((driver_after v op.Collect (Load place) result).seen ≤ length (gives w.done)) }
+{
+    port.access(Op::Collect, Access::Load(place))
+}
+
+/// The index that the device's look shows is at most the count of chains that the driver had offered at that load.
+fn look_offered(port: &mut SeatPort<Split>, place: u32) -> u64
+    requires { (w : DeviceView) × ServesAt split_layout port.old w × DeviceNext w op.Take (Load place) }
+    ensures { (w : DeviceView) → ServesAt split_layout port.old w → DeviceNext w op.Take (Load place)
+        → (ws : List ℕ) × (v : DriverView) × Ring ws v w × ((device_after w op.Take (Load place) result).seen ≤ length (offers v.done)) }
+{
+    port.access(Op::Take, Access::Load(place))
 }
 
 /// The device's look: the index is past the chains taken by at most the size, and not before the one loaded last. Where it shows a

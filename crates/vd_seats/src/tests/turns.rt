@@ -4,7 +4,7 @@ ghost use Rattle.std.specs.Prelude.{◌≡◌};
 ghost use Rattle.vd_ring.specs.declared.driver.DriverView.{DriverView};
 ghost use Rattle.vd_ring.specs.declared.device.DeviceView.{DeviceView};
 ghost use Rattle.vd_layout.specs.Runs.{DriverOn, DeviceOn, DriverRan, DeviceRan};
-ghost use Rattle.vd_seats.specs.Open.{IsOpen};
+ghost use Rattle.vd_seats.specs.Open.{IsOpen, MayStand};
 
 use vd_layout::{DeviceAct, DeviceEnd, DriverAct, DriverEnd, finish_device, finish_driver};
 use vd_model::{Chain, Piece};
@@ -29,6 +29,24 @@ pub fn offer_one<E: DriverEnd, P: Port>(end: &mut E, port: &mut P, count: u32, p
         return false;
     }
     end.begin_offer(&chain);
+    finish_driver(end, port);
+    true
+}
+
+/// Offers the chain where there is room for it and the end isn't armed.
+pub fn offer_chain<E: DriverEnd, P: Port>(end: &mut E, port: &mut P, chain: &Chain) -> bool
+    requires { (v : DriverView) × DriverOn P.port E.driver port.old v end.old × MayStand E.driver.words v chain.now }
+    ensures { (v : DriverView) → DriverOn P.port E.driver port.old v end.old → MayStand E.driver.words v chain.now
+        → DriverRan P.port E.driver port.old v port.new end.new }
+{
+    let offered = end.offered();
+    if offered >= 1_000_000_000 || end.armed() {
+        return false;
+    }
+    if !end.room(chain) {
+        return false;
+    }
+    end.begin_offer(chain);
     finish_driver(end, port);
     true
 }
