@@ -1,0 +1,15 @@
+pub mod Bounds
+pub mod Places
+pub mod Offers
+pub mod Tabling
+pub mod DriverSteps
+pub mod DriverCollecting
+pub mod DriverLaws
+pub mod DeviceGiving
+pub mod ToldTables
+pub mod DeviceTaking
+pub mod DeviceTaken
+pub mod DeviceRest
+pub mod DeviceLaws
+pub mod Opening
+pub mod PackedLayout

@@ -1,0 +1,12 @@
+pub mod Plans
+pub mod DriverSteps
+pub mod DriverCollecting
+pub mod DriverLaws
+pub mod Opening
+pub mod DeviceGiving
+pub mod DeviceTaking
+pub mod DeviceTabling
+pub mod DeviceLaws
+pub mod SplitLayout
+pub mod DriverBells
+pub mod DeviceBells
