@@ -75,14 +75,15 @@ used_below e v st =
 
 -- ---- the store of the id
 
-pub name_goes : (e : SplitDevice) (v : DeviceView) (r number head len x : ℕ) → e.doing ≡ step.Name number head len → head < 4294967296
+pub store_id_goes : (e : SplitDevice) (v : DeviceView) (r number head len x : ℕ) → e.doing ≡ step.StoreId number head len
+    → head < 4294967296
     → DeviceStands e v
     → x ≡ set_lane32 (slice_index e.area.items e.used) 1 head
-    → Goes e (record e { area = with_item e.area e.used x; doing = step.Measure number head len }) v op.Give
+    → Goes e (record e { area = with_item e.area e.used x; doing = step.StoreLen number head len }) v op.Give
     (Store (used_area e.size + e.used) x) r act.Moved
-name_goes e v r number head len x is small st word =
+store_id_goes e v r number head len x is small st word =
     let f : Frame = v.frame in let s : List DeviceDone = v.done in
-    let n : DeviceStepStands (step.Name number head len) e.pieces.items e.addr f s v.doing =
+    let n : DeviceStepStands (step.StoreId number head len) e.pieces.items e.addr f s v.doing =
     subst (λ t. DeviceStepStands t e.pieces.items e.addr f s v.doing) is st.doing in
     let i : ℕ = e.used in
     let off : e.armed ≡ false = subst (λ t. DeviceStepArmed t e.armed) is st.signals.awake in
@@ -91,7 +92,7 @@ name_goes e v r number head len x is small st word =
     let value : x ≡ set_lane32 (slice_index v.stored p) 1 (taken_head s number) =
     word ∙ ap (λ w. set_lane32 w 1 head) (st.area.same i (omega (arith, st.area.as_many)))
     ∙ ap (set_lane32 (slice_index v.stored p) 1) (sym n.1.is_head) in
-    let e' : SplitDevice = record e { area = with_item e.area i x; doing = step.Measure number head len } in
+    let e' : SplitDevice = record e { area = with_item e.area i x; doing = step.StoreLen number head len } in
     subst (λ k. Goes e e' v op.Give (Store (used_area k + i) x) r act.Moved) (sym st.made.sized) record {
       next = subst (λ t. DeviceNextAt t v op.Give (Store p x)) (sym n.0) (
         not_armed e v st off,
@@ -133,13 +134,14 @@ name_goes e v r number head len x is small st word =
 
 -- ---- the store of the length
 
-pub measure_goes : (e : SplitDevice) (v : DeviceView) (r number head len x : ℕ) → e.doing ≡ step.Measure number head len → DeviceStands e v
+pub store_len_goes : (e : SplitDevice) (v : DeviceView) (r number head len x : ℕ) → e.doing ≡ step.StoreLen number head len
+    → DeviceStands e v
     → x ≡ set_lane32 (slice_index e.area.items (e.used + 1)) 0 len
-    → Goes e (record e { area = with_item e.area (e.used + 1) x; doing = step.Publish number head len }) v op.Give
+    → Goes e (record e { area = with_item e.area (e.used + 1) x; doing = step.StoreIndex number head len }) v op.Give
     (Store (used_area e.size + (e.used + 1)) x) r act.Moved
-measure_goes e v r number head len x is st word =
+store_len_goes e v r number head len x is st word =
     let f : Frame = v.frame in let s : List DeviceDone = v.done in
-    let n : DeviceStepStands (step.Measure number head len) e.pieces.items e.addr f s v.doing =
+    let n : DeviceStepStands (step.StoreLen number head len) e.pieces.items e.addr f s v.doing =
     subst (λ t. DeviceStepStands t e.pieces.items e.addr f s v.doing) is st.doing in
     let i : ℕ = e.used + 1 in
     let off : e.armed ≡ false = subst (λ t. DeviceStepArmed t e.armed) is st.signals.awake in
@@ -147,7 +149,7 @@ measure_goes e v r number head len x is st word =
     let p : ℕ = used_from f + i in
     let value : x ≡ set_lane32 (slice_index v.stored p) 0 len =
     word ∙ ap (λ w. set_lane32 w 0 len) (st.area.same i (omega (arith, st.area.as_many))) in
-    let e' : SplitDevice = record e { area = with_item e.area i x; doing = step.Publish number head len } in
+    let e' : SplitDevice = record e { area = with_item e.area i x; doing = step.StoreIndex number head len } in
     subst (λ k. Goes e e' v op.Give (Store (used_area k + i) x) r act.Moved) (sym st.made.sized) record {
       next = subst (λ t. DeviceNextAt t v op.Give (Store p x)) (sym n.1) record {
         len = len;
@@ -248,7 +250,8 @@ holds_fewer table guesses head number len f s h runs is inside = record {
       | inr a ↦ omega (arith, h.once.each k, one_above k (length (takes s)) a)
     ]
 
-pub publish_goes : (e : SplitDevice) (v : DeviceView) (r number head len x : ℕ) → e.doing ≡ step.Publish number head len → DeviceStands e v
+pub publish_goes : (e : SplitDevice) (v : DeviceView) (r number head len x : ℕ) → e.doing ≡ step.StoreIndex number head len
+    → DeviceStands e v
     → x ≡ set_lane16 (slice_index e.area.items 0) 1 ((e.given + 1) % 65536)
     → Goes e (record e {
       given = e.given + 1;
@@ -260,7 +263,7 @@ pub publish_goes : (e : SplitDevice) (v : DeviceView) (r number head len x : ℕ
     }) v op.Give (Store (used_area e.size) x) r (act.Given number)
 publish_goes e v r number head len x is st word =
     let f : Frame = v.frame in let s : List DeviceDone = v.done in
-    let n : DeviceStepStands (step.Publish number head len) e.pieces.items e.addr f s v.doing =
+    let n : DeviceStepStands (step.StoreIndex number head len) e.pieces.items e.addr f s v.doing =
     subst (λ t. DeviceStepStands t e.pieces.items e.addr f s v.doing) is st.doing in
     let a : ℕ = n.0 in let b : ℕ = n.1 in let next : IsNext f s number head len = n.5 in
     let us : List Used = given f s (lane32 a 1) (lane32 b 0) in

@@ -9,7 +9,7 @@ use Rattle.vd_ring.specs.declared.device.DeviceView.{DeviceView}
 use Rattle.vd_split.specs.declared.device.SplitDevice.{SplitDevice}
 use Rattle.vd_split.specs.declared.device.DeviceStep.TheVariants as step
 use Rattle.vd_split.specs.DeviceEnd.{DeviceStands}
-use Rattle.vd_split.specs.laws.DeviceGiving.{Goes, made, used_below, name_goes}
+use Rattle.vd_split.specs.laws.DeviceGiving.{Goes, made, used_below, store_id_goes}
 use Rattle.vd_split.specs.Parts.{used_area}
 use Rattle.vd_split.proofs.device.SplitDevice.store_id.Goals as goal
 
@@ -23,7 +23,7 @@ goes e v r number head len x old area is small st word read place =
     subst (λ k. Goes e (record e { area = with_item e.area e.used x; doing = step.StoreLen number head len }) v op.Give
     (Store (k + e.used) x) r act.Moved) (sym place)
     (let below = used_below e v st in
-    name_goes e v r number head len x is small st
+    store_id_goes e v r number head len x is small st
     (word ∙ ap (λ w. set_lane32 w 1 head) (get_or_read e.area.items e.used old (omega arith) read 0)))
 
 pub access-requires : goal.access-requires

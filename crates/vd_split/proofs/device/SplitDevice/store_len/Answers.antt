@@ -9,7 +9,7 @@ use Rattle.vd_ring.specs.declared.device.DeviceView.{DeviceView}
 use Rattle.vd_split.specs.declared.device.SplitDevice.{SplitDevice}
 use Rattle.vd_split.specs.declared.device.DeviceStep.TheVariants as step
 use Rattle.vd_split.specs.DeviceEnd.{DeviceStands}
-use Rattle.vd_split.specs.laws.DeviceGiving.{Goes, made, used_below, measure_goes}
+use Rattle.vd_split.specs.laws.DeviceGiving.{Goes, made, used_below, store_len_goes}
 use Rattle.vd_split.specs.Parts.{used_area}
 use Rattle.vd_split.proofs.device.SplitDevice.store_len.Goals as goal
 
@@ -22,7 +22,7 @@ goes e v r number head len x old area is st word read place =
     subst (λ k. Goes e (record e { area = with_item e.area (e.used + 1) x; doing = step.StoreIndex number head len }) v op.Give
     (Store (k + (e.used + 1)) x) r act.Moved) (sym place)
     (let below = used_below e v st in
-    measure_goes e v r number head len x is st
+    store_len_goes e v r number head len x is st
     (word ∙ ap (λ w. set_lane32 w 0 len) (get_or_read e.area.items (e.used + 1) old (omega arith) read 0)))
 
 pub access-requires : goal.access-requires
