@@ -59,6 +59,7 @@ fn hold(held: &mut HeapCircularBuffer<Held>, chain: Held)
 }
 
 /// Records a chain that was taken, and holds it.
+#[inline(always)]
 pub(crate) fn note(
     number: u32,
     chain: Chain,

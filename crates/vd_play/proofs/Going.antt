@@ -15,6 +15,7 @@ use Rattle.vd_machine.specs.File.{Plan}
 use Rattle.vd_play.specs.Journal.{queue_chains, queue_epochs, epoch_events, attach_event, suspend_event}
 use Rattle.vd_play.specs.Lane.{IsKept, events_before, begun_at}
 use Rattle.vd_play.specs.Progress.{IsPaced, IsStopped, IsPassing, InEpochWith, steps}
+use Rattle.vd_play.specs.Rounds.{IsSuspended}
 use Rattle.vd_play.specs.Setting.{Setting, IsLawful}
 use Rattle.vd_play.specs.Turns.{CanDrive, GuestTurn, GuestTurns, DeviceTurn}
 use Rattle.vd_play.proofs.Bounds.{Bounded, bounded, flat_more}
@@ -175,6 +176,17 @@ module _ {D E G X C : Type 0} (s : Setting D E G X C) (law : IsLawful s) (plan :
         },
         total,
       )
+
+  -- the same of the end that is kept in the lane
+  pub suspends : (words words1 words2 : RingWords) (still : Option E) (guest guest1 : G) (device device2 device3 : X) (on : Bool)
+      (p : IsPassing s plan q k r words guest device) → words1.ring ≡ words.ring → words2.ring ≡ words1.ring
+      → (t : GuestTurn s.layout s.guest words1.words p.view p.device_view guest guest1 a)
+      → (u : DeviceTurn s.layout s.party words2.words t.run.view p.device_view device device2 b) → s.party.is_done device2
+      → IsSuspended s.device s.party device2 device3 still
+      → InEpochWith s plan q on k (r + 1) words2 still guest1 device3 × (steps s guest1 device3 ≡ steps s guest device + (a + b))
+  suspends words words1 words2 still guest guest1 device device2 device3 on p same1 same2 t u done z =
+      subst (λ x. InEpochWith s plan q on k (r + 1) words2 x guest1 device3 × (steps s guest1 device3 ≡ steps s guest device + (a + b)))
+      (sym z.1) (stops words words1 words2 guest guest1 device device2 device3 z.0 p same1 same2 t u done z.2)
 
 -- a guest's turn on a lane that is still
 pub waits : {D E G X C : Type 0} (s : Setting D E G X C) (law : IsLawful s) (plan : Plan) (q k r a : ℕ) → a ≤ 4

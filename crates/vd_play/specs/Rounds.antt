@@ -1,5 +1,7 @@
 -- What the rounds of a play leave of its lanes.
-use Rattle.std.specs.Prelude.{◌≡◌, ℕ, ◌+◌, ◌<◌, Bool, true, false, Some, List, length, slice_get}
+use Rattle.std.specs.Prelude.{◌≡◌, ℕ, ◌+◌, ◌<◌, Bool, true, false, Option, Some, List, length, slice_get}
+use Rattle.vd_layout.specs.Device.{DeviceModel}
+use Rattle.vd_bus.specs.Device.{DeviceParty, IsSuspend}
 use Rattle.vd_bus.specs.Guest.{GuestParty}
 use Rattle.vd_machine.specs.File.{Plan}
 use Rattle.vd_play.specs.declared.bench.Bench.{Bench}
@@ -9,6 +11,10 @@ use Rattle.vd_play.specs.Journal.{queue_epochs}
 use Rattle.vd_play.specs.Played.{IsPlayed}
 use Rattle.vd_play.specs.Progress.{InEpoch, AllInEpoch, AllStopped, steps, all_steps}
 use Rattle.vd_play.specs.Setting.{Setting}
+
+-- a device was suspended, and the end that it handed out is kept
+abbrev pub IsSuspended : {E X C : Type 0} → DeviceModel E → DeviceParty X C → X → X → Option E → Type 0
+IsSuspended {E} e m x y still = (end : E) × (still ≡ Some end) × IsSuspend e m x y end
 
 -- a lane is one round further, and its parties have made so many steps that were no looks
 abbrev pub LaneGoes : {D E G X C : Type 0} → Setting D E G X C → Lane E → Lane E → G → G → X → X → ℕ → Type 0

@@ -2,7 +2,8 @@
 ghost use Rattle.std.specs.Prelude.{◌≡◌, ℕ, ◌≤◌, Bool};
 ghost use Rattle.vd_machine.specs.File.{Plan};
 ghost use Rattle.vd_play.specs.Progress.{InEpoch};
-ghost use Rattle.vd_play.specs.Rounds.{LaneGoes};
+ghost use Rattle.vd_play.specs.Rounds.{LaneGoes, IsSuspended};
+ghost use Rattle.vd_ring.specs.declared.device.DeviceView.{DeviceView};
 ghost use Rattle.vd_play.specs.Setting.{setting_of};
 
 use crate::draws::Draws;
@@ -10,6 +11,16 @@ use crate::floor::Lane;
 use crate::turn::{device_turn, guest_turn};
 use vd_bus::{Device, Guest};
 use vd_layout::Layout;
+
+/// Suspends a device that is done, and keeps the ring's end here. It is a function of its own, since an end is large.
+#[inline(never)]
+fn suspend<L: Layout, V: Device<L>>(still: &mut Option<L::Device>, device: &mut V)
+    requires done { V.party.is_done device.old }
+    requires held { (w : DeviceView) × V.party.holds device.old w }
+    ensures { IsSuspended L.Device.device V.party device.old device.new still.new }
+{
+    *still = Some(device.suspend());
+}
 
 /// The guest's turn and then, while it is attached, the device's. A device that is done is suspended. It answers how many
 /// steps were no look of a sleeper.
@@ -35,6 +46,6 @@ pub(crate) fn lane_round<L: Layout, G: Guest<L>, V: Device<L>>(
     if !device.done() {
         return by_guest + by_device;
     }
-    lane.still = Some(device.suspend());
+    suspend::<L, V>(&mut lane.still, device);
     by_guest + by_device
 }

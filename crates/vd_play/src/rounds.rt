@@ -41,6 +41,7 @@ fn all_done<L: Layout, G: Guest<L>, V: Device<L>>(queues: usize, bench: &Bench<G
 }
 
 /// A round of each lane, in the order of the queues. It answers how many steps were no look of a sleeper.
+#[inline(always)]
 fn round<L: Layout, G: Guest<L>, V: Device<L>>(
     floor: &mut Floor<L>,
     bench: &mut Bench<G, V>,

@@ -1,6 +1,6 @@
 use Rattle.std.proofs.Common.{rules, ◌≡◌, is_some, true, false}
 use Rattle.vd_play.specs.Setting.{setting_of}
-use Rattle.vd_play.proofs.Going.{goes_on, stops, waits_with, passing_of, in_epoch_none, can_drive}
+use Rattle.vd_play.proofs.Going.{goes_on, suspends, waits_with, passing_of, in_epoch_none, can_drive}
 use Rattle.vd_play.proofs.lane.lane_round.Goals as goal
 
 pub guest_turn-by_guest-requires : goal.guest_turn-by_guest-requires
@@ -64,6 +64,6 @@ returns-clause-goes g c = λ plan q on k r h.
     let t = c.guest_turn-by_guest.ensures.turn p.view p.device_view p.kept.driven.ring p.kept.driven.part.holds in
     let u = c.device_turn-by_device.ensures.turn t.run.view p.device_view t.run.ring p.serves.holds in
     let done : g.V.Device.party.is_done c.device_turn-by_device.new.device = search rules in
-    stops s (record { layout = g.met.L.Layout.lawful; guest = g.met.G.Guest.lawful; party = g.met.V.Device.lawful }) plan q k r _ _
-    c.guest_turn-by_guest.ensures.few c.device_turn-by_device.ensures.few _ _ _ _ _ _ _ _ _ p c.guest_turn-by_guest.ensures.ring
+    suspends s (record { layout = g.met.L.Layout.lawful; guest = g.met.G.Guest.lawful; party = g.met.V.Device.lawful }) plan q k r _ _
+    c.guest_turn-by_guest.ensures.few c.device_turn-by_device.ensures.few _ _ _ _ _ _ _ _ _ on p c.guest_turn-by_guest.ensures.ring
     c.device_turn-by_device.ensures.ring t u done c.suspend.ensures
