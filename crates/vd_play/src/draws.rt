@@ -1,5 +1,5 @@
 //! How many steps a party makes in its turn.
-ghost use Rattle.std.specs.Prelude.{◌≡◌, ◌≤◌, ℕ, Some, None};
+ghost use Rattle.std.specs.Prelude.{◌≡◌, ◌≤◌, ℕ, Some, None, is_some};
 ghost use Rattle.vd_play.specs.Draws.{next_number, drawn};
 
 /// The numbers drawn from a seed. Without one each party makes one step.
@@ -13,6 +13,13 @@ impl Draws {
         ensures { result.last ≡ seed }
     {
         Draws { last: seed }
+    }
+
+    /// Whether there is a seed.
+    pub(crate) fn are_drawn(&self) -> bool
+        ensures { result ≡ is_some self.now.last }
+    {
+        self.last.is_some()
     }
 
     /// How many steps the next turn has, 1 to 4.

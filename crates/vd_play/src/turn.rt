@@ -49,8 +49,9 @@ fn device_step<L: Layout, V: Device<L>>(words: &mut PlainWords, device: &mut V) 
     device_access::<L, V, PlainPort<'_>>(&mut port, device)
 }
 
-/// A guest's turn. It answers how many of its steps were no look of a sleeper.
-pub(crate) fn guest_turn<L: Layout, G: Guest<L>>(
+/// A guest's turn of as many steps as are drawn. It answers how many of its steps were no look of a sleeper.
+#[inline(never)]
+fn guest_drawn<L: Layout, G: Guest<L>>(
     words: &mut PlainWords,
     guest: &mut G,
     draws: &mut Draws,
@@ -74,8 +75,9 @@ pub(crate) fn guest_turn<L: Layout, G: Guest<L>>(
     most
 }
 
-/// The turn of a device that is not done. It answers how many of its steps were no look of a sleeper.
-pub(crate) fn device_turn<L: Layout, V: Device<L>>(
+/// The same of a device that is not done.
+#[inline(never)]
+fn device_drawn<L: Layout, V: Device<L>>(
     words: &mut PlainWords,
     device: &mut V,
     draws: &mut Draws,
@@ -95,4 +97,73 @@ pub(crate) fn device_turn<L: Layout, V: Device<L>>(
         }
     }
     most
+}
+
+/// A guest's turn of one step.
+fn guest_once<L: Layout, G: Guest<L>>(words: &mut PlainWords, guest: &mut G) -> u64
+    requires on { CanDrive L.layout G.party words.old.words guest.old }
+    ensures few { result ≤ 4 }
+    ensures ring { words.new.ring ≡ words.old.ring }
+    ensures turn { GuestTurns L.layout G.party words.old.words words.new.words guest.old guest.new result }
+{
+    if guest.done() {
+        return 0;
+    }
+    match guest_step::<L, G>(words, guest) {
+        Move::Looked => 0,
+        Move::Finished => 1,
+        Move::Worked => 1,
+    }
+}
+
+/// The same of a device that is not done.
+fn device_once<L: Layout, V: Device<L>>(words: &mut PlainWords, device: &mut V) -> u64
+    requires live { ¬ (V.party.is_done device.old) }
+    requires on { CanServe L.layout V.party words.old.words device.old }
+    ensures few { result ≤ 4 }
+    ensures ring { words.new.ring ≡ words.old.ring }
+    ensures turn { DeviceTurns L.layout V.party words.old.words words.new.words device.old device.new result }
+{
+    match device_step::<L, V>(words, device) {
+        Move::Looked => 0,
+        Move::Finished => 1,
+        Move::Worked => 1,
+    }
+}
+
+/// A guest's turn. It answers how many of its steps were no look of a sleeper.
+pub(crate) fn guest_turn<L: Layout, G: Guest<L>>(
+    words: &mut PlainWords,
+    guest: &mut G,
+    draws: &mut Draws,
+) -> u64
+    requires on { CanDrive L.layout G.party words.old.words guest.old }
+    ensures few { result ≤ 4 }
+    ensures ring { words.new.ring ≡ words.old.ring }
+    ensures turn { GuestTurns L.layout G.party words.old.words words.new.words guest.old guest.new result }
+{
+    if draws.are_drawn() {
+        guest_drawn::<L, G>(words, guest, draws)
+    } else {
+        guest_once::<L, G>(words, guest)
+    }
+}
+
+/// The turn of a device that is not done. It answers how many of its steps were no look of a sleeper.
+pub(crate) fn device_turn<L: Layout, V: Device<L>>(
+    words: &mut PlainWords,
+    device: &mut V,
+    draws: &mut Draws,
+) -> u64
+    requires live { ¬ (V.party.is_done device.old) }
+    requires on { CanServe L.layout V.party words.old.words device.old }
+    ensures few { result ≤ 4 }
+    ensures ring { words.new.ring ≡ words.old.ring }
+    ensures turn { DeviceTurns L.layout V.party words.old.words words.new.words device.old device.new result }
+{
+    if draws.are_drawn() {
+        device_drawn::<L, V>(words, device, draws)
+    } else {
+        device_once::<L, V>(words, device)
+    }
 }
