@@ -21,6 +21,10 @@ run_count rs = sum_by (λ r. r.count) rs
 abbrev pub most_scripted : ℕ
 most_scripted = 4000000000
 
+-- how many chains a device may hold at once
+abbrev pub most_window : ℕ
+most_window = 64
+
 -- no more chains and commands than that
 pub record IsScript (s : Script) : Type 0 where
   pub chains : run_count s.runs ≤ most_scripted

@@ -1,4 +1,5 @@
 //! What a device of a queue is.
+ghost use Rattle.vd_bus.specs.Scripts.{most_window};
 ghost use Rattle.std.specs.Prelude.{◌≡◌, ◌≢◌, ℕ, ◌<◌, ◌≤◌, ◌+◌, ◌^◌, ◌↔◌, None, IsTrue, length, List, MatchResult, OnOk, OnErr};
 ghost use Rattle.std.specs.Option.{option_copied};
 ghost use Rattle.vd_ring.specs.declared.device.DeviceView.{DeviceView};
@@ -50,7 +51,7 @@ pub trait Device<L: Layout>: Drop {
         chains: u32,
     ) -> Result<(), AllocError>
         requires free { party.attached self.old ≡ None }
-        requires window { (1 ≤ window) × (window ≤ 64) }
+        requires window { (1 ≤ window) × (window ≤ most_window) }
         ensures same { IsUnchanged party self.old self.new }
         ensures window { OnOk result (party.window self.new ≡ window) }
         ensures err { OnErr result (party.window self.new ≡ party.window self.old) }

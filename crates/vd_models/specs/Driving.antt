@@ -16,7 +16,7 @@ use Rattle.vd_layout.specs.Driver.{DriverModel}
 use Rattle.vd_bus.specs.Acts.{IsOneActMore}
 use Rattle.vd_bus.specs.Guest.{HasDriven, as_return}
 use Rattle.vd_bus.specs.Pace.{last_count}
-use Rattle.vd_bus.specs.Scripts.{chains, run_count}
+use Rattle.vd_bus.specs.Scripts.{chains, run_count, most_scripted}
 use Rattle.vd_models.specs.declared.counts.Counts.{Counts}
 use Rattle.vd_models.specs.declared.counts.Turn.{Turn}
 use Rattle.vd_models.specs.declared.counts.Turn.TheVariants.{Slept}
@@ -51,14 +51,14 @@ pub record Drives {D : Type 0} (d : DriverModel D) (x : Driven D) (v : DriverVie
   pub done : DoneIs x.stage (length x.returned) (length (chains x.script))
   pub armed : ArmedIs x.stage (d.begun x.end) v.doing v.armed
   pub op : OpIs (d.begun x.end) v.doing v.shown (d.left x.end)
-  pub few : length (chains x.script) ≤ 4000000000
+  pub few : length (chains x.script) ≤ most_scripted
   pub fits : All (Fits v.frame) (chains x.script)
   pub control : (x.script.runs ≡ [] → ⊥) → v.frame.control ≡ false
 
 -- the script's chains are counted, and there is room for all that will come back
 pub record IsPlan (x : Loaded) : Type 0 where
   pub total : x.total ≡ run_count x.script.runs
-  pub few : x.total ≤ 4000000000
+  pub few : x.total ≤ most_scripted
   pub room : x.total ≤ vec_capacity x.returned
 
 -- and it isn't done

@@ -5,9 +5,10 @@ use Rattle.vd_ring.specs.History.{running}
 use Rattle.vd_control.specs.Settings.{default}
 use Rattle.vd_bus.specs.Device.{DeviceParty}
 use Rattle.vd_bus.specs.Guest.{GuestParty}
+use Rattle.vd_bus.specs.Scripts.{most_window}
 
 abbrev pub IsWindow : ℕ → Type 0
-IsWindow n = (1 ≤ n) × (n ≤ 64)
+IsWindow n = (1 ≤ n) × (n ≤ most_window)
 
 -- a device that was never attached
 pub record IsUnused {X C : Type 0} (m : DeviceParty X C) (x : X) : Type 0 where

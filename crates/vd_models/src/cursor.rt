@@ -1,6 +1,6 @@
 //! Where a guest stands in its script.
 ghost use Rattle.std.specs.Prelude.{◌≡◌, ◌<◌, ◌≤◌, ◌+◌, Option, length};
-ghost use Rattle.vd_bus.specs.Scripts.{run_count};
+ghost use Rattle.vd_bus.specs.Scripts.{run_count, most_scripted};
 ghost use Rattle.std.specs.Option.{option_copied};
 ghost use Rattle.vd_models.specs.Cursors.{left_at, next_at, IsSettled};
 
@@ -41,7 +41,7 @@ pub(crate) fn next_chain(runs: &[Run], at: Cursor) -> Option<&Chain>
 
 /// How many chains the runs have.
 pub(crate) fn count(runs: &[Run]) -> u32
-    requires { run_count runs.now ≤ 4000000000 }
+    requires { run_count runs.now ≤ most_scripted }
     ensures { result ≡ run_count runs.now }
 {
     runs.iter().map(|run| run.count).sum()

@@ -1,5 +1,6 @@
 //! A device that takes chains up to its window, and then gives all of them back; where none is there it sleeps.
 ghost use Rattle.std.specs.Prelude.{◌≡◌, ◌≤◌, true, false, None, [], length, min, OnOk, OnErr};
+ghost use Rattle.vd_bus.specs.Scripts.{most_window};
 ghost use Rattle.vd_models.specs.Unused.{IsUnused, IsWindow, HoldsAtMost};
 ghost use Rattle.vd_models.specs.Holding.{HaveLens, capacity_of, journal_room};
 ghost use Rattle.vd_models.specs.Serving.{Holds, PacesFree, attached_of, is_done_of};
@@ -14,6 +15,9 @@ use vd_bus::{Attached, Device, Event, Journal, Order, Refused};
 use vd_control::Settings;
 use vd_layout::{DeviceEnd, Layout, Move};
 use vd_words::Port;
+
+/// How many chains a device may hold at once.
+const MOST_WINDOW: u32 = 64;
 
 /// A device that takes while fewer chains than its window are held. Where the window is full, all are begun, or no further
 /// chain is there, it gives all that it holds: the one begun last first, under IN_ORDER the one begun first. Where none is there
@@ -41,9 +45,9 @@ impl<L: Layout> ModelDevice<L> {
         ensures unused { IsUnused ⟦<ModelDevice<L> as Device<L>>⟧.party result }
         ensures faults { ⟦<ModelDevice<L> as Device<L>>⟧.party.faults result ≡ 0 }
         ensures window { ⟦<ModelDevice<L> as Device<L>>⟧.party.window result ≡ window }
-        ensures most { ⟦<ModelDevice<L> as Device<L>>⟧.party.carried result ≡ 64 }
+        ensures most { ⟦<ModelDevice<L> as Device<L>>⟧.party.carried result ≡ most_window }
     {
-        ModelDevice::with_most(alloc, window, 64)
+        ModelDevice::with_most(alloc, window, MOST_WINDOW)
     }
 
     /// The same, which holds one chain at a time, whatever its window.
