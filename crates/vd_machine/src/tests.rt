@@ -127,8 +127,7 @@ fn tells_the_document_its_keys_and_its_types(rt: HostRuntime) -> Result<(), Fail
             Some(MachineFault::M2),
         ),
         (
-            "layout = \"split\"\nsize = 4\nstart = \"still\"\nregions = [{ addr = 4096, size = 8192 }]\nqueues = [[\"r4096+10
-                w8192+64\"]]\n",
+            "layout = \"split\"\nsize = 4\nstart = \"still\"\nregions = [{ addr = 4096, size = 8192 }]\nqueues = [[\"r4096+10 w8192+64\"]]\n",
             Some(MachineFault::M2),
         ),
         (
@@ -136,8 +135,7 @@ fn tells_the_document_its_keys_and_its_types(rt: HostRuntime) -> Result<(), Fail
             Some(MachineFault::M2),
         ),
         (
-            "layout = \"split\"\nsize = 4\niova_last = 8191\nregions = [{ addr = 4096, size = 8192 }]\nqueues = [[\"r4096+10
-                w8192+64\"]]\n",
+            "layout = \"split\"\nsize = 4\niova_last = 8191\nregions = [{ addr = 4096, size = 8192 }]\nqueues = [[\"r4096+10 w8192+64\"]]\n",
             Some(MachineFault::M2),
         ),
         (
@@ -145,8 +143,7 @@ fn tells_the_document_its_keys_and_its_types(rt: HostRuntime) -> Result<(), Fail
             Some(MachineFault::M2),
         ),
         (
-            "layout = \"split\"\nsize = 4\ncommands = [\"0101\"]\nregions = [{ addr = 4096, size = 8192 }]\nqueues = [[\"r4096+10
-                w8192+64\"]]\n",
+            "layout = \"split\"\nsize = 4\ncommands = [\"0101\"]\nregions = [{ addr = 4096, size = 8192 }]\nqueues = [[\"r4096+10 w8192+64\"]]\n",
             Some(MachineFault::M2),
         ),
         (
@@ -246,8 +243,7 @@ fn tells_the_document_its_keys_and_its_types(rt: HostRuntime) -> Result<(), Fail
 fn names_the_first_broken_rule(rt: HostRuntime) -> Result<(), Fail> {
     for (text, rule) in [
         (
-            "layout = \"split\"\nsize = 3\nfeatures = [\"fast\"]\nregions = [{ addr = 4096, size = 8192 }]\nqueues = [[\"r4096+10
-                w8192+64\"]]\n",
+            "layout = \"split\"\nsize = 3\nfeatures = [\"fast\"]\nregions = [{ addr = 4096, size = 8192 }]\nqueues = [[\"r4096+10 w8192+64\"]]\n",
             MachineFault::M6,
         ),
         (
@@ -291,13 +287,11 @@ fn names_the_first_broken_rule(rt: HostRuntime) -> Result<(), Fail> {
             MachineFault::M9,
         ),
         (
-            "layout = \"split\"\nsize = 4\nregions = [{ addr = 4096, size = 8192 }, { addr = 4096, size = 8192 }]\nqueues = [[\"r4096+10
-                w8192+64\"]]\n",
+            "layout = \"split\"\nsize = 4\nregions = [{ addr = 4096, size = 8192 }, { addr = 4096, size = 8192 }]\nqueues = [[\"r4096+10 w8192+64\"]]\n",
             MachineFault::M9,
         ),
         (
-            "layout = \"split\"\nsize = 4\nregions = [{ addr = 4096, size = 8192 }, { addr = 0, size = 4097 }]\nqueues = [[\"r4096+10
-                w8192+64\"]]\n",
+            "layout = \"split\"\nsize = 4\nregions = [{ addr = 4096, size = 8192 }, { addr = 0, size = 4097 }]\nqueues = [[\"r4096+10 w8192+64\"]]\n",
             MachineFault::M9,
         ),
         (
@@ -325,8 +319,7 @@ fn names_the_first_broken_rule(rt: HostRuntime) -> Result<(), Fail> {
             MachineFault::M10,
         ),
         (
-            "layout = \"split\"\nsize = 4\nregions = [{ addr = 4096, size = 8192 }]\nqueues = [[\"r4096+1 r4096+1 r4096+1 r4096+1
-                r4096+1\"]]",
+            "layout = \"split\"\nsize = 4\nregions = [{ addr = 4096, size = 8192 }]\nqueues = [[\"r4096+1 r4096+1 r4096+1 r4096+1 r4096+1\"]]",
             MachineFault::M11,
         ),
         (
@@ -334,8 +327,7 @@ fn names_the_first_broken_rule(rt: HostRuntime) -> Result<(), Fail> {
             MachineFault::M11,
         ),
         (
-            "layout = \"split\"\nsize = 32\nqueues = [[\"r4096+1 r4096+1 r4096+1 r4096+1 r4096+1 r4096+1 r4096+1 r4096+1 r4096+1 r4096+1
-                r4096+1 r4096+1 r4096+1 r4096+1 r4096+1 r4096+1 r4096+1\"]]\nregions = [{ addr = 4096, size = 8192 }]\n",
+            "layout = \"split\"\nsize = 32\nqueues = [[\"r4096+1 r4096+1 r4096+1 r4096+1 r4096+1 r4096+1 r4096+1 r4096+1 r4096+1 r4096+1 r4096+1 r4096+1 r4096+1 r4096+1 r4096+1 r4096+1 r4096+1\"]]\nregions = [{ addr = 4096, size = 8192 }]\n",
             MachineFault::M11,
         ),
         (
