@@ -41,6 +41,19 @@ chain 0 0 15
 epoch 0 0 pass 0 1
 drained 1
 ' play
+cp examples/three-queues.toml "$work/in"
+expect 'three queues' 0 '' 'queue 0 chains 3 bytes 20
+chain 0 0 10
+chain 0 1 10
+chain 0 2 0
+epoch 0 0 pass 0 3
+queue 1 chains 0 bytes 0
+epoch 1 0 pass 0 0
+queue 2 chains 1 bytes 64
+chain 2 0 64
+epoch 2 0 pass 0 1
+drained 4
+' play
 cp examples/size-of-three.toml "$work/in"
 expect 'a size of three' 2 'vdpa: machine file breaks rule M6' '' play
 
@@ -63,6 +76,7 @@ breaks 10 'queues = .*' 'queues = [["w8192+64 r4096+10"]]'
 breaks 11 'queues = .*' 'queues = [["r4096+1 r4096+1 r4096+1 r4096+1 r4096+1"]]'
 breaks 12 'queues = .*' 'queues = [["r12287+2"]]'
 breaks 13 'queues = .*' 'queues = []'
+breaks 13 'queues = .*' 'queues = [[], [], [], [], [], [], [], [], []]'
 
 : >"$work/in"
 expect 'an empty file' 2 'vdpa: machine file breaks rule M3' '' play

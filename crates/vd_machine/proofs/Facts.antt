@@ -15,7 +15,7 @@ use Rattle.vd_machine.specs.Regions.{is_region, all_apart, are_regions}
 use Rattle.vd_machine.specs.Queues.{most_pieces, is_script, are_scripts, holds, lies_in, run_lies_in, script_lies_in, all_lie, chains_of, is_short, few}
 use Rattle.vd_model.specs.declared.map.TheConstants.Map.{MOST}
 use Rattle.vd_text.specs.declared.chains.TheConstants.{MOST_PIECES}
-use Rattle.vd_machine.specs.declared.limits.TheConstants.{MOST_CHAINS, MOST_CHAINS_OF_ALL}
+use Rattle.vd_machine.specs.declared.limits.TheConstants.{MOST_QUEUES, MOST_CHAINS, MOST_CHAINS_OF_ALL}
 use Rattle.vd_machine.specs.declared.rings.TheConstants.{MOST_PLACES, MOST_WINDOW}
 use Rattle.vd_machine.specs.declared.regions.Region.{Region}
 
@@ -100,20 +100,21 @@ piece_end rs p h lies = end_in rs p (region_parts rs h).1 lies
 
 -- the queues
 
-few_parts : (qs : List Script) → few qs ≡ true → (nat_le 1 (length qs) ≡ true) × (nat_le (length qs) 1 ≡ true)
+few_parts : (qs : List Script) → few qs ≡ true → (nat_le 1 (length qs) ≡ true) × (nat_le (length qs) MOST_QUEUES ≡ true)
     × (list_all is_short qs ≡ true) × (nat_le (sum_by chains_of qs) MOST_CHAINS_OF_ALL ≡ true)
 few_parts qs h =
-    let both = and_parts (nat_le 1 (length qs) && nat_le (length qs) 1)
+    let both = and_parts (nat_le 1 (length qs) && nat_le (length qs) MOST_QUEUES)
     (list_all is_short qs && nat_le (sum_by chains_of qs) MOST_CHAINS_OF_ALL) h in
-    let queues = and_parts (nat_le 1 (length qs)) (nat_le (length qs) 1) both.0 in
+    let queues = and_parts (nat_le 1 (length qs)) (nat_le (length qs) MOST_QUEUES) both.0 in
     let chains = and_parts (list_all is_short qs) (nat_le (sum_by chains_of qs) MOST_CHAINS_OF_ALL) both.1 in
     (queues.0, queues.1, chains.0, chains.1)
 
-pub one_queue : (qs : List Script) → few qs ≡ true → length qs ≡ 1
-one_queue qs h = let parts = few_parts qs h in
-    let low = leb-true 1 (length qs) parts.0 in
-    let high = leb-true (length qs) 1 parts.1 in
-    omega arith
+pub few_queues : (qs : List Script) → few qs ≡ true → length qs ≤ MOST_QUEUES
+few_queues qs h = leb-true (length qs) MOST_QUEUES (few_parts qs h).1
+
+-- the same, for the proofs above
+pub one_queue : (qs : List Script) → few qs ≡ true → length qs ≤ MOST_QUEUES
+one_queue qs h = few_queues qs h
 
 pub queue_is_short : (qs : List Script) (d : Script) (k : ℕ) → few qs ≡ true → k < length qs → chains_of (get_or qs k d) ≤ MOST_CHAINS
 queue_is_short qs d k h below = leb-true (chains_of (get_or qs k d)) MOST_CHAINS (all_at is_short qs d k (few_parts qs h).2 below)

@@ -10,7 +10,7 @@ use Rattle.vd_model.specs.declared.record.Script.{Script}
 use Rattle.vd_text.specs.Grammar.{all_some, run, run_within, is_lawful}
 use Rattle.vd_machine.specs.Lookup.{items_at, list_in}
 use Rattle.vd_text.specs.declared.chains.TheConstants.{MOST_PIECES}
-use Rattle.vd_machine.specs.declared.limits.TheConstants.{MOST_CHAINS, MOST_CHAINS_OF_ALL}
+use Rattle.vd_machine.specs.declared.limits.TheConstants.{MOST_QUEUES, MOST_CHAINS, MOST_CHAINS_OF_ALL}
 use Rattle.vd_machine.specs.declared.regions.Region.{Region}
 
 -- the value is a text that writes a chain, the readable pieces first
@@ -81,6 +81,6 @@ chains_of q = sum_by (λ (r : Run). r.count) q.runs
 abbrev pub is_short : Script → Bool
 is_short q = nat_le (chains_of q) MOST_CHAINS
 
--- one queue at least and one at most, and no more chains in one queue and in all than may be
+-- one queue at least and eight at most, and no more chains in one queue and in all than may be
 abbrev pub few : List Script → Bool
-few qs = (nat_le 1 (length qs) && nat_le (length qs) 1) && (list_all is_short qs && nat_le (sum_by chains_of qs) MOST_CHAINS_OF_ALL)
+few qs = (nat_le 1 (length qs) && nat_le (length qs) MOST_QUEUES) && (list_all is_short qs && nat_le (sum_by chains_of qs) MOST_CHAINS_OF_ALL)

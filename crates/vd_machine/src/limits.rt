@@ -8,6 +8,9 @@ use crate::Region;
 use vd_model::{Features, Piece, Run, Script};
 use vd_text::MOST_PIECES;
 
+/// How many data queues there may be.
+const MOST_QUEUES: usize = 8;
+
 /// How many chains a queue may have.
 pub const MOST_CHAINS: u32 = 200_000;
 
@@ -108,12 +111,12 @@ fn total_within(queues: &[Script], most: u128) -> bool
     true
 }
 
-/// Whether there is one queue, and no more chains in it and in all than may be.
+/// Whether there are one to eight queues, and no more chains in each and in all than may be.
 pub fn few(queues: &[Script]) -> bool
     ensures { result ≡ few queues.now }
 {
     1 <= queues.len()
-        && queues.len() <= 1
+        && queues.len() <= MOST_QUEUES
         && each_is_short(queues)
         && total_within(queues, MOST_CHAINS_OF_ALL as u128)
 }

@@ -110,7 +110,7 @@ fn tells_the_document_its_keys_and_its_types(rt: HostRuntime) -> Result<(), Fail
             None,
         ),
         (
-            "layout = \"split\"\nsize = 4\nregions = [{ addr = 4096, size = 8192 }]\nqueues = [[\"199999*r4096+1\", \"r4096+1\"]]",
+            "layout = \"split\"\nsize = 4\nregions = [{ addr = 4096, size = 8192 }]\nqueues = [[\"199999*r4096+1\", \"r4096+1\"], [], [], [], [], [], [], [\"200000*r4096+1\"]]",
             None,
         ),
         ("layout = \n", Some(MachineFault::M1)),
@@ -347,7 +347,15 @@ fn names_the_first_broken_rule(rt: HostRuntime) -> Result<(), Fail> {
             MachineFault::M13,
         ),
         (
-            "layout = \"split\"\nsize = 4\nregions = [{ addr = 4096, size = 8192 }]\nqueues = [[], []]",
+            "layout = \"split\"\nsize = 4\nregions = [{ addr = 4096, size = 8192 }]\nqueues = [[], [], [], [], [], [], [], [], []]",
+            MachineFault::M13,
+        ),
+        (
+            "layout = \"split\"\nsize = 4\nregions = [{ addr = 4096, size = 8192 }]\nqueues = [[], [\"200001*r4096+1\"]]",
+            MachineFault::M13,
+        ),
+        (
+            "layout = \"split\"\nsize = 4\nregions = [{ addr = 4096, size = 8192 }]\nqueues = [[\"200000*r4096+1\"], [\"200000*r4096+1\"], [\"r4096+1\"]]",
             MachineFault::M13,
         ),
         (

@@ -144,7 +144,7 @@ fn a_file_of_1048577_bytes_is_too_large(rt: HostRuntime) -> Result<(), Fail> {
     Ok(())
 }
 
-/// A file of one queue, with its size and what its queue offers.
+/// A file with this size and these queues.
 fn file(alloc: Global, size: &str, queues: &str) -> Result<String, AllocError> {
     let mut text = String::new(alloc);
     text.push_str("layout = \"split\"\nregions = [{ addr = 4096, size = 8192 }]\nsize = ")?;
@@ -188,7 +188,11 @@ fn a_file_is_played_or_refused_by_its_first_broken_rule(rt: HostRuntime) -> Resu
         ),
         ("4", "[[\"r12287+2\"]]", wrong(MachineFault::M12)),
         ("4", "[]", wrong(MachineFault::M13)),
-        ("4", "[[], []]", wrong(MachineFault::M13)),
+        (
+            "4",
+            "[[], [], [], [], [], [], [], [], []]",
+            wrong(MachineFault::M13),
+        ),
         ("4", "[[\"200001*r4096+1\"]]", wrong(MachineFault::M13)),
         ("3", "[[\"r12287+2\"], []]", wrong(MachineFault::M6)),
     ];
@@ -202,13 +206,16 @@ fn a_file_is_played_or_refused_by_its_first_broken_rule(rt: HostRuntime) -> Resu
 }
 
 #[test]
-fn a_bench_without_a_device_is_left_as_it_is(rt: HostRuntime) -> Result<(), Fail> {
+fn a_bench_of_too_few_devices_is_left_as_it_is(rt: HostRuntime) -> Result<(), Fail> {
     let alloc = rt.alloc();
-    let mut source = MemorySource::new(alloc, FILE.as_bytes(), &[])?;
+    let text = file(alloc, "4", "[[\"r4096+10 w8192+64\"], []]")?;
+    let mut source = MemorySource::new(alloc, text.as_bytes(), &[])?;
     let mut sink = MemorySink::new(alloc, 200, &[])?;
     let mut guests = Vec::new(alloc);
     guests.push(ModelGuest::new(alloc))?;
-    let devices: Vec<ModelDevice<Split>> = Vec::new(alloc);
+    guests.push(ModelGuest::new(alloc))?;
+    let mut devices: Vec<ModelDevice<Split>> = Vec::new(alloc);
+    devices.push(ModelDevice::new(alloc, 1))?;
     let mut bench = Bench { guests, devices };
     let status = vdpa(
         alloc,
@@ -219,14 +226,13 @@ fn a_bench_without_a_device_is_left_as_it_is(rt: HostRuntime) -> Result<(), Fail
         &mut no_parties::<Packed>(alloc),
     );
     let few = Status::TooFewParties {
-        need: 1,
-        guests: 1,
-        devices: 0,
+        need: 2,
+        guests: 2,
+        devices: 1,
     };
     assert!(rt; status == few);
     assert!(rt; sink.held().is_empty());
-    assert_eq!(rt; bench.guests.len(), 1);
-    assert_eq!(rt; bench.guests[0].offered(), 0);
+    assert!(rt; bench.guests.len() == 2 && bench.guests[0].offered() == 0);
     Ok(())
 }
 
