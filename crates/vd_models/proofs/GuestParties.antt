@@ -19,7 +19,7 @@ use Rattle.vd_models.specs.declared.driving.GuestStage.{GuestStage}
 use Rattle.vd_models.specs.declared.driving.GuestStage.TheVariants as stage
 use Rattle.vd_models.specs.Counting.{counted, woke}
 use Rattle.vd_models.specs.Cursors.{left_at, next_at, IsSettled}
-use Rattle.vd_models.specs.GuestStages.{BegunIs, ArmedIs, OpIs, DoneIs, is_done, first_stage, idle_owes, owes}
+use Rattle.vd_models.specs.GuestStages.{BegunIs, ArmedIs, OpIs, DoneIs, is_done, first_stage, owes}
 use Rattle.vd_models.specs.Driving.{GuestHolds, IsPlan, IsLoaded, Driven, Drives, IsDriveTurn, IsPaid, drive, owes_at, script_of, is_done_of}
 use Rattle.vd_models.proofs.GuestGoing.{idle_small}
 use Rattle.vd_models.proofs.Parties.{raised_small}

@@ -1,5 +1,5 @@
 -- From what a model device holds to what its calls do.
-use Rattle.std.proofs.Common.{◌≡◌, ◌↔◌, ℕ, ◌+◌, ◌-◌, ◌*◌, ◌<◌, ◌≤◌, ◌==◌, Bool, true, false, Option, Some, None, Result, Ok, Err, is_err, OnOk, List, [], ◌∷◌, ◌++◌, length, min, nat_lt, if◌then◌else◌, refl, sym, ◌∙◌, ap, subst, arith, inl, inr}
+use Rattle.std.proofs.Common.{◌≡◌, ◌↔◌, ℕ, ◌+◌, ◌<◌, ◌≤◌, ◌==◌, Bool, true, false, Option, Some, None, Result, Ok, Err, is_err, OnOk, List, [], ◌∷◌, ◌++◌, length, nat_lt, if◌then◌else◌, refl, sym, ◌∙◌, ap, subst, arith, inl, inr}
 use Rattle.std.specs.List.{All}
 use Rattle.std.proofs.lemmas.Bool.{cases_eq, cases_lt, eq-eqb, ne_eqb}
 use Rattle.std.proofs.lemmas.List.{drop_all, length-map}
@@ -31,9 +31,9 @@ use Rattle.vd_models.specs.declared.serving.Stage.{Stage}
 use Rattle.vd_models.specs.declared.serving.Stage.TheVariants as stage
 use Rattle.vd_models.specs.declared.window.Held.{Held}
 use Rattle.vd_models.specs.Counting.{counted, woke, move_of}
-use Rattle.vd_models.specs.Holding.{HaveLens, IsHeld, held_numbers, capacity_of, journal_room}
+use Rattle.vd_models.specs.Holding.{HaveLens, IsHeld, capacity_of, journal_room}
 use Rattle.vd_models.specs.Stages.{is_done, owes}
-use Rattle.vd_models.specs.Serving.{State, state, Serves, IsTurn, Holds, IsPaid, owes_at, attached_of, is_done_of, all_of}
+use Rattle.vd_models.specs.Serving.{State, state, Serves, IsTurn, Holds, IsPaid, owes_at, is_done_of, all_of}
 use Rattle.vd_models.proofs.Stages.{idle_small, window_most}
 
 some_same : {A : Type 0} (x y : A) (o : Option A) → o ≡ Some x → o ≡ Some y → x ≡ y

@@ -1,9 +1,8 @@
 -- What each answer of the end leaves of a model device.
-use Rattle.std.proofs.Common.{◌≡◌, ◌≢◌, ◌⊎◌, ◌↔◌, ℕ, ◌+◌, ◌*◌, ◌<◌, ◌≤◌, ◌==◌, ◌||◌, Bool, true, false, Option, Some, None, List, [], ◌∷◌, ◌++◌, length, nat_lt, refl, sym, ◌∙◌, ap, subst, arith, inl, inr}
+use Rattle.std.proofs.Common.{◌≡◌, ◌≢◌, ◌↔◌, ℕ, ◌+◌, ◌*◌, ◌<◌, ◌≤◌, ◌==◌, ◌||◌, Bool, true, false, Some, None, List, [], ◌∷◌, ◌++◌, length, nat_lt, refl, sym, ◌∙◌, ap, subst, arith, inl, inr}
 use Rattle.std.proofs.lemmas.Bool.{lt-ltb, ltb-true}
 use Rattle.std.proofs.lemmas.List.{length_push, nil_from_length}
 use Rattle.vd_model.specs.declared.chain.Piece.{Piece}
-use Rattle.vd_model.specs.declared.features.Features.{Features}
 use Rattle.vd_model.specs.declared.record.Begun.{Begun}
 use Rattle.vd_words.specs.declared.access.Op.{Op}
 use Rattle.vd_words.specs.declared.access.Op.TheVariants as op
@@ -35,11 +34,11 @@ use Rattle.vd_models.specs.declared.window.Held.{Held}
 use Rattle.vd_models.specs.Counting.{counted, woke}
 use Rattle.vd_models.specs.Holding.{IsHeld, next_held, rest_held, begun_of, held_of}
 use Rattle.vd_models.specs.Stages.{StageIs, HasWindow, ArmedIs, OpIs, owes, idle_owes, take_owes, hear_owes, taken_stage, given_stage, nothing_stage, woken_stage, waking_turn, is_done}
-use Rattle.vd_models.specs.Serving.{State, state, Serves, Opens, IsTurn, HasMore, all_of, owes_at}
+use Rattle.vd_models.specs.Serving.{State, state, Opens, IsTurn, HasMore, all_of, owes_at}
 use Rattle.vd_models.proofs.Going.{Goes, went}
 use Rattle.vd_models.proofs.Holding.{lens_begun, serving_taken, serving_given, serving_rested, held_taken, held_given, held_rested, takes_rested}
 use Rattle.vd_models.proofs.Lists.{prefix_same, prefix_push, next_is, All-next}
-use Rattle.vd_models.proofs.Stages.{at_take, at_give, at_rest, at_arm, at_hear, goes_on, wakes_at, unarming, armed_none, idle_small, nothing_small, hear_small, published_owes, published_not, not_first, not_second, apart, zero_test, some_test, window_some, window_empty}
+use Rattle.vd_models.proofs.Stages.{at_take, at_give, at_rest, at_arm, at_hear, goes_on, wakes_at, unarming, armed_none, idle_small, nothing_small, published_owes, published_not, not_first, not_second, apart, zero_test, some_test, window_empty}
 
 abbrev pub put : {E : Type 0} → E → Attached → Stage → Buffer Held → Reserved Begun → State E
 put x by st h bs = record { end = x; by = by; stage = st; held = h; begun = bs }

@@ -1,5 +1,5 @@
 -- A model guest's laws.
-use Rattle.std.specs.Prelude.{◌≡◌, ℕ, zero, suc, ◌+◌, ◌<◌, Bool, true, false, Option, Some, None, IsSome, List, [], ◌∷◌, ◌++◌, length, map, drop, slice_get}
+use Rattle.std.specs.Prelude.{◌≡◌, ℕ, zero, suc, ◌+◌, true, Option, Some, None, IsSome, List, [], ◌∷◌, ◌++◌, length, map, drop, slice_get}
 use Rattle.std.proofs.Common.{refl, sym, ◌∙◌, ap, subst, arith}
 use Rattle.std.proofs.lemmas.List.{take-append-drop, length-take-le, length-map, take_all}
 use mathlib.Core.List.{IsPrefix}
@@ -11,7 +11,7 @@ use Rattle.vd_ring.specs.declared.driver.DriverView.{DriverView}
 use Rattle.vd_ring.specs.declared.frame.Frame.{Frame}
 use Rattle.vd_ring.specs.History.{offers, collects}
 use Rattle.vd_layout.specs.Begun.{DriverOp}
-use Rattle.vd_layout.specs.Driver.{DriverModel, IsLawfulDriver, HasRoom}
+use Rattle.vd_layout.specs.Driver.{DriverModel, IsLawfulDriver}
 use Rattle.vd_bus.specs.Guest.{as_return, HasDrivenAll, CannotOffer}
 use Rattle.vd_bus.specs.Pace.{KeepsPace}
 use Rattle.vd_bus.specs.Scripts.{chains}
@@ -19,7 +19,7 @@ use Rattle.vd_models.specs.declared.counts.Counts.{Counts}
 use Rattle.vd_models.specs.declared.driving.Loaded.{Loaded}
 use Rattle.vd_models.specs.declared.driving.GuestStage.{GuestStage}
 use Rattle.vd_models.specs.declared.driving.GuestStage.TheVariants as stage
-use Rattle.vd_models.specs.Cursors.{left_at, next_at}
+use Rattle.vd_models.specs.Cursors.{next_at}
 use Rattle.vd_models.specs.GuestStages.{BegunIs, DoneIs, ArmedIs, IsStuck, is_done}
 use Rattle.vd_models.specs.Driving.{GuestHolds, Paces, script_of, offered_of, returned_of, is_done_of}
 

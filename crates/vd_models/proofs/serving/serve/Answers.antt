@@ -1,6 +1,6 @@
-use Rattle.std.proofs.Common.{rules, ◌≡◌, refl, sym, ap, ◌∙◌, length}
+use Rattle.std.proofs.Common.{refl, sym, ap, ◌∙◌}
 use Rattle.vd_models.specs.Serving.{all_of}
-use Rattle.vd_models.proofs.Turns.{went_on, found_none, armed_at, slept_at, woken_at, took, gave, rested, from_begun, more_is, full_is, can_take}
+use Rattle.vd_models.proofs.Turns.{went_on, found_none, armed_at, slept_at, woken_at, took, gave, rested, from_begun, more_is, full_is}
 use Rattle.vd_models.proofs.serving.serve.Goals as goal
 
 pub returns-in-Moved-clause-turn : goal.returns-in-Moved-clause-turn

@@ -1,4 +1,4 @@
-use Rattle.std.proofs.Common.{arith, refl, sym, ap, ◌∙◌, Some, length}
+use Rattle.std.proofs.Common.{arith, refl, sym, ap, ◌∙◌, Some}
 use Rattle.vd_bus.specs.Pace.{raised, attaches}
 use Rattle.vd_models.specs.Serving.{attached_of, state}
 use Rattle.vd_models.proofs.Parties.{opened, not_done, finished_at, looked_at, counted_at, pays, room_most, room_all}

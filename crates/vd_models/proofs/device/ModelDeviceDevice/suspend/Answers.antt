@@ -1,4 +1,4 @@
-use Rattle.std.proofs.Common.{◌≡◌, ◌+◌, arith, ap, sym, ◌∙◌, Some, length}
+use Rattle.std.proofs.Common.{◌≡◌, arith, ap, sym, ◌∙◌, length}
 use Rattle.vd_bus.specs.Device.{gave}
 use Rattle.vd_models.specs.Serving.{attached_of}
 use Rattle.vd_models.specs.Laws.{serves_law, done_law, pace_law}

@@ -1,6 +1,6 @@
-use Rattle.std.proofs.Common.{◌≡◌, true, false, arith, refl, sym, ap, ◌∙◌, Some}
+use Rattle.std.proofs.Common.{refl, sym, ap, ◌∙◌, Some}
 use Rattle.vd_bus.specs.Pace.{raised}
-use Rattle.vd_models.specs.Driving.{drive, script_of, offered_of}
+use Rattle.vd_models.specs.Driving.{drive, script_of}
 use Rattle.vd_models.proofs.Parties.{finished_at, looked_at, counted_at}
 use Rattle.vd_models.proofs.GuestParties.{opened, not_done, pays, less_paid}
 use Rattle.vd_models.proofs.guest.ModelGuestGuest.step.Goals as goal
