@@ -77,6 +77,7 @@ breaks 11 'queues = .*' 'queues = [["r4096+1 r4096+1 r4096+1 r4096+1 r4096+1"]]'
 breaks 12 'queues = .*' 'queues = [["r12287+2"]]'
 breaks 13 'queues = .*' 'queues = []'
 breaks 13 'queues = .*' 'queues = [[], [], [], [], [], [], [], [], []]'
+breaks 16 'size = 4' 'size = 4\niova_last = 8191'
 
 : >"$work/in"
 expect 'an empty file' 2 'vdpa: machine file breaks rule M3' '' play

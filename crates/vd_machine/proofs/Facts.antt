@@ -1,7 +1,7 @@
 -- What the facts that a machine keeps say of its size, its window, its regions and its queues.
 use Rattle.std.proofs.Common.{◌≡◌, ℕ, ◌+◌, ◌^◌, ◌<◌, ◌≤◌, ◌==◌, Bool, true, false, ◌&&◌, ◌||◌, cond, nat_le, nat_lt, List, [], ◌∷◌, length, get_or, sym, arith, inl, inr, lit≤}
 use Rattle.std.specs.List.{list_all, sum_by}
-use Rattle.std.proofs.lemmas.Bool.{and_parts, leb-true, eqb-true, false≢true, cases_Bool}
+use Rattle.std.proofs.lemmas.Bool.{and_parts, leb-true, ltb-true, eqb-true, false≢true, cases_Bool}
 use Rattle.std.proofs.lemmas.Bool.Decides.{nat_tests}
 use Rattle.vd_model.specs.Chains.{total, needs}
 use Rattle.vd_model.specs.declared.chain.Piece.{Piece}
@@ -11,6 +11,7 @@ use Rattle.vd_model.specs.declared.record.Script.{Script}
 use Rattle.vd_text.specs.Grammar.{has_bytes, is_lawful, is_ordered, is_within}
 use Rattle.vd_text.proofs.Order.{all_at}
 use Rattle.vd_machine.specs.Rings.{is_power, is_lawful_size, is_window}
+use Rattle.vd_machine.specs.Iovas.{is_range}
 use Rattle.vd_machine.specs.Regions.{is_region, all_apart, are_regions}
 use Rattle.vd_machine.specs.Queues.{most_pieces, is_script, are_scripts, holds, lies_in, run_lies_in, script_lies_in, all_lie, chains_of, is_short, few}
 use Rattle.vd_model.specs.declared.map.TheConstants.Map.{MOST}
@@ -60,9 +61,16 @@ size_bounds false n h = power_bounds n h
 pub window_bounds : (n : ℕ) → is_window n ≡ true → (1 ≤ n) × (n ≤ MOST_WINDOW)
 window_bounds n h = let parts = and_parts (nat_le 1 n) (nat_le n MOST_WINDOW) h in (leb-true 1 n parts.0, leb-true n MOST_WINDOW parts.1)
 
+-- the range of iovas
+
+pub range_bounds : (first last : ℕ) → is_range first last ≡ true → (first ≤ last) × (last < 2 ^ 63)
+range_bounds first last h =
+    let parts = and_parts (nat_le first last) (nat_lt last 0x8000_0000_0000_0000) h in
+    (leb-true first last parts.0, ltb-true last 0x8000_0000_0000_0000 parts.1)
+
 -- the regions
 
-region_parts : (rs : List Region) → are_regions rs ≡ true → (nat_le (length rs) MOST ≡ true) × (list_all is_region rs ≡ true)
+pub region_parts : (rs : List Region) → are_regions rs ≡ true → (nat_le (length rs) MOST ≡ true) × (list_all is_region rs ≡ true)
     × (all_apart rs ≡ true)
 region_parts rs h =
     let few_rest = and_parts (nat_le (length rs) MOST) (list_all is_region rs && all_apart rs) h in
@@ -100,7 +108,7 @@ piece_end rs p h lies = end_in rs p (region_parts rs h).1 lies
 
 -- the queues
 
-few_parts : (qs : List Script) → few qs ≡ true → (nat_le 1 (length qs) ≡ true) × (nat_le (length qs) MOST_QUEUES ≡ true)
+pub few_parts : (qs : List Script) → few qs ≡ true → (nat_le 1 (length qs) ≡ true) × (nat_le (length qs) MOST_QUEUES ≡ true)
     × (list_all is_short qs ≡ true) × (nat_le (sum_by chains_of qs) MOST_CHAINS_OF_ALL ≡ true)
 few_parts qs h =
     let both = and_parts (nat_le 1 (length qs) && nat_le (length qs) MOST_QUEUES)

@@ -1,5 +1,13 @@
+pub mod CanonAscii
+pub mod CanonBack
+pub mod CanonMeans
+pub mod CanonStrings
+pub mod CanonValues
 pub mod Collect
 pub mod Document
 pub mod Facts
+pub mod Fitting
+pub mod Laid
 pub mod Lists
 pub mod Passes
+pub mod Printed

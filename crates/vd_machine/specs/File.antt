@@ -1,5 +1,5 @@
 -- The machine that a file means, and the first rule that it breaks.
-use Rattle.std.specs.Prelude.{◌≡◌, ℕ, Bool, true, false, not, ◌==◌, if◌then◌else◌, List, [], ◌∷◌, length, Option, Some, None, option_map, unwrap_or, is_none, find, ⊤}
+use Rattle.std.specs.Prelude.{◌≡◌, ℕ, Bool, true, false, not, ◌==◌, if◌then◌else◌, List, [], ◌∷◌, length, Option, Some, None, option_map, unwrap_or, is_none, is_some, ◌&&◌, find, ⊤}
 use Rattle.std.specs.Str.Lossy.{utf8_valid_len}
 use Rattle.toml.specs.Data.{Members}
 use Rattle.toml.specs.Parse.{parse_document}
@@ -7,16 +7,18 @@ use Rattle.vd_model.specs.declared.base.Mode.{Mode}
 use Rattle.vd_model.specs.declared.base.Mode.TheVariants.{Pass}
 use Rattle.vd_model.specs.declared.features.Features.{Features}
 use Rattle.vd_model.specs.declared.record.Script.{Script}
+use Rattle.vd_machine.specs.Iovas.{range_of, are_laid}
 use Rattle.vd_machine.specs.Keys.{known_keys, complete}
 use Rattle.vd_machine.specs.Queues.{most_pieces, all_write_chains, scripts_of, all_lie, few}
 use Rattle.vd_machine.specs.Regions.{regions_of}
 use Rattle.vd_machine.specs.Rings.{layout_of, size_of, features_of, features_in, window_of}
 use Rattle.vd_machine.specs.Types.{typed}
+use Rattle.vd_machine.specs.declared.iovas.Iovas.{Iovas}
 use Rattle.vd_machine.specs.declared.regions.Region.{Region}
 use Rattle.vd_machine.specs.declared.machine.Machine.{Machine}
 use Rattle.vd_machine.specs.declared.machine.Switch.{Switch}
 use Rattle.vd_machine.specs.declared.machine.MachineFault.{MachineFault}
-use Rattle.vd_machine.specs.declared.machine.MachineFault.TheVariants.{M1, M2, M3, M4, M5, M6, M7, M8, M9, M10, M11, M12, M13}
+use Rattle.vd_machine.specs.declared.machine.MachineFault.TheVariants.{M1, M2, M3, M4, M5, M6, M7, M8, M9, M10, M11, M12, M13, M16}
 use Rattle.vd_machine.specs.declared.machine.ReadRefusal.{ReadRefusal}
 use Rattle.vd_machine.specs.declared.machine.ReadRefusal.TheVariants.{Fault, Memory}
 
@@ -80,8 +82,15 @@ regions_in ms = unwrap_or (regions_of ms) []
 abbrev pub scripts_in : Members → List Script
 scripts_in ms = unwrap_or (scripts_of (most_in ms) ms) []
 
--- the machine that a document means: it starts in the mode pass, has no switches and no control queue, and the default range of
--- iovas
+-- the range of iovas
+abbrev pub iovas_in : Members → Iovas
+iovas_in ms = unwrap_or (range_of ms) (record { first = 0; last = 0 })
+
+-- it is lawful, and each region finds a place in it
+abbrev pub has_iovas : Members → Bool
+has_iovas ms = is_some (range_of ms) && are_laid (iovas_in ms).first (iovas_in ms).last (regions_in ms)
+
+-- the machine that a document means: it starts in the mode pass, and has no switches and no control queue
 unfoldable pub plan : Members → Plan
 plan ms = record {
   packed = packed_in ms;
@@ -89,15 +98,16 @@ plan ms = record {
   features = features_or_none ms;
   window = unwrap_or (window_of ms) 0;
   start = Pass;
-  first = 4096;
-  last = 281474976710655;
+  first = (iovas_in ms).first;
+  last = (iovas_in ms).last;
   regions = regions_in ms;
   queues = scripts_in ms;
   switches = [];
   control = None;
 }
 
--- whether a document breaks a rule; what the rules from 14 on are about, no document has yet
+-- whether a document breaks a rule; it has no switches and no commands, which the rules 14 and 15 are about, and its rings never
+-- have too many words, of which rule 17 speaks
 abbrev pub breaks : Members → MachineFault → Bool
 breaks ms M1 = false
 breaks ms M2 = not (known_keys ms)
@@ -112,11 +122,12 @@ breaks ms M10 = not (all_write_chains ms)
 breaks ms M11 = is_none (scripts_of (most_in ms) ms)
 breaks ms M12 = not (all_lie (regions_in ms) (scripts_in ms))
 breaks ms M13 = not (few (scripts_in ms))
+breaks ms M16 = not (has_iovas ms)
 breaks ms _ = false
 
 -- the rules in their order
 abbrev pub rules : List MachineFault
-rules = M1 ∷ M2 ∷ M3 ∷ M4 ∷ M5 ∷ M6 ∷ M7 ∷ M8 ∷ M9 ∷ M10 ∷ M11 ∷ M12 ∷ M13 ∷ []
+rules = M1 ∷ M2 ∷ M3 ∷ M4 ∷ M5 ∷ M6 ∷ M7 ∷ M8 ∷ M9 ∷ M10 ∷ M11 ∷ M12 ∷ M13 ∷ M16 ∷ []
 
 -- the first rule that a document breaks
 unfoldable pub first_in : Members → Option MachineFault

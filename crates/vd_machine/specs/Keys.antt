@@ -9,7 +9,8 @@ use Rattle.vd_machine.specs.Lookup.{items_at, names_of, has}
 -- the keys that the file may have
 abbrev pub is_file_key : List ℕ → Bool
 is_file_key k = bytes_eq k (codes "layout") || bytes_eq k (codes "size") || bytes_eq k (codes "features")
-    || bytes_eq k (codes "window") || bytes_eq k (codes "regions") || bytes_eq k (codes "queues")
+    || bytes_eq k (codes "window") || bytes_eq k (codes "iova_first")
+    || bytes_eq k (codes "iova_last") || bytes_eq k (codes "regions") || bytes_eq k (codes "queues")
 
 -- the keys that a region may have
 abbrev pub is_region_key : List ℕ → Bool

@@ -1,4 +1,6 @@
+pub mod Canon
 pub mod File
+pub mod Iovas
 pub mod Keys
 pub mod Lookup
 pub mod Queues

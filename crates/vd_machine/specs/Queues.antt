@@ -83,4 +83,5 @@ is_short q = nat_le (chains_of q) MOST_CHAINS
 
 -- one queue at least and eight at most, and no more chains in one queue and in all than may be
 abbrev pub few : List Script → Bool
-few qs = (nat_le 1 (length qs) && nat_le (length qs) MOST_QUEUES) && (list_all is_short qs && nat_le (sum_by chains_of qs) MOST_CHAINS_OF_ALL)
+few qs = (nat_le 1 (length qs) && nat_le (length qs) MOST_QUEUES)
+    && (list_all is_short qs && nat_le (sum_by chains_of qs) MOST_CHAINS_OF_ALL)

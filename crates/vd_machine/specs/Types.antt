@@ -31,8 +31,9 @@ queue_is_typed d = option_map_or (list_all is_text) (list_in d) false
 
 -- the values of the file itself
 abbrev pub file_is_typed : Members → Bool
-file_is_typed ms = ((((is_text_at (codes "layout") ms && is_number_at (codes "size") ms) && is_list_at (codes "features") ms)
-    && is_number_at (codes "window") ms) && is_list_at (codes "regions") ms) && is_list_at (codes "queues") ms
+file_is_typed ms = ((((((is_text_at (codes "layout") ms && is_number_at (codes "size") ms) && is_list_at (codes "features") ms)
+    && is_number_at (codes "window") ms) && is_number_at (codes "iova_first") ms)
+    && is_number_at (codes "iova_last") ms) && is_list_at (codes "regions") ms) && is_list_at (codes "queues") ms
 
 -- each feature is a text
 abbrev pub features_are_typed : Members → Bool

@@ -16,6 +16,8 @@ fn is_file_key(key: &str) -> bool
         || key == "size"
         || key == "features"
         || key == "window"
+        || key == "iova_first"
+        || key == "iova_last"
         || key == "regions"
         || key == "queues"
 }

@@ -1,10 +1,13 @@
 //! The machine file: what a program is to run.
 #![tactic(auto)]
 
+mod iovas;
 mod keys;
 mod limits;
+mod listing;
 mod lookup;
 mod machine;
+mod printing;
 mod queues;
 mod reading;
 mod regions;
@@ -16,5 +19,7 @@ pub use machine::{Machine, MachineFault, ReadRefusal, Switch, To};
 pub use regions::Region;
 pub use rings::{MOST_PLACES, MOST_WINDOW};
 
+#[cfg(test)]
+mod printing_tests;
 #[cfg(test)]
 mod tests;

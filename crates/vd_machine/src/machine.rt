@@ -2,6 +2,7 @@
 ghost use Rattle.std.specs.Prelude.{◌≡◌, true, false, length, is_none};
 ghost use Rattle.vd_model.specs.declared.base.Mode.TheVariants.{Pass};
 ghost use Rattle.vd_machine.specs.Queues.{most_pieces, are_scripts, all_lie, few};
+ghost use Rattle.vd_machine.specs.Iovas.{is_range, are_laid};
 ghost use Rattle.vd_machine.specs.Regions.{are_regions};
 ghost use Rattle.vd_machine.specs.Rings.{is_lawful_size, is_window};
 
@@ -41,9 +42,9 @@ pub struct Machine {
     pub window: u32,
     /// The mode at the start.
     pub start: Mode,
-    /// The first iova that a shadow ring may use.
+    /// The first iova at which a shadow ring may have a region.
     pub first: u64,
-    /// The last iova that a shadow ring may use.
+    /// The last iova that a region may have there, below 2^63.
     pub last: u64,
     /// The guest's memory, in file order.
     pub regions: Items<Region>,
@@ -60,8 +61,8 @@ pub struct Machine {
     ghost inside: { all_lie regions queues ≡ true },
     ghost counted: { few queues ≡ true },
     ghost passing: { start ≡ Pass },
-    ghost from_default: { first ≡ 4096 },
-    ghost to_default: { last ≡ 281474976710655 },
+    ghost ranged: { is_range first last ≡ true },
+    ghost laid: { are_laid first last regions ≡ true },
     ghost unswitched: { length switches ≡ 0 },
     ghost uncontrolled: { is_none control ≡ true },
 }

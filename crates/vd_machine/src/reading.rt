@@ -4,6 +4,7 @@ ghost use Rattle.toml.specs.View.{table_view};
 ghost use Rattle.vd_machine.specs.File.{document, first, means, plan, view, first_in, Refuses, ReadsTable};
 ghost use Rattle.vd_machine.specs.declared.machine.ReadRefusal.TheVariants.{Fault, Memory};
 
+use crate::iovas::{are_laid, range_of};
 use crate::keys::{complete, known_keys};
 use crate::limits::{all_lie, few, most_pieces};
 use crate::queues::{all_write_chains, scripts_of};
@@ -90,14 +91,19 @@ fn machine_of(alloc: Global, file: &Table) -> Result<Machine, ReadRefusal>
         MachineFault::M12,
     )?;
     keep(few(queues.as_slice()), MachineFault::M13)?;
+    let iovas = given(range_of(file), MachineFault::M16)?;
+    keep(
+        are_laid(alloc, iovas, regions.as_slice())?,
+        MachineFault::M16,
+    )?;
     Ok(Machine {
         packed,
         size,
         features,
         window,
         start: Mode::Pass,
-        first: 4096,
-        last: 281474976710655,
+        first: iovas.first,
+        last: iovas.last,
         regions,
         queues,
         switches: Items::new(alloc),

@@ -131,12 +131,8 @@ fn tells_the_document_its_keys_and_its_types(rt: HostRuntime) -> Result<(), Fail
             Some(MachineFault::M2),
         ),
         (
-            "layout = \"split\"\nsize = 4\niova_first = 1\nregions = [{ addr = 4096, size = 8192 }]\nqueues = [[\"r4096+10 w8192+64\"]]\n",
-            Some(MachineFault::M2),
-        ),
-        (
-            "layout = \"split\"\nsize = 4\niova_last = 8191\nregions = [{ addr = 4096, size = 8192 }]\nqueues = [[\"r4096+10 w8192+64\"]]\n",
-            Some(MachineFault::M2),
+            "layout = \"split\"\nsize = 4\niova_last = \"1\"\nregions = [{ addr = 4096, size = 8192 }]\nqueues = [[]]\n",
+            Some(MachineFault::M4),
         ),
         (
             "layout = \"split\"\nsize = 4\nswitches = []\nregions = [{ addr = 4096, size = 8192 }]\nqueues = [[\"r4096+10 w8192+64\"]]\n",
@@ -205,6 +201,46 @@ fn tells_the_document_its_keys_and_its_types(rt: HostRuntime) -> Result<(), Fail
         (
             "layout = \"round\"\nsize = 3\nregions = [{ addr = 4096, size = 8192 }]\nqueues = [[\"r4096+10 w8192+64\"]]\n",
             Some(MachineFault::M5),
+        ),
+        (
+            "layout = \"split\"\nsize = 4\niova_first = 1\niova_last = 12287\nregions = [{ addr = 4096, size = 8192 }]\nqueues = [[]]\n",
+            None,
+        ),
+        (
+            "layout = \"split\"\nsize = 4\niova_first = 9223372036854775807\niova_last = 9223372036854775807\nregions = []\nqueues = [[]]\n",
+            None,
+        ),
+        (
+            "layout = \"split\"\nsize = 4\niova_last = 16383\nregions = [{ addr = 65536, size = 8192 }, { addr = 262144, size = 4096 }]\nqueues = [[]]\n",
+            None,
+        ),
+        (
+            "layout = \"split\"\nsize = 4\niova_last = 8191\nregions = [{ addr = 4096, size = 8192 }]\nqueues = [[]]\n",
+            Some(MachineFault::M16),
+        ),
+        (
+            "layout = \"split\"\nsize = 4\niova_last = 12286\nregions = [{ addr = 4096, size = 8192 }]\nqueues = [[]]\n",
+            Some(MachineFault::M16),
+        ),
+        (
+            "layout = \"split\"\nsize = 4\niova_last = 16382\nregions = [{ addr = 65536, size = 8192 }, { addr = 262144, size = 4096 }]\nqueues = [[]]\n",
+            Some(MachineFault::M16),
+        ),
+        (
+            "layout = \"split\"\nsize = 4\niova_first = -1\nregions = [{ addr = 4096, size = 8192 }]\nqueues = [[]]\n",
+            Some(MachineFault::M16),
+        ),
+        (
+            "layout = \"split\"\nsize = 4\niova_last = -1\nregions = []\nqueues = [[]]\n",
+            Some(MachineFault::M16),
+        ),
+        (
+            "layout = \"split\"\nsize = 4\niova_first = 8192\niova_last = 8191\nregions = []\nqueues = [[]]\n",
+            Some(MachineFault::M16),
+        ),
+        (
+            "layout = \"split\"\nsize = 4\niova_last = 8191\nregions = [{ addr = 4096, size = 8192 }]\nqueues = []\n",
+            Some(MachineFault::M13),
         ),
         (
             "layout = \"packed\"\nsize = 3\nregions = [{ addr = 4096, size = 8192 }]\nqueues = [[\"r4096+10 w8192+64\"]]\n",

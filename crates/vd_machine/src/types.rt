@@ -96,6 +96,8 @@ fn file_is_typed(file: &Table) -> bool
         && is_number_at(file, "size")
         && is_list_at(file, "features")
         && is_number_at(file, "window")
+        && is_number_at(file, "iova_first")
+        && is_number_at(file, "iova_last")
         && is_list_at(file, "regions")
         && is_list_at(file, "queues")
 }

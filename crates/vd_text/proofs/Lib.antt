@@ -1,3 +1,4 @@
+pub mod Canonical
 pub mod Cutting
 pub mod Digits
 pub mod Order

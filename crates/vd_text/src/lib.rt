@@ -2,9 +2,11 @@
 #![tactic(auto)]
 
 mod chains;
+mod printing;
 mod reading;
 
 pub use chains::{MOST_PIECES, is_chain, read_run};
+pub use printing::print_run;
 
 #[cfg(test)]
 mod tests;

@@ -1,0 +1,209 @@
+-- The document of a machine means that machine, and breaks no rule.
+use Rattle.std.proofs.Common.{◌≡◌, ℕ, ◌==◌, Bool, true, false, List, [], ◌∷◌, length, map, Option, Some, None, option_map, is_some, refl, ap, sym, arith}
+use Rattle.std.specs.List.{list_all}
+use Rattle.std.proofs.lemmas.Bool.{and_parts, eqb-true}
+use Rattle.toml.specs.Data.{Data, string}
+use Rattle.vd_model.specs.declared.base.Mode.TheVariants.{Pass}
+use Rattle.vd_model.specs.declared.record.Run.{Run}
+use Rattle.vd_model.specs.declared.record.Script.{Script}
+use Rattle.vd_text.specs.Grammar.{all_some}
+use Rattle.vd_text.proofs.Canonical.{run_back, run_within_back}
+use Rattle.vd_machine.specs.Canon.{feature_names}
+use Rattle.vd_machine.specs.File.{Plan, plan, first_in}
+use Rattle.vd_machine.specs.Iovas.{is_range, range_of, are_laid}
+use Rattle.vd_machine.specs.Keys.{known_keys, complete, if_table, region_has_known_keys, region_is_complete}
+use Rattle.vd_machine.specs.Lookup.{list_of}
+use Rattle.vd_machine.specs.Queues.{most_pieces, writes_chain, queue_writes_chains, all_write_chains, run_of, script_of, scripts_of, all_lie, few}
+use Rattle.vd_machine.specs.Regions.{are_regions, region_of, regions_of}
+use Rattle.vd_machine.specs.Rings.{is_lawful_size, is_window, layout_of, size_of, features_of, if_features, window_of}
+use Rattle.vd_machine.specs.Types.{is_text, queue_is_typed, region_is_typed, typed}
+use Rattle.vd_machine.specs.declared.regions.Region.{Region}
+use Rattle.vd_machine.proofs.CanonBack.{run_data, queue_data, sorted}
+use Rattle.vd_machine.proofs.CanonValues.{items_from, region_data}
+use Rattle.vd_machine.proofs.Fitting.{fits_run, fits_script, run_parts, script_parts}
+
+-- the facts that a machine keeps
+pub record Keeps (p : Plan) : Type 0 where
+  pub sized : is_lawful_size p.packed p.size ≡ true
+  pub windowed : is_window p.window ≡ true
+  pub placed : are_regions p.regions ≡ true
+  pub fitted : list_all (fits_script (most_pieces p.features p.size)) p.queues ≡ true
+  pub inside : all_lie p.regions p.queues ≡ true
+  pub counted : few p.queues ≡ true
+  pub ranged : is_range p.first p.last ≡ true
+  pub laid : are_laid p.first p.last p.regions ≡ true
+  pub passing : p.start ≡ Pass
+  pub unswitched : p.switches ≡ []
+  pub uncontrolled : p.control ≡ None
+
+list_from : (ds : List Data) → list_of (items_from ds) ≡ ds
+list_from [] = refl
+list_from (d ∷ ds) = ap (λ r. d ∷ r) (list_from ds)
+
+-- a test that each value passes
+module _ {A : Type 0} (f : A → Data) (t : Data → Bool) where
+  all_pass : ((a : A) → t (f a) ≡ true) → (xs : List A) → list_all t (map f xs) ≡ true
+  all_pass each [] = refl
+  all_pass each (x ∷ xs) = rw (each x) (all_pass each xs)
+
+  all_pass_where : (p : A → Bool) → ((a : A) → p a ≡ true → t (f a) ≡ true) → (xs : List A) → list_all p xs ≡ true
+      → list_all t (map f xs) ≡ true
+  all_pass_where p each [] h = refl
+  all_pass_where p each (x ∷ xs) h =
+      let parts = and_parts (p x) (list_all p xs) h in
+      rw (each x parts.0) (all_pass_where p each xs parts.1)
+
+-- reading back each element of a list
+each_back : {A : Type 0} (f : Data → Option A) (g : A → Data) (p : A → Bool) → ((a : A) → p a ≡ true → f (g a) ≡ Some a) → (xs : List A)
+    → list_all p xs ≡ true → all_some (map f (map g xs)) ≡ Some xs
+each_back f g p back [] h = refl
+each_back f g p back (x ∷ xs) h =
+    let parts = and_parts (p x) (list_all p xs) h in
+    rw (back x parts.0) (ap (option_map (λ ys. x ∷ ys)) (each_back f g p back xs parts.1))
+
+-- the parts of the machine
+
+layout_back : (p : Plan) (b : Bool) → p.packed ≡ b → layout_of (sorted p) ≡ Some p.packed
+unfolding layout_of
+layout_back p true e = rw e refl
+layout_back p false e = rw e refl
+
+size_back : (p : Plan) → Keeps p → size_of p.packed (sorted p) ≡ Some p.size
+unfolding size_of
+size_back p h = rw h.sized refl
+
+features_back_by : (a b c : Bool) → if_features (map string (feature_names (record { indirect = a; event_idx = b; in_order = c })))
+    ≡ Some (record { indirect = a; event_idx = b; in_order = c })
+features_back_by true true true = refl
+features_back_by true true false = refl
+features_back_by true false true = refl
+features_back_by true false false = refl
+features_back_by false true true = refl
+features_back_by false true false = refl
+features_back_by false false true = refl
+features_back_by false false false = refl
+
+features_back : (p : Plan) → features_of (sorted p) ≡ Some p.features
+unfolding features_of
+features_back p =
+    rw (list_from (map string (feature_names p.features))) (features_back_by p.features.indirect p.features.event_idx p.features.in_order)
+
+window_back : (p : Plan) → Keeps p → window_of (sorted p) ≡ Some p.window
+unfolding window_of
+window_back p h = rw h.windowed refl
+
+range_back : (p : Plan) → Keeps p → range_of (sorted p) ≡ Some (record { first = p.first; last = p.last })
+unfolding range_of
+range_back p h = rw h.ranged refl
+
+region_back : (r : Region) → true ≡ true → region_of (region_data r) ≡ Some r
+region_back r h = refl
+
+always : {A : Type 0} (xs : List A) → list_all (λ x. true) xs ≡ true
+always [] = refl
+always (x ∷ xs) = always xs
+
+regions_back : (p : Plan) → Keeps p → regions_of (sorted p) ≡ Some p.regions
+unfolding regions_of
+regions_back p h =
+    rw (
+      list_from (map region_data p.regions),
+      each_back region_of region_data (λ r. true) region_back p.regions (always p.regions),
+      h.placed,
+    ) refl
+
+run_data_back : (most : ℕ) (r : Run) → fits_run most r ≡ true → run_of most (run_data r) ≡ Some r
+run_data_back most r h =
+    let parts = run_parts most r h in run_within_back most r parts.once parts.count parts.some parts.pieces parts.first parts.within
+
+no_commands : {A : Type 0} (xs : List A) → (length xs == 0) ≡ true → xs ≡ []
+no_commands [] h = refl
+no_commands (x ∷ xs) h = let none : length (x ∷ xs) ≡ 0 = eqb-true (length (x ∷ xs)) 0 h in absurd (omega arith)
+
+queue_data_back : (most : ℕ) (q : Script) → fits_script most q ≡ true → script_of most (queue_data q) ≡ Some q
+queue_data_back most q h =
+    let parts = script_parts most q h in
+    rw (list_from (map run_data q.runs), each_back (run_of most) run_data (fits_run most) (run_data_back most) q.runs parts.1)
+    (ap (λ cs. Some (record { runs = q.runs; commands = cs })) (sym (no_commands q.commands parts.0)))
+
+scripts_back : (most : ℕ) (p : Plan) → list_all (fits_script most) p.queues ≡ true → scripts_of most (sorted p) ≡ Some p.queues
+unfolding scripts_of
+scripts_back most p h =
+    rw (list_from (map queue_data p.queues)) (each_back (script_of most) queue_data (fits_script most) (queue_data_back most) p.queues h)
+
+-- the rules
+
+known : (p : Plan) → known_keys (sorted p) ≡ true
+unfolding known_keys
+known p = rw (list_from (map region_data p.regions)) (all_pass region_data (if_table region_has_known_keys) (λ r. refl) p.regions)
+
+is_complete : (p : Plan) → complete (sorted p) ≡ true
+unfolding complete
+is_complete p = rw (list_from (map region_data p.regions)) (all_pass region_data (if_table region_is_complete) (λ r. refl) p.regions)
+
+queue_typed : (q : Script) → queue_is_typed (queue_data q) ≡ true
+queue_typed q = rw (list_from (map run_data q.runs)) (all_pass run_data is_text (λ r. refl) q.runs)
+
+is_typed : (p : Plan) → typed (sorted p) ≡ true
+unfolding typed
+is_typed p =
+    rw (
+      list_from (map string (feature_names p.features)),
+      all_pass string is_text (λ s. refl) (feature_names p.features),
+      list_from (map region_data p.regions),
+      all_pass region_data region_is_typed (λ r. refl) p.regions,
+      list_from (map queue_data p.queues),
+      all_pass queue_data queue_is_typed queue_typed p.queues,
+    ) refl
+
+run_writes : (most : ℕ) (r : Run) → fits_run most r ≡ true → writes_chain (run_data r) ≡ true
+run_writes most r h =
+    let parts = run_parts most r h in
+    ap is_some (run_back r parts.once parts.count parts.some parts.pieces parts.first)
+
+queue_writes : (most : ℕ) (q : Script) → fits_script most q ≡ true → queue_writes_chains (queue_data q) ≡ true
+queue_writes most q h =
+    rw (list_from (map run_data q.runs))
+    (all_pass_where run_data writes_chain (fits_run most) (run_writes most) q.runs (script_parts most q h).1)
+
+all_write : (most : ℕ) (p : Plan) → list_all (fits_script most) p.queues ≡ true → all_write_chains (sorted p) ≡ true
+unfolding all_write_chains
+all_write most p h =
+    rw (list_from (map queue_data p.queues))
+    (all_pass_where queue_data queue_writes_chains (fits_script most) (queue_writes most) p.queues h)
+
+pub means_back : (p : Plan) → Keeps p → plan (sorted p) ≡ p
+unfolding plan
+means_back p h =
+    rw (
+      layout_back p p.packed refl,
+      size_back p h,
+      features_back p,
+      window_back p h,
+      range_back p h,
+      regions_back p h,
+      scripts_back (most_pieces p.features p.size) p h.fitted,
+      h.passing,
+      h.unswitched,
+      h.uncontrolled,
+    ) refl
+
+pub breaks_none : (p : Plan) → Keeps p → first_in (sorted p) ≡ None
+unfolding first_in
+breaks_none p h =
+    rw (
+      known p,
+      is_complete p,
+      is_typed p,
+      layout_back p p.packed refl,
+      size_back p h,
+      features_back p,
+      window_back p h,
+      regions_back p h,
+      all_write (most_pieces p.features p.size) p h.fitted,
+      scripts_back (most_pieces p.features p.size) p h.fitted,
+      h.inside,
+      h.counted,
+      range_back p h,
+      h.laid,
+    ) refl

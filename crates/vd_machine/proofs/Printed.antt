@@ -1,0 +1,67 @@
+-- The canonical text of a machine breaks no rule and means that machine.
+use Rattle.std.proofs.Common.{◌≡◌, ℕ, true, List, [], ◌∷◌, ◌++◌, length, Option, Some, None, is_none, refl, ap, ◌∙◌, arith, append_assoc}
+use Rattle.std.proofs.lemmas.Bool.{false≢true}
+use Rattle.vd_machine.specs.Canon.{canon}
+use Rattle.vd_machine.specs.File.{Plan, view, document, first, first_in, means}
+use Rattle.vd_machine.specs.Queues.{most_pieces}
+use Rattle.vd_machine.specs.declared.machine.Machine.{Machine}
+use Rattle.vd_machine.proofs.CanonAscii.{canon_is_utf8}
+use Rattle.vd_machine.proofs.CanonBack.{Fits, reads, sorted}
+use Rattle.vd_machine.proofs.CanonMeans.{Keeps, means_back, breaks_none}
+use Rattle.vd_machine.proofs.Document.{document_text}
+use Rattle.vd_machine.proofs.Facts.{size_bounds, window_bounds, region_parts, range_bounds, few_parts}
+use Rattle.vd_machine.proofs.Fitting.{scripts_fit}
+
+none_of : {A : Type 0} (xs : List A) → length xs ≡ 0 → xs ≡ []
+none_of [] h = refl
+none_of (x ∷ xs) h = absurd (omega arith)
+
+nothing_of : {A : Type 0} (o : Option A) → is_none o ≡ true → o ≡ None
+nothing_of None h = refl
+nothing_of (Some x) h = absurd (false≢true h)
+
+machine_keeps : (m : Machine) → Keeps (view m)
+machine_keeps m = record {
+  sized = m.sized;
+  windowed = m.windowed;
+  placed = m.placed;
+  fitted = scripts_fit (most_pieces m.features m.size) m.regions m.queues m.placed m.fitted m.inside (few_parts m.queues m.counted).2;
+  inside = m.inside;
+  counted = m.counted;
+  ranged = m.ranged;
+  laid = m.laid;
+  passing = m.passing;
+  unswitched = none_of m.switches m.unswitched;
+  uncontrolled = nothing_of m.control m.uncontrolled;
+}
+
+keeps_fit : (p : Plan) → Keeps p → Fits p
+keeps_fit p h =
+    let size = size_bounds p.packed p.size h.sized in
+    let window = window_bounds p.window h.windowed in
+    let range = range_bounds p.first p.last h.ranged in record {
+      size = omega (arith, size.1);
+      window = omega (arith, window.1);
+      first = omega (arith, range.0, range.1);
+      last = range.1;
+      regions = (region_parts p.regions h.placed).1;
+      queues = h.fitted;
+    }
+
+document_is : (p : Plan) → Keeps p → document (canon p) ≡ Some (sorted p)
+document_is p h = document_text (canon p) (canon_is_utf8 p (keeps_fit p h)) ∙ reads p (keeps_fit p h)
+
+means_canon : (p : Plan) → Keeps p → means (canon p) ≡ Some p
+unfolding means
+means_canon p h = rw (document_is p h) (ap Some (means_back p h))
+
+unbroken : (p : Plan) → Keeps p → first (canon p) ≡ None
+unfolding first first_in
+unbroken p h = rw (document_is p h) (breaks_none p h)
+
+pub printed_back : (m : Machine) → (first (canon (view m)) ≡ None) × (means (canon (view m)) ≡ Some (view m))
+printed_back m = (unbroken (view m) (machine_keeps m), means_canon (view m) (machine_keeps m))
+
+-- what is appended in two steps
+pub then : (old mid new front rest : List ℕ) → mid ≡ old ++ front → new ≡ mid ++ rest → new ≡ old ++ (front ++ rest)
+then old mid new front rest h i = i ∙ ap (λ (xs : List ℕ). xs ++ rest) h ∙ append_assoc old front rest
