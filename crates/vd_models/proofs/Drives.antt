@@ -25,7 +25,7 @@ use Rattle.vd_models.specs.declared.driving.GuestStage.TheVariants as stage
 use Rattle.vd_models.specs.Counting.{counted, woke}
 use Rattle.vd_models.specs.Cursors.{next_at}
 use Rattle.vd_models.specs.GuestStages.{BegunIs, DoneIs, ArmedIs, OpIs, is_done, owes, collected_stage}
-use Rattle.vd_models.specs.Driving.{Driven, drive, DriveOpens, BeginsDrive, IsDriveTurn}
+use Rattle.vd_models.specs.Driving.{Driven, drive, DriveOpens, Begins, IsDriveTurn}
 use Rattle.vd_models.proofs.GuestGoing.{Goes, went, goes_on}
 use Rattle.vd_models.proofs.Lists.{prefix_same}
 use Rattle.vd_models.specs.declared.driving.Loaded.{Loaded}
@@ -186,21 +186,24 @@ module _ {P D : Type 0} {port : PortModel P} {d : DriverModel D} (law : IsLawful
       (d.begun y) h.says.0 x.begun) g.armed g.op
       (no_sleep act.Moved (λ z. cc z)) (not_woken h.op act.Moved (λ z. cc z)) (omega (arith, g.paid))
 
--- from before the operation was begun
+-- an access from before its operation was begun: it is the access after that
 pub from_begun : {P D : Type 0} {port : PortModel P} {d : DriverModel D} {p q : P} {v : DriverView} {y : Driven D} {t : Turn}
-    (x : Loaded) (a b : D) → BeginsDrive d v (drive a x) (drive b x) → IsDriveTurn port d p q v (drive b x) y t
-    → IsDriveTurn port d p q v (drive a x) y t
-from_begun x a b go h = record {
-  op = h.op;
-  access = h.access;
-  got = h.got;
-  was_next = h.was_next;
-  moved = h.moved;
-  drives = h.drives;
-  grows = h.grows;
-  acts = h.acts;
-  looked = h.looked;
-  slept = h.slept;
-  woken = h.woken;
-  paid = omega (arith, h.paid, go.owes);
-}
+    (x : Loaded) (a b : D) → Begins d (drive a x) (drive b x) → DriveOpens d (drive a x) v
+    → (DriveOpens d (drive b x) v → IsDriveTurn port d p q v (drive b x) y t) → IsDriveTurn port d p q v (drive a x) y t
+from_begun {v = v} x a b next opens f =
+    let go = next v opens in
+    let h = f go.opens in
+    record {
+      op = h.op;
+      access = h.access;
+      got = h.got;
+      was_next = h.was_next;
+      moved = h.moved;
+      drives = h.drives;
+      grows = h.grows;
+      acts = h.acts;
+      looked = h.looked;
+      slept = h.slept;
+      woken = h.woken;
+      paid = omega (arith, h.paid, go.owes);
+    }

@@ -27,7 +27,7 @@ use Rattle.vd_models.specs.declared.serving.Stage.{Stage}
 use Rattle.vd_models.specs.Counting.{counted, woke}
 use Rattle.vd_models.specs.Holding.{IsHeld}
 use Rattle.vd_models.specs.Stages.{StageIs, HasWindow, ArmedIs, OpIs, owes, is_done}
-use Rattle.vd_models.specs.Serving.{State, state, Opens, BeginsNext, IsTurn, HasMore, all_of}
+use Rattle.vd_models.specs.Serving.{State, state, Opens, Begins, IsTurn, HasMore, all_of}
 use Rattle.vd_models.proofs.Going.{Goes, went}
 use Rattle.vd_models.proofs.Lists.{prefix_same}
 use Rattle.vd_models.proofs.Stages.{goes_on}
@@ -163,28 +163,32 @@ module _ {P E : Type 0} {port : PortModel P} {e : DeviceModel E} (law : IsLawful
       (e.begun y) s.says.0 v.stage) v.window g.armed g.op
       (no_sleep act.Moved (λ z. cc z)) (not_woken s.op act.Moved (λ z. cc z)) (λ z. cc z) (omega (arith, g.paid))
 
--- from before the operation was begun
+-- an access from before its operation was begun: it is the access after that
 pub from_begun : {P E : Type 0} {port : PortModel P} {e : DeviceModel E} {p q : P} {w : DeviceView} {begun : Reserved Begun} {y : State E}
-    {t : Turn} (a b : Session E) → BeginsNext e w (state a begun) (state b begun) → b.held ≡ a.held
-    → IsTurn port e p q w (state b begun) y t → IsTurn port e p q w (state a begun) y t
-from_begun a b go held h = record {
-  op = h.op;
-  access = h.access;
-  got = h.got;
-  was_next = h.was_next;
-  moved = h.moved;
-  serves = h.serves;
-  grows = h.grows;
-  acts = h.acts;
-  begun = h.begun;
-  room = h.room;
-  capacity = h.capacity ∙ ap (λ (z : Buffer Held). z.capacity) held;
-  looked = h.looked;
-  slept = h.slept;
-  woken = h.woken;
-  rested = h.rested;
-  paid = omega (arith, h.paid, go.owes);
-}
+    {t : Turn} {more : Bool} (a b : Session E) → Begins e a b more → b.held ≡ a.held → HasMore more a.by begun.items
+    → Opens e (state a begun) w → (Opens e (state b begun) w → IsTurn port e p q w (state b begun) y t)
+    → IsTurn port e p q w (state a begun) y t
+from_begun {w = w} {begun = begun} a b next held more opens f =
+    let go = next begun w opens more in
+    let h = f go.opens in
+    record {
+      op = h.op;
+      access = h.access;
+      got = h.got;
+      was_next = h.was_next;
+      moved = h.moved;
+      serves = h.serves;
+      grows = h.grows;
+      acts = h.acts;
+      begun = h.begun;
+      room = h.room;
+      capacity = h.capacity ∙ ap (λ (z : Buffer Held). z.capacity) held;
+      looked = h.looked;
+      slept = h.slept;
+      woken = h.woken;
+      rested = h.rested;
+      paid = omega (arith, h.paid, go.owes);
+    }
 
 -- the test whether chains are still to begin
 pub more_is : (n m : ℕ) (by : Attached) (begun : List Begun) → n ≡ length begun → m ≡ all_of by → HasMore (nat_lt n m) by begun

@@ -1,4 +1,4 @@
-use Rattle.std.proofs.Common.{◌≡◌, ◌+◌, true, false, sym, length, subst, List, arith}
+use Rattle.std.proofs.Common.{◌≡◌, ◌+◌, ◌==◌, true, false, sym, length, subst, List, arith}
 use Rattle.std.proofs.lemmas.Bool.{eq-eqb, ne_eqb}
 use Rattle.vd_model.specs.declared.record.Run.{Run}
 use Rattle.vd_bus.specs.Scripts.{chains}
@@ -11,75 +11,59 @@ use Rattle.vd_models.proofs.driving.drive.Goals as goal
 
 pub returns-in-Moved-clause-turn : goal.returns-in-Moved-clause-turn
 returns-in-Moved-clause-turn g c = λ v opens own.
-    let law = g.met.L.Layout.lawful.driver_end in
-    let go = c.begin_drive.ensures.next v opens in
-    let h = c.in-Moved.ensures v go.opens.drives.stands own in
-    from_begun c.args.booted.now.loaded c.args.booted.now.end c.begin_drive.new.end go (went_on law _ go.opens h)
+    from_begun c.args.booted.now.loaded c.args.booted.now.end c.begin_drive.new.end c.begin_drive.ensures.next opens
+    (λ o. went_on g.met.L.Layout.lawful.driver_end _ o (c.in-Moved.ensures v o.drives.stands own))
 
 pub returns-in-Armed-clause-turn : goal.returns-in-Armed-clause-turn
 returns-in-Armed-clause-turn g c = λ v opens own.
-    let law = g.met.L.Layout.lawful.driver_end in
-    let go = c.begin_drive.ensures.next v opens in
-    let h = c.in-Armed.ensures v go.opens.drives.stands own in
-    from_begun c.args.booted.now.loaded c.args.booted.now.end c.begin_drive.new.end go (armed_at law _ go.opens h)
+    from_begun c.args.booted.now.loaded c.args.booted.now.end c.begin_drive.new.end c.begin_drive.ensures.next opens
+    (λ o. armed_at g.met.L.Layout.lawful.driver_end _ o (c.in-Armed.ensures v o.drives.stands own))
 
 pub returns-in-Asleep-clause-turn : goal.returns-in-Asleep-clause-turn
 returns-in-Asleep-clause-turn g c = λ v opens own.
-    let law = g.met.L.Layout.lawful.driver_end in
-    let go = c.begin_drive.ensures.next v opens in
-    let h = c.in-Asleep.ensures v go.opens.drives.stands own in
-    from_begun c.args.booted.now.loaded c.args.booted.now.end c.begin_drive.new.end go (slept_at law _ go.opens h)
+    from_begun c.args.booted.now.loaded c.args.booted.now.end c.begin_drive.new.end c.begin_drive.ensures.next opens
+    (λ o. slept_at g.met.L.Layout.lawful.driver_end _ o (c.in-Asleep.ensures v o.drives.stands own))
 
 pub returns-in-Nothing-clause-turn : goal.returns-in-Nothing-clause-turn
 returns-in-Nothing-clause-turn g c = λ v opens own.
-    let law = g.met.L.Layout.lawful.driver_end in
-    let go = c.begin_drive.ensures.next v opens in
-    let h = c.in-Nothing.ensures v go.opens.drives.stands own in
-    from_begun c.args.booted.now.loaded c.args.booted.now.end c.begin_drive.new.end go (rw c.after_nothing-loaded.ensures
-    (found_none law _ go.opens own h))
+    from_begun c.args.booted.now.loaded c.args.booted.now.end c.begin_drive.new.end c.begin_drive.ensures.next opens
+    (λ o. rw c.after_nothing-loaded.ensures (found_none g.met.L.Layout.lawful.driver_end _ o own
+    (c.in-Nothing.ensures v o.drives.stands own)))
 
 pub returns-in-Awake-clause-turn : goal.returns-in-Awake-clause-turn
 returns-in-Awake-clause-turn g c = λ v opens own.
-    let law = g.met.L.Layout.lawful.driver_end in
-    let go = c.begin_drive.ensures.next v opens in
-    let h = c.in-Awake.ensures v go.opens.drives.stands own in
-    from_begun c.args.booted.now.loaded c.args.booted.now.end c.begin_drive.new.end go (rw c.after_waking-loaded.ensures
-    (rw c.waking-turn.ensures (woken_at law _ c.armed.result go.opens h (sym c.armed.ensures))))
+    from_begun c.args.booted.now.loaded c.args.booted.now.end c.begin_drive.new.end c.begin_drive.ensures.next opens
+    (λ o. rw c.after_waking-loaded.ensures (rw c.waking-turn.ensures (woken_at g.met.L.Layout.lawful.driver_end _ c.armed.result o
+    (c.in-Awake.ensures v o.drives.stands own) (sym c.armed.ensures))))
 
 pub returns-in-Offered-clause-turn : goal.returns-in-Offered-clause-turn
 returns-in-Offered-clause-turn g c = λ v opens own.
-    let law = g.met.L.Layout.lawful.driver_end in
-    let go = c.begin_drive.ensures.next v opens in
-    let h = c.in-Offered.ensures v go.opens.drives.stands own in
     let l = c.args.booted.now.loaded in
-    from_begun c.args.booted.now.loaded c.args.booted.now.end c.begin_drive.new.end go (rw c.after_offer-loaded.ensures
-    (offered_at law _ c.settle-loaded.result c.in-Offered.field-0 c.args.turns go.opens h
+    from_begun c.args.booted.now.loaded c.args.booted.now.end c.begin_drive.new.end c.begin_drive.ensures.next opens
+    (λ o. rw c.after_offer-loaded.ensures (offered_at g.met.L.Layout.lawful.driver_end _ c.settle-loaded.result c.in-Offered.field-0
+    c.args.turns o (c.in-Offered.ensures v o.drives.stands own)
     (subst (λ (rs : List Run). left_at rs c.settle-loaded.result ≡ left_at rs
     (record { run = l.at.run; used = l.at.used + 1 })) c.as_slice.ensures c.settle-loaded.ensures.left) (subst
     (λ (rs : List Run). IsSettled rs c.settle-loaded.result) c.as_slice.ensures c.settle-loaded.ensures.settled)))
 
 pub returns-then-len-loaded-clause-turn : goal.returns-then-len-loaded-clause-turn
 returns-then-len-loaded-clause-turn g c = λ v opens own.
-    let law = g.met.L.Layout.lawful.driver_end in
-    let go = c.begin_drive.ensures.next v opens in
-    let h = c.in-Collected.ensures v go.opens.drives.stands own in
     let l = c.args.booted.now.loaded in
     let len : c.len.result ≡ length c.keep.new.list.items = omega (arith, c.len.ensures, c.keep.new.list.ok) in
     let total = total_is l c.requires.plan in
-    from_begun c.args.booted.now.loaded c.args.booted.now.end c.begin_drive.new.end go (collected_at law _ c.keep.new.list.items
-    c.in-Collected.number c.in-Collected.len c.in-Collected.head true go.opens h c.keep.ensures.items
+    from_begun c.args.booted.now.loaded c.args.booted.now.end c.begin_drive.new.end c.begin_drive.ensures.next opens
+    (λ o. collected_at g.met.L.Layout.lawful.driver_end _ c.keep.new.list.items
+    c.in-Collected.number c.in-Collected.len c.in-Collected.head true o (c.in-Collected.ensures v o.drives.stands own) c.keep.ensures.items
     (sym (eq-eqb (length c.keep.new.list.items) (length (chains l.script)) (omega (arith, len, total, c.if-len-loaded.true)))))
 
 pub returns-else-len-loaded-clause-turn : goal.returns-else-len-loaded-clause-turn
 returns-else-len-loaded-clause-turn g c = λ v opens own.
-    let law = g.met.L.Layout.lawful.driver_end in
-    let go = c.begin_drive.ensures.next v opens in
-    let h = c.in-Collected.ensures v go.opens.drives.stands own in
     let l = c.args.booted.now.loaded in
     let len : c.len.result ≡ length c.keep.new.list.items = omega (arith, c.len.ensures, c.keep.new.list.ok) in
     let total = total_is l c.requires.plan in
-    from_begun c.args.booted.now.loaded c.args.booted.now.end c.begin_drive.new.end go (collected_at law _ c.keep.new.list.items
-    c.in-Collected.number c.in-Collected.len c.in-Collected.head false go.opens h c.keep.ensures.items
+    from_begun c.args.booted.now.loaded c.args.booted.now.end c.begin_drive.new.end c.begin_drive.ensures.next opens
+    (λ o. collected_at g.met.L.Layout.lawful.driver_end _ c.keep.new.list.items
+    c.in-Collected.number c.in-Collected.len c.in-Collected.head false o (c.in-Collected.ensures v o.drives.stands own) c.keep.ensures.items
     (sym (ne_eqb (length c.keep.new.list.items) (length (chains l.script))
     (λ z. c.if-len-loaded.false (omega (arith, len, total, z))))))
 
