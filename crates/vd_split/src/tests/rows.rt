@@ -265,8 +265,8 @@ fn rings<L: Layout>(ring: &mut PlainRing<L>, c: &Chain) -> Option<(bool, bool)> 
     Some((ring.word(15) != before.0, ring.word(16) != before.1))
 }
 
-/// Both sides arm where entry `event` is next, and are disarmed, which leaves their event words. The first entry, of so many, for which one of them is rung though its
-/// event word doesn't name it, or isn't though the word does. Indices go round at 65,536.
+/// Both sides arm where entry `event` is next, and are disarmed, which leaves their event words. The first entry, of so many, for which
+/// one of them is rung though its event word doesn't name it, or isn't though the word does. Indices go round at 65,536.
 fn first_other_bell<L: Layout>(
     ring: &mut PlainRing<L>,
     c: &Chain,
