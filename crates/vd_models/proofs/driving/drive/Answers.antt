@@ -1,4 +1,4 @@
-use Rattle.std.proofs.Common.{◌≡◌, ◌+◌, ◌==◌, true, false, sym, length, subst, List, arith}
+use Rattle.std.proofs.Common.{◌≡◌, ◌+◌, true, false, sym, length, subst, List, arith}
 use Rattle.std.proofs.lemmas.Bool.{eq-eqb, ne_eqb}
 use Rattle.vd_model.specs.declared.record.Run.{Run}
 use Rattle.vd_bus.specs.Scripts.{chains}
