@@ -7,6 +7,7 @@ mod reading;
 
 pub use chains::{MOST_PIECES, is_chain, read_run};
 pub use printing::print_run;
+pub use reading::{cut_at, number_in};
 
 #[cfg(test)]
 mod tests;
