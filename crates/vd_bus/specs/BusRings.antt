@@ -1,11 +1,10 @@
 -- The calls on one queue of a bus: when a call is refused, and what it leaves.
-use Rattle.std.specs.Prelude.{ℕ, ◌/◌, ◌^◌, Bool, true, not, ◌&&◌, ◌||◌, ◌==◌, nat_le, if◌then◌else◌, Option, Some, None}
+use Rattle.std.specs.Prelude.{ℕ, ◌/◌, ◌^◌, not, ◌&&◌, ◌==◌, nat_le, if◌then◌else◌, Option, Some, None}
 use Rattle.std.specs.Option.{option_map_or}
 use Rattle.vd_uapi.specs.declared.vring_state.VringState.{VringState}
 use Rattle.vd_uapi.specs.declared.vring_addr.VringAddr.{VringAddr}
 use Rattle.vd_bus.specs.declared.fault.BusFault.{BusFault}
 use Rattle.vd_bus.specs.declared.fault.BusFault.TheVariants.{WrongStatus, NoSuchQueue, BadNum, NotSuspended, BadBase}
-use Rattle.vd_bus.specs.declared.bus.vring.Vring.{Vring}
 use Rattle.vd_bus.specs.Bus.{BusState, is_lawful_size, is_lawful_base, fresh_base, is_queue, vring_of, with_vring}
 use Rattle.vd_bus.specs.BusStatus.{is_driver_ok, is_features_ok, is_running, features_accepted}
 use Rattle.vd_bus.specs.Orders.{Terms}

@@ -40,8 +40,8 @@ pub fn addr(index: u32, desc: u64) -> VringAddr {
         index,
         flags: 0,
         desc,
-        used: desc + 160,
-        avail: desc + 64,
+        used: 0,
+        avail: 0,
         log: 0,
     }
 }
