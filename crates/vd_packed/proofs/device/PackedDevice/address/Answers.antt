@@ -1,4 +1,4 @@
-use Rattle.std.proofs.Common.{◌≡◌, ℕ, ◌*◌, true, false, sym, ◌∙◌, subst, arith}
+use Rattle.std.proofs.Common.{◌≡◌, ℕ, ◌*◌, false, sym, ◌∙◌, subst}
 use Rattle.vd_words.specs.declared.access.Access.TheVariants.{Load}
 use Rattle.vd_words.specs.declared.access.Op.TheVariants as op
 use Rattle.vd_words.specs.Model.{PortModel}
@@ -11,7 +11,7 @@ use Rattle.vd_packed.specs.declared.device.PackedDevice.{PackedDevice}
 use Rattle.vd_packed.specs.Telling.{act_of}
 use Rattle.vd_packed.specs.DeviceEnd.{DeviceStands}
 use Rattle.vd_packed.specs.laws.DeviceGiving.{Goes, made}
-use Rattle.vd_packed.specs.DeviceTabling.{pointer_goes}
+use Rattle.vd_packed.specs.laws.DeviceTabling.{pointer_goes}
 use Rattle.vd_packed.specs.laws.DeviceTaken.{loaded_goes, loaded_chain, may_take}
 use Rattle.vd_packed.specs.laws.DeviceTaking.{Loaded, loaded_of, address_next, few_pieces}
 use Rattle.vd_packed.specs.Loaded.{names_its_table}
