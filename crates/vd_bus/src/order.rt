@@ -8,13 +8,13 @@ use vd_model::{Base, Features, Map, Mode};
 /// By what a device is attached to a ring. Contracts see what it says.
 #[derive(Drop)]
 pub struct Order {
-    queue: u32,
-    ring: u32,
-    base: Base,
-    count: u32,
-    size: u32,
-    features: Features,
-    map: Map,
+    pub(crate) queue: u32,
+    pub(crate) ring: u32,
+    pub(crate) base: Base,
+    pub(crate) count: u32,
+    pub(crate) size: u32,
+    pub(crate) features: Features,
+    pub(crate) map: Map,
 }
 
 impl Model for Order {
