@@ -284,7 +284,7 @@ unarmed_small false true finished g s a b = absurd (cc)
 unarmed_small false false false g s a b = omega arith
 unarmed_small false false true g s a b = omega arith
 
-winding_small : (ga sa finished g s : Bool) → idle_owes true (roused ga sa true finished) g s ≤ 6
+pub winding_small : (ga sa finished g s : Bool) → idle_owes true (roused ga sa true finished) g s ≤ 6
 winding_small true sa finished g s = omega arith
 winding_small false true finished g s = omega arith
 winding_small false false false g s = omega arith

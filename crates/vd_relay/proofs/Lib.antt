@@ -5,3 +5,5 @@ pub mod Calm
 pub mod Ops
 pub mod GuestGoing
 pub mod Guests
+pub mod ShadowGoing
+pub mod Shadows

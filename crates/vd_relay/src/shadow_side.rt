@@ -83,11 +83,11 @@ pub(crate) fn shadow_turn<L: Layout, Q: Port>(
             Turn::Worked
         }
         DriverAct::Armed => {
-            state.stage = if state.winding {
-                after_sleep::<L>(state)
-            } else {
-                Stage::HearingGuest
-            };
+            if state.winding {
+                state.stage = after_sleep::<L>(state);
+                return Turn::Worked;
+            }
+            state.stage = Stage::HearingGuest;
             Turn::Worked
         }
         DriverAct::Awake => {
