@@ -363,3 +363,12 @@ module _ {E D : Type 0} (e : DeviceModel E) (d : DriverModel D) (law : IsLawfulD
           turned_owes e d law ldr z r w v f a.finished r.stage w.shown v.shown opens ga sa,
         );
       }
+
+-- it doesn't arm
+pub roused_arms : (ga sa winding finished : Bool) → (roused ga sa winding finished ≡ stage.ArmingGuest → ⊥)
+    × (roused ga sa winding finished ≡ stage.ArmingShadow → ⊥)
+roused_arms true sa winding finished = (λ is. cc is, λ is. cc is)
+roused_arms false true winding finished = (λ is. cc is, λ is. cc is)
+roused_arms false false false finished = (λ is. cc is, λ is. cc is)
+roused_arms false false true false = (λ is. cc is, λ is. cc is)
+roused_arms false false true true = (λ is. cc is, λ is. cc is)

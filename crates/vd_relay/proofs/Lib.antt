@@ -7,3 +7,5 @@ pub mod GuestGoing
 pub mod Guests
 pub mod ShadowGoing
 pub mod Shadows
+pub mod Steps
+pub mod Begins

@@ -305,3 +305,13 @@ guest_idle stage.DisarmingShadow DeviceOp.disarm side h = absurd h
 guest_idle stage.DisarmingShadow DeviceOp.signal side h = absurd h
 guest_idle stage.Resting o side h = absurd (cc)
 guest_idle stage.Rested o side h = absurd (cc)
+
+pub guest_rested : (o : DeviceOp) → GuestIs stage.Rested o → o ≡ DeviceOp.idle
+guest_rested DeviceOp.idle h = refl
+guest_rested DeviceOp.take h = absurd h
+guest_rested (DeviceOp.give j l) h = absurd h
+guest_rested DeviceOp.rest h = absurd h
+guest_rested DeviceOp.arm h = absurd h
+guest_rested DeviceOp.hear h = absurd h
+guest_rested DeviceOp.disarm h = absurd h
+guest_rested DeviceOp.signal h = absurd h

@@ -84,6 +84,10 @@ shadow_live stage.Rested s = absurd (cc)
 pub is_some : (x : Option Origin) (y : Origin) → x ≡ Some y → Rattle.std.specs.Prelude.IsSome x
 is_some x y is = subst (λ (u : Option Origin). Rattle.std.specs.Prelude.IsSome u) (sym is) refl
 
+pub is_none : (x : Option Origin) → Rattle.std.specs.Prelude.IsSome x → x ≡ None → ⊥
+is_none None some is = cc
+is_none (Some x) some is = cc
+
 pub same_origin : (x : Option Origin) (y y' : Origin) → x ≡ Some y → x ≡ Some y' → y ≡ y'
 same_origin x y y' p q = cc
 

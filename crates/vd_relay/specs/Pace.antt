@@ -85,7 +85,7 @@ take_owes false false false = 47
 -- before a collect, whether the take before it showed nothing
 abbrev pub collect_owes : Bool → Bool → Bool → ℕ
 collect_owes true none shown = 4
-collect_owes false none true = 3
+collect_owes false none true = 4
 collect_owes false true false = 46
 collect_owes false false false = 48
 

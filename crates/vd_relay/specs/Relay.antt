@@ -1,5 +1,5 @@
 -- What a relay holds at each stage, and what one step of it is.
-use Rattle.std.specs.Prelude.{◌≡◌, ◌⊎◌, ◌↔◌, ℕ, ◌+◌, ◌*◌, ◌<◌, ◌≤◌, Bool, true, false, List, [], ◌∷◌, ◌++◌, length, map, IsTrue, if◌then◌else◌}
+use Rattle.std.specs.Prelude.{◌≡◌, ◌⊎◌, ◌↔◌, ℕ, ◌+◌, ◌*◌, ◌<◌, ◌≤◌, Bool, true, false, List, [], ◌∷◌, ◌++◌, length, map, IsTrue, if◌then◌else◌, Option, None, replicate}
 use Rattle.std.specs.List.{Contains}
 use Rattle.vd_model.specs.declared.chain.Piece.{Piece}
 use Rattle.vd_model.specs.declared.map.Mapping.{Mapping}
@@ -14,13 +14,14 @@ use Rattle.vd_ring.specs.declared.driver.DriverDone.{DriverDone}
 use Rattle.vd_ring.specs.declared.driver.DriverView.{DriverView}
 use Rattle.vd_ring.specs.declared.device.DeviceDone.{DeviceDone}
 use Rattle.vd_ring.specs.declared.device.DeviceView.{DeviceView}
-use Rattle.vd_ring.specs.History.{collects, gives, running, occurs, IsWhole}
+use Rattle.vd_ring.specs.History.{collects, takes, gives, running, occurs, IsWhole}
 use Rattle.vd_ring.specs.Sleep.{driver_woken, device_woken}
 use Rattle.vd_layout.specs.Begun.{DriverOp}
 use Rattle.vd_layout.specs.Driver.{DriverModel}
 use Rattle.vd_layout.specs.Device.{DeviceModel}
 use Rattle.vd_layout.specs.declared.moves.Move.{Move}
 use Rattle.vd_layout.specs.declared.moves.Move.TheVariants as move
+use Rattle.vd_table.specs.declared.Origin.{Origin}
 use Rattle.vd_relay.specs.declared.counts.Counts.{Counts}
 use Rattle.vd_relay.specs.declared.counts.Turn.{Turn}
 use Rattle.vd_relay.specs.declared.counts.Turn.TheVariants.{Slept, Again}
@@ -147,6 +148,11 @@ pub record ShadowTurn {P E D : Type 0} (port : PortModel P) (e : DeviceModel E) 
   pub paid : owes e d r' w (d.side.after v op access got) + counted t
       ≤ owes e d r w v + 64 * (Rattle.vd_relay.specs.Pace.handled t + Rattle.vd_relay.specs.Pace.woke t)
 
+-- one access, on one of the two ports
+abbrev pub OneTurn : {P Q E D : Type 0} → PortModel P → PortModel Q → DeviceModel E → DriverModel D → Start → P → P → Q → Q → State E D
+    → State E D → DeviceView → DriverView → Turn → Type 0
+OneTurn p q e d z a a' b b' r r' w v t = ((b' ≡ b) × GuestTurn p e d z a a' r r' w v t) ⊎ ((a' ≡ a) × ShadowTurn q e d z b b' r r' w v t)
+
 -- ---- a step
 
 -- the counts after an access that did so much: each stays at the last
@@ -198,9 +204,39 @@ pub record IsRelayStep {P Q E D : Type 0} (p : PortModel P) (q : PortModel Q) (e
   -- a relay that goes on looking in place of sleeping would not keep it
   pub pace : KeepsPace c' 0
 
+-- ---- the first, and the last
+
+-- the ends of a new relay are free, and the table empty
+pub record IsOpen {E D : Type 0} (e : DeviceModel E) (d : DriverModel D) (ms : List Mapping) (a : E) (c : D) (table : List (Option Origin))
+    (w : DeviceView) (v : DriverView) : Type 0 where
+  pub serves : e.stands a w
+  pub drives : d.stands c v
+  pub paired : ArePaired ms w.frame v.frame
+  pub outstanding : length (takes w.done) ≡ length (gives w.done)
+  pub fresh : v.done ≡ []
+  pub empty : table ≡ replicate v.frame.size None
+
+-- where it takes over
+abbrev pub start : List Mapping → DeviceView → Start
+start ms w = record { takes = takes w.done; gives = gives w.done; map = ms }
+
+-- the guest's end rests, and all that was collected on the shadow ring was given on the guest's
+pub record HandsBack {E D : Type 0} (e : DeviceModel E) (d : DriverModel D) (z : Start) (a : E) (c : D) (target : ℕ) (w : DeviceView)
+    (v : DriverView) : Type 0 where
+  pub serves : e.stands a w
+  pub drives : d.stands c v
+  pub rests : e.resting a ≡ true
+  pub given : gives w.done ≡ z.gives ++ map (shift (since z)) (collects v.done)
+  pub collected : target ≤ length (collects v.done)
+
 -- ---- a relay that may make a step
 
 abbrev pub CanStep : {P Q E D : Type 0} → PortModel P → PortModel Q → DeviceModel E → DriverModel D → List Mapping → P → Q → State E D → Counts
     → Type 0
 CanStep p q e d ms a b r c = (z : Start) × (w : DeviceView) × (v : DriverView) × Holds e d z r c w v × (ms ≡ z.map)
+    × IsOwn p e.side a w × IsOwn q d.side b v
+
+abbrev pub CanTurn : {P Q E D : Type 0} → PortModel P → PortModel Q → DeviceModel E → DriverModel D → List Mapping → P → Q → State E D
+    → Type 0
+CanTurn p q e d ms a b r = (z : Start) × (w : DeviceView) × (v : DriverView) × Stands e d z r w v × (ms ≡ z.map)
     × IsOwn p e.side a w × IsOwn q d.side b v

@@ -19,7 +19,7 @@ returns-then-state-clause-turn g c = λ z w v h own.
     rw c.repeating.ensures
     (again_collected g.Q.Port.port g.L.Device.DeviceEnd.device g.L.Driver.DriverEnd.driver law.device_end law.driver_end z c.args.port.now
     c.step.new.port c.args.state.now w v c.step.new.self c.after_sleep-state.result c.if-state.true h own s
-    (c.after_sleep-state.ensures w _ h.serves s.now_stands))
+    (c.after_sleep-state.ensures.roused w _ h.serves s.now_stands))
 
 pub returns-else-state-clause-turn : goal.returns-else-state-clause-turn
 returns-else-state-clause-turn g c = λ z w v h own.
@@ -35,7 +35,7 @@ returns-then-state-2-clause-turn g c = λ z w v h own.
     let s = c.in-Armed.ensures v h.drives own in
     armed_winding g.Q.Port.port g.L.Device.DeviceEnd.device g.L.Driver.DriverEnd.driver law.device_end law.driver_end z c.args.port.now
     c.step.new.port c.args.state.now w v c.step.new.self c.after_sleep-state-then-state-2.result c.if-state-2.true h s
-    (c.after_sleep-state-then-state-2.ensures w _ h.serves s.now_stands)
+    (c.after_sleep-state-then-state-2.ensures.roused w _ h.serves s.now_stands)
 
 pub returns-else-state-2-clause-turn : goal.returns-else-state-2-clause-turn
 returns-else-state-2-clause-turn g c = λ z w v h own.
