@@ -1,5 +1,5 @@
 -- A new relay, and a relay that begins to wind up.
-use Rattle.std.proofs.Common.{◌≡◌, ℕ, zero, suc, ◌+◌, ◌≤◌, ◌<◌, Bool, true, false, Option, None, List, [], ◌++◌, length, map, replicate, if◌then◌else◌, refl, sym, ◌∙◌, ap, subst, arith, inl, inr, IsTrue}
+use Rattle.std.proofs.Common.{◌≡◌, ℕ, zero, suc, ◌≤◌, Bool, true, false, Option, None, List, [], ◌++◌, length, replicate, if◌then◌else◌, refl, sym, ◌∙◌, ap, subst, arith}
 use Rattle.std.proofs.lemmas.List.{append-nil, length-replicate, nil_from_length}
 use Rattle.vd_model.specs.declared.chain.Piece.{Piece}
 use Rattle.vd_model.specs.declared.map.Mapping.{Mapping}
@@ -10,11 +10,10 @@ use Rattle.vd_ring.specs.declared.driver.DriverNow.{DriverNow}
 use Rattle.vd_ring.specs.declared.driver.DriverNow.TheVariants as shadow_now
 use Rattle.vd_ring.specs.declared.driver.DriverView.{DriverView}
 use Rattle.vd_ring.specs.declared.device.DeviceDone.{DeviceDone}
-use Rattle.vd_ring.specs.declared.device.DeviceDone.TheVariants.{Rest}
 use Rattle.vd_ring.specs.declared.device.DeviceNow.{DeviceNow}
 use Rattle.vd_ring.specs.declared.device.DeviceNow.TheVariants as guest_now
 use Rattle.vd_ring.specs.declared.device.DeviceView.{DeviceView}
-use Rattle.vd_ring.specs.History.{takes, gives, collects, running, IsWhole}
+use Rattle.vd_ring.specs.History.{takes, gives, running}
 use Rattle.vd_layout.specs.Begun.{DriverOp, DeviceOp}
 use Rattle.vd_layout.specs.Driver.{DriverModel, IsLawfulDriver}
 use Rattle.vd_layout.specs.Device.{DeviceModel, IsLawfulDevice}
@@ -25,9 +24,9 @@ use Rattle.vd_relay.specs.declared.stage.Stage.{Stage}
 use Rattle.vd_relay.specs.declared.stage.Stage.TheVariants as stage
 use Rattle.vd_relay.specs.declared.state.State.{State}
 use Rattle.vd_relay.specs.Pace.{guest_owes, shadow_owes, idle_owes, take_owes, collect_owes, guest_hears, shadow_hears, hear_owes, KeepsPace}
-use Rattle.vd_relay.specs.Stages.{is_rested, is_shadow, is_hearing, roused, InHand, EndsIs, GuestArmed, ShadowArmed, BackIs, BeforeRest}
-use Rattle.vd_relay.specs.Tie.{Start, IsTied, since, shift}
-use Rattle.vd_relay.specs.Relay.{Stuck, Stands, Holds, IsRoused, IsOpen, HandsBack, owes, start}
+use Rattle.vd_relay.specs.Stages.{is_rested, is_shadow, is_hearing, InHand, EndsIs, BackIs}
+use Rattle.vd_relay.specs.Tie.{Start, IsTied}
+use Rattle.vd_relay.specs.Relay.{Stands, Holds, IsRoused, IsOpen, HandsBack, owes, start}
 use Rattle.vd_relay.proofs.Shadows.{is_none}
 use Rattle.vd_relay.proofs.Calm.{Free, FewInHand, at_stage, hand_to, settled, freed, owes_idle, stands_roused, winding_small, roused_live}
 

@@ -1,9 +1,8 @@
 -- What an access of the guest's ring that ends no operation but a signal leaves of a relay.
-use Rattle.std.proofs.Common.{◌≡◌, ◌≢◌, ◌⊎◌, ℕ, ◌+◌, ◌<◌, ◌≤◌, Bool, true, false, Option, Some, None, List, [], length, if◌then◌else◌, refl, sym, ◌∙◌, ap, subst, arith, inl, inr}
+use Rattle.std.proofs.Common.{◌≡◌, ◌≢◌, ◌⊎◌, ℕ, ◌+◌, ◌<◌, ◌≤◌, Bool, true, false, Some, None, List, [], if◌then◌else◌, refl, sym, ◌∙◌, ap, subst, arith, inl, inr}
 use Rattle.vd_model.specs.declared.chain.Piece.{Piece}
 use Rattle.vd_words.specs.declared.access.Op.{Op}
 use Rattle.vd_words.specs.declared.access.Op.TheVariants as op
-use Rattle.vd_ring.specs.declared.device.DeviceNow.{DeviceNow}
 use Rattle.vd_ring.specs.declared.device.DeviceNow.TheVariants as now
 use Rattle.vd_ring.specs.declared.device.DeviceView.{DeviceView}
 use Rattle.vd_ring.specs.declared.frame.Used.{Used}
@@ -12,7 +11,7 @@ use Rattle.vd_layout.specs.Begun.{DeviceOp, DevicePublished, DeviceGoesOn, IsDev
 use Rattle.vd_relay.specs.declared.stage.Stage.{Stage}
 use Rattle.vd_relay.specs.declared.stage.Stage.TheVariants as stage
 use Rattle.vd_relay.specs.Pace.{guest_owes, guest_hears, take_owes, taking_owes, hear_owes}
-use Rattle.vd_relay.specs.Stages.{GuestIs, TakesFrom, BackIs, GuestArmed, GuestArms, GuestHears, GuestShown, IsSome}
+use Rattle.vd_relay.specs.Stages.{GuestIs, TakesFrom, BackIs, GuestArmed, GuestArms, GuestHears, GuestShown}
 use Rattle.vd_relay.proofs.Ops.{at_take, at_guest_signal, at_give, at_guest_arm, at_guest_hear, at_rest}
 
 -- what the end's laws say of it

@@ -1,5 +1,5 @@
 -- What each answer of the guest's end leaves of a relay.
-use Rattle.std.proofs.Common.{◌≡◌, ◌≢◌, ◌⊎◌, ◌↔◌, ℕ, ◌+◌, ◌*◌, ◌<◌, ◌≤◌, Bool, true, false, Option, Some, None, List, [], ◌∷◌, ◌++◌, length, slice_index_or, if◌then◌else◌, nat_lt, refl, sym, ◌∙◌, ap, subst, arith, inl, inr}
+use Rattle.std.proofs.Common.{◌≡◌, ◌≢◌, ◌⊎◌, ◌↔◌, ℕ, ◌+◌, ◌*◌, ◌<◌, ◌≤◌, Bool, true, false, Option, None, List, [], ◌∷◌, length, slice_index_or, if◌then◌else◌, refl, sym, ◌∙◌, ap, subst, arith, inl, inr}
 use Rattle.std.specs.List.{All, Contains}
 use Rattle.std.proofs.lemmas.Bool.{lt-ltb, le-ltb}
 use Rattle.std.proofs.lemmas.List.Elements.{Contains-push}
@@ -23,7 +23,7 @@ use Rattle.vd_ring.specs.declared.device.DeviceDone.TheVariants.{Take, Give, Res
 use Rattle.vd_ring.specs.declared.device.DeviceNow.TheVariants as now
 use Rattle.vd_ring.specs.declared.device.DeviceView.{DeviceView}
 use Rattle.vd_ring.specs.Frames.{Fits, AreInBounds, limit}
-use Rattle.vd_ring.specs.History.{entry, gives, takes, running, running_size, next_head, free, occurs}
+use Rattle.vd_ring.specs.History.{entry, gives, takes, running, running_size, next_head, free}
 use Rattle.vd_ring.specs.Looks.{DeviceGoes, DeviceWakes}
 use Rattle.vd_ring.specs.Sleep.{device_woken}
 use Rattle.vd_ring.proofs.Counts.{occurs_from}
@@ -38,16 +38,16 @@ use Rattle.vd_relay.specs.declared.counts.Turn.TheVariants.{Worked, Handled, Wok
 use Rattle.vd_relay.specs.declared.stage.Stage.{Stage}
 use Rattle.vd_relay.specs.declared.stage.Stage.TheVariants as stage
 use Rattle.vd_relay.specs.declared.state.State.{State}
-use Rattle.vd_relay.specs.Pairing.{ArePaired, Wakes}
+use Rattle.vd_relay.specs.Pairing.{ArePaired}
 use Rattle.vd_relay.specs.Pace.{counted, handled, woke, waking, guest_handled, guest_owes, shadow_owes, guest_hears, idle_owes, take_owes, taking_owes, collect_owes, hear_owes}
-use Rattle.vd_relay.specs.Stages.{is_rested, is_shadow, heard_next, roused, GuestIs, ShadowIs, TakesFrom, OffersHand, BackIs, BeforeRest, GuestArmed, ShadowArmed, GuestShown, GuestHears, ShadowShown, IsSome}
+use Rattle.vd_relay.specs.Stages.{is_rested, is_shadow, heard_next, roused, GuestIs, ShadowIs, TakesFrom, OffersHand, BackIs, BeforeRest, GuestShown, GuestHears, ShadowShown, IsSome}
 use Rattle.vd_relay.specs.Tie.{Start, IsTied, since}
 use Rattle.vd_relay.specs.Relay.{Stuck, Stands, GuestTurn, GivesOne, owes, IsWoken, IsRoused}
 use Rattle.vd_relay.proofs.Shifts.{total_moved, needs_moved}
 use Rattle.vd_relay.proofs.Ties.{taken_count, tied_taken, tied_given, tied_room}
-use Rattle.vd_relay.proofs.Calm.{Free, FewInHand, at_stage, hand_at, hand_to, settled, owes_idle, stands_roused, roused_small, roused_most, roused_live, done_calm, not_offering, is_calm}
-use Rattle.vd_relay.proofs.Ops.{at_take, at_guest_signal, at_give, at_guest_arm, at_guest_hear, at_guest_disarm, at_rest, shadow_idle}
-use Rattle.vd_relay.proofs.GuestGoing.{Goes, Went, went, take_most}
+use Rattle.vd_relay.proofs.Calm.{Free, FewInHand, at_stage, hand_at, hand_to, settled, owes_idle, stands_roused, roused_small, roused_most, done_calm, not_offering, is_calm}
+use Rattle.vd_relay.proofs.Ops.{at_take, at_give, at_guest_arm, at_guest_hear, at_guest_disarm, at_rest, shadow_idle}
+use Rattle.vd_relay.proofs.GuestGoing.{Goes, went, take_most}
 
 abbrev pub with_guest : {E D : Type 0} → State E D → E → State E D
 with_guest r b = record { guest = b; shadow = r.shadow; table = r.table; stage = r.stage; winding = r.winding; target = r.target }
@@ -709,8 +709,12 @@ module _ {P E D : Type 0} (port : PortModel P) (e : DeviceModel E) (d : DriverMo
         fits = fits_moved z.map w.frame v.frame x h.paired known.fits is;
         room = tied_room z r.table h.acts w.frame v.frame v.done x tied h.paired.features h.paired.size
             (subst (λ (y : List DeviceDone). running_size w.frame y + needs w.frame.features x ≤ w.frame.size) h.before known.room);
-        limited = omega (arith, taken_count z r.table h.acts v.frame v.done [] [] tied, limit_guest w.frame h.paired.guest,
-            limit_shadow v.frame h.paired.shadow);
+        limited = omega (
+          arith,
+          taken_count z r.table h.acts v.frame v.done [] [] tied,
+          limit_guest w.frame h.paired.guest,
+          limit_shadow v.frame h.paired.shadow,
+        );
         control = λ on. let no : true ≡ false = sym on ∙ h.paired.shadow_plain in absurd (cc);
       }
 

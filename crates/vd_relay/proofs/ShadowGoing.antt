@@ -1,9 +1,8 @@
 -- What an access of the shadow ring that ends no operation but a signal leaves of a relay.
-use Rattle.std.proofs.Common.{◌≡◌, ◌≢◌, ◌⊎◌, ℕ, ◌+◌, ◌<◌, ◌≤◌, Bool, true, false, Option, Some, None, List, [], ◌∷◌, length, if◌then◌else◌, refl, sym, ◌∙◌, ap, subst, arith, inl, inr}
+use Rattle.std.proofs.Common.{◌≡◌, ◌≢◌, ◌⊎◌, ℕ, ◌+◌, ◌<◌, ◌≤◌, Bool, true, false, Some, None, List, [], ◌∷◌, if◌then◌else◌, refl, sym, ◌∙◌, ap, subst, arith, inl, inr}
 use Rattle.vd_model.specs.declared.chain.Piece.{Piece}
 use Rattle.vd_words.specs.declared.access.Op.{Op}
 use Rattle.vd_words.specs.declared.access.Op.TheVariants as op
-use Rattle.vd_ring.specs.declared.driver.DriverNow.{DriverNow}
 use Rattle.vd_ring.specs.declared.driver.DriverNow.TheVariants as now
 use Rattle.vd_ring.specs.declared.driver.DriverView.{DriverView}
 use Rattle.vd_ring.specs.Looks.{DriverLooksNow}
@@ -11,7 +10,7 @@ use Rattle.vd_layout.specs.Begun.{DriverOp, DriverPublished, DriverGoesOn, IsDri
 use Rattle.vd_relay.specs.declared.stage.Stage.{Stage}
 use Rattle.vd_relay.specs.declared.stage.Stage.TheVariants as stage
 use Rattle.vd_relay.specs.Pace.{shadow_owes, shadow_hears, collect_owes, collecting_owes, hear_owes}
-use Rattle.vd_relay.specs.Stages.{ShadowIs, OffersHand, ShadowArmed, ShadowArms, ShadowHears, ShadowShown, IsSome}
+use Rattle.vd_relay.specs.Stages.{ShadowIs, OffersHand, ShadowArmed, ShadowArms, ShadowHears, ShadowShown}
 use Rattle.vd_relay.proofs.Ops.{at_offer, at_collect, at_shadow_signal, at_shadow_arm, at_shadow_hear}
 
 -- what the end's laws say of it

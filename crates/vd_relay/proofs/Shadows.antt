@@ -35,15 +35,15 @@ use Rattle.vd_relay.specs.declared.counts.Turn.TheVariants.{Worked, Handled, Wok
 use Rattle.vd_relay.specs.declared.stage.Stage.{Stage}
 use Rattle.vd_relay.specs.declared.stage.Stage.TheVariants as stage
 use Rattle.vd_relay.specs.declared.state.State.{State}
-use Rattle.vd_relay.specs.Pairing.{ArePaired, Wakes}
+use Rattle.vd_relay.specs.Pairing.{ArePaired}
 use Rattle.vd_relay.specs.Pace.{counted, handled, woke, waking, repeating, shadow_handled, guest_owes, shadow_owes, shadow_hears, idle_owes, take_owes, collect_owes, collecting_owes, hear_owes}
 use Rattle.vd_relay.specs.Stages.{is_rested, is_shadow, heard_next, none_next, roused, GuestIs, ShadowIs, TakesFrom, OffersHand, InHand, BackIs, BeforeRest, GuestArmed, ShadowArmed, GuestShown, ShadowShown, ShadowHears, IsSome}
 use Rattle.vd_relay.specs.Tie.{Start, IsTied, since, origin}
 use Rattle.vd_relay.specs.Relay.{Stuck, Stands, ShadowTurn, owes, IsWoken, IsRoused, IsFinished}
 use Rattle.vd_relay.proofs.Ties.{tied_offered, tied_collected, next_inside, next_empty, head_stored, may_give}
-use Rattle.vd_relay.proofs.Calm.{Free, FewInHand, at_stage, hand_at, hand_to, settled, owes_idle, stands_roused, roused_small, roused_most, roused_live, winding_small, done_calm, not_offering, is_calm}
+use Rattle.vd_relay.proofs.Calm.{Free, FewInHand, at_stage, hand_at, hand_to, settled, owes_idle, stands_roused, roused_small, roused_most, roused_live, done_calm, not_offering, is_calm}
 use Rattle.vd_relay.proofs.Ops.{at_offer, at_collect, at_shadow_arm, at_shadow_hear, at_shadow_disarm, guest_idle}
-use Rattle.vd_relay.proofs.ShadowGoing.{Goes, Went, went, collect_most}
+use Rattle.vd_relay.proofs.ShadowGoing.{Goes, went, collect_most}
 
 abbrev pub with_shadow : {E D : Type 0} → State E D → D → State E D
 with_shadow r b = record { guest = r.guest; shadow = b; table = r.table; stage = r.stage; winding = r.winding; target = r.target }
@@ -396,7 +396,7 @@ module _ {P E D : Type 0} (port : PortModel P) (e : DeviceModel E) (d : DriverMo
       let ga : e.armed r.guest ≡ false = device_unarmed e law r.guest w h.serves h.guest_armed in
       let sa : d.armed b ≡ false = driver_unarmed d ldr b v' s.now_stands unarmed in
       let is : st' ≡ roused false false true a.finished = a.is ∙ ap (λ x. roused x (d.armed b) r.winding a.finished) ga
-          ∙ ap (λ x. roused false x r.winding a.finished) sa ∙ ap (λ x. roused false false x a.finished) on in
+      ∙ ap (λ x. roused false x r.winding a.finished) sa ∙ ap (λ x. roused false false x a.finished) on in
       let stands : Stands e d z (next_at (roused false false true a.finished)) w v' =
       subst (λ (x : Stage). Stands e d z (next_at x) w v') is (stands_roused e d law ldr z (with_shadow r b) w v' st' f a) in
       subst (λ (x : Stage). ShadowTurn port e d z p q (at_stage r (stage.Collecting none)) (next_at x) w v (repeating x)) (sym is)

@@ -1,6 +1,6 @@
 -- How a relay's steps are counted, and how many accesses it may make until the next chain is taken, offered, collected or given, or the
 -- next bell is heard.
-use Rattle.std.specs.Prelude.{◌≡◌, ℕ, ◌+◌, ◌*◌, ◌-◌, ◌^◌, ◌<◌, ◌≤◌, min, Bool, true, false, if◌then◌else◌}
+use Rattle.std.specs.Prelude.{ℕ, ◌+◌, ◌*◌, ◌-◌, ◌^◌, ◌<◌, ◌≤◌, min, Bool, true, false, if◌then◌else◌}
 use Rattle.vd_ring.specs.declared.act.DriverAct.{DriverAct}
 use Rattle.vd_ring.specs.declared.act.DriverAct.TheVariants as driver_act
 use Rattle.vd_ring.specs.declared.act.DeviceAct.{DeviceAct}
@@ -17,7 +17,6 @@ use Rattle.vd_relay.specs.declared.counts.Turn.{Turn}
 use Rattle.vd_relay.specs.declared.counts.Turn.TheVariants.{Worked, Handled, Woke, Slept, Again}
 use Rattle.vd_relay.specs.declared.stage.Stage.{Stage}
 use Rattle.vd_relay.specs.declared.stage.Stage.TheVariants as stage
-use Rattle.vd_relay.specs.Stages.{is_shadow}
 
 -- ---- counts
 

@@ -168,7 +168,9 @@ impl<L: Layout> Relay<L> {
             → HandsBack L.Device.device L.Driver.driver z result.0 result.1 self.state.target w v }
     {
         let Relay {
-            state, settings, ..
+            state,
+            settings,
+            ..
         } = self;
         let State { guest, shadow, .. } = state;
         (guest, shadow, settings)

@@ -56,10 +56,7 @@ impl Stage {
     {
         matches!(
             self,
-            Stage::Taking
-                | Stage::Collecting { .. }
-                | Stage::ArmingGuest
-                | Stage::ArmingShadow
+            Stage::Taking | Stage::Collecting { .. } | Stage::ArmingGuest | Stage::ArmingShadow
         )
     }
 

@@ -1,4 +1,4 @@
-use Rattle.std.proofs.Common.{◌≡◌, sym, ◌∙◌, ap}
+use Rattle.std.proofs.Common.{sym, ◌∙◌, ap}
 use Rattle.vd_relay.specs.Stages.{is_rested}
 use Rattle.vd_relay.proofs.Calm.{turns, roused_live, roused_takes, roused_arms}
 use Rattle.vd_relay.proofs.begin.turn.Goals as goal

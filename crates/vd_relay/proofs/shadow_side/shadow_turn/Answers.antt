@@ -1,8 +1,6 @@
-use Rattle.std.proofs.Common.{◌≡◌, List, sym, ap, ◌∙◌, subst}
+use Rattle.std.proofs.Common.{sym, subst}
 use Rattle.vd_layout.specs.Device.{MayGive}
-use Rattle.vd_relay.specs.declared.stage.Stage.TheVariants as stage
 use Rattle.vd_relay.specs.Tie.{since}
-use Rattle.vd_relay.specs.Relay.{ShadowTurn}
 use Rattle.vd_relay.proofs.Shadows.{went_on, none_collected, again_collected, armed_both, armed_winding, woken_at, slept_at, offered, put_inside, put_free, stored_there, stored_inside, may_give_it, collected, is_some, same_origin, number_is}
 use Rattle.vd_relay.proofs.shadow_side.shadow_turn.Goals as goal
 

@@ -1,7 +1,5 @@
-use Rattle.std.proofs.Common.{◌≡◌, sym, ◌∙◌, ap}
-use Rattle.vd_relay.specs.Stages.{is_rested}
-use Rattle.vd_relay.proofs.Begins.{wound, wound_holds, wound_awake}
-use Rattle.vd_relay.proofs.Calm.{roused_live}
+use Rattle.std.proofs.Common.{sym, ◌∙◌}
+use Rattle.vd_relay.proofs.Begins.{wound_awake}
 use Rattle.vd_relay.proofs.relay.Relay.begin_wind_up.Goals as goal
 
 pub returns-then-idle-2-clause-holds : goal.returns-then-idle-2-clause-holds

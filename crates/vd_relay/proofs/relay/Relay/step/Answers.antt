@@ -1,4 +1,4 @@
-use Rattle.std.proofs.Common.{◌≡◌, sym, ◌∙◌, refl, arith, inl, inr}
+use Rattle.std.proofs.Common.{inl, inr}
 use Rattle.vd_relay.proofs.Steps.{Noted, on_guest, on_shadow, finished_at, pace_less}
 use Rattle.vd_relay.proofs.relay.Relay.step.Goals as goal
 
