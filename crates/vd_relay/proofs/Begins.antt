@@ -109,7 +109,8 @@ module _ {E D : Type 0} (e : DeviceModel E) (d : DriverModel D) (law : IsLawfulD
   wound_hand stage.Resting hand i = omega (arith, ap (λ (cs : List (List Piece)). length cs) i)
   wound_hand stage.Rested hand i = omega (arith, ap (λ (cs : List (List Piece)). length cs) i)
 
-  wound_ends : (st : Stage) (target given : ℕ) (s : List DeviceDone) (o : List DriverDone) → EndsIs st false target s o → EndsIs st true given s o
+  wound_ends : (st : Stage) (target given : ℕ) (s : List DeviceDone) (o : List DriverDone) → EndsIs st false target s o
+      → EndsIs st true given s o
   wound_ends (stage.Offering n h) target given s o i = tt
   wound_ends stage.Taking target given s o i = tt
   wound_ends (stage.Collecting n) target given s o i = tt
@@ -167,7 +168,8 @@ module _ {E D : Type 0} (e : DeviceModel E) (d : DriverModel D) (law : IsLawfulD
   shadow_hears_less shadow_now.Arming = omega arith
   shadow_hears_less (shadow_now.Disarming o) = omega arith
 
-  guest_less : (st : Stage) (o : DeviceOp) (x : DeviceNow) (g s : Bool) (left : ℕ) → guest_owes true st o x g s left ≤ guest_owes false st o x g s left
+  guest_less : (st : Stage) (o : DeviceOp) (x : DeviceNow) (g s : Bool) (left : ℕ)
+      → guest_owes true st o x g s left ≤ guest_owes false st o x g s left
   guest_less st DeviceOp.idle x g s left = idle_less st g s
   guest_less st DeviceOp.disarm x g s left = idle_less st g s
   guest_less st DeviceOp.take x true s left = omega arith
@@ -200,7 +202,8 @@ module _ {E D : Type 0} (e : DeviceModel E) (d : DriverModel D) (law : IsLawfulD
   collect_at stage.Resting x g s left = omega arith
   collect_at stage.Rested x g s left = omega arith
 
-  shadow_less : (st : Stage) (o : DriverOp) (x : DriverNow) (g s : Bool) (left : ℕ) → shadow_owes true st o x g s left ≤ shadow_owes false st o x g s left
+  shadow_less : (st : Stage) (o : DriverOp) (x : DriverNow) (g s : Bool) (left : ℕ)
+      → shadow_owes true st o x g s left ≤ shadow_owes false st o x g s left
   shadow_less st DriverOp.idle x g s left = idle_less st g s
   shadow_less st DriverOp.disarm x g s left = idle_less st g s
   shadow_less st DriverOp.collect x g s left = collect_at st x g s left

@@ -77,7 +77,8 @@ all_covered ms f g x paired fits = λ k d below. paired.covers (slice_index_or x
     (subst (λ (b : Option (List Mapping)). AreInBounds b x) paired.bounded fits.bounds k d below)
 
 -- the moved chain may stand on the shadow ring
-pub fits_moved : (ms : List Mapping) (f g : Frame) (x : List Piece) → ArePaired ms f g → Fits f x → IsChain (moved ms x) → Fits g (moved ms x)
+pub fits_moved : (ms : List Mapping) (f g : Frame) (x : List Piece) → ArePaired ms f g → Fits f x → IsChain (moved ms x)
+    → Fits g (moved ms x)
 fits_moved ms f g x paired fits is = record {
   chain = is;
   size = omega (arith, needs_moved g.features ms x, ap (λ (y : Features). needs y x) paired.features, fits.size, paired.size);
@@ -135,7 +136,8 @@ module _ {P E D : Type 0} (port : PortModel P) (e : DeviceModel E) (d : DriverMo
     paired = framed_at answer s h.paired;
     awake = awake;
     hand = h.hand;
-    tied = subst (λ (x : List DeviceDone). IsTied z r.table h.hand [] x v.frame v.done) (done_calm st h.acts w.done calm h.before ∙ sym done)
+    tied = subst (λ (x : List DeviceDone). IsTied z r.table h.hand [] x v.frame v.done)
+        (done_calm st h.acts w.done calm h.before ∙ sym done)
         (subst (λ (us : List Used). IsTied z r.table h.hand us h.acts v.frame v.done) none h.tied);
     few = hand_at st r.winding h.hand (not_offering st calm) h.in_hand;
     guest_idle = idle;
@@ -311,7 +313,12 @@ module _ {P E D : Type 0} (port : PortModel P) (e : DeviceModel E) (d : DriverMo
   -- by how much a rousing is paid for
   roused_by : (st : Stage) (g s : Bool) → (a : (finished : Bool) × (st ≡ roused (e.armed b) (d.armed r.shadow) r.winding finished))
       → idle_owes r.winding st g s ≤ roused_most r.winding g s
-  roused_by st g s a = omega (arith, ap (λ (x : Stage). idle_owes r.winding x g s) a.1, roused_small (e.armed b) (d.armed r.shadow) r.winding a.0 g s)
+  roused_by st g s a = omega (
+    arith,
+    ap (λ (x : Stage). idle_owes r.winding x g s) a.1,
+    roused_small (e.armed b)
+        (d.armed r.shadow) r.winding a.0 g s,
+  )
 
   shown_most : (winding g s : Bool) → g ≡ true → roused_most winding g s ≤ (if winding then 6 else 39)
   shown_most true g s is = omega arith
@@ -477,7 +484,8 @@ module _ {P E D : Type 0} (port : PortModel P) (e : DeviceModel E) (d : DriverMo
       → GuestTurn port e d z p q r (next_at st') w v (waking r.stage)
   woken DeviceOp.arm st' is side h s (inl a) m g =
       let at = at_guest_arm r.stage g in
-      waking_at stage.ArmingGuest st' Worked at (to_stage stage.ArmingGuest (next_at st') Worked at (λ x. arming_woke st' is x s a.0) h) refl
+      waking_at stage.ArmingGuest st' Worked at (to_stage stage.ArmingGuest (next_at st') Worked at (λ x. arming_woke st' is x s a.0) h)
+      refl
   woken DeviceOp.hear st' is side h s (inl a) m g =
       let at = at_guest_hear r.stage g in
       waking_at stage.HearingGuest st' Woke at (to_stage stage.HearingGuest (next_at st') Woke at (λ x. hearing_woke st' is x s a.0) h) refl
@@ -485,9 +493,12 @@ module _ {P E D : Type 0} (port : PortModel P) (e : DeviceModel E) (d : DriverMo
       let at = at_guest_disarm r.stage g in
       waking_at stage.DisarmingGuest st' Worked at
       (to_stage stage.DisarmingGuest (next_at st') Worked at (λ x. disarming_woke st' is x s a.0 (a.1 at)) h) refl
-  woken DeviceOp.arm st' is side h s (inr (inl a)) m g = let x : stage.ArmingGuest ≡ stage.DisarmingGuest = sym (at_guest_arm r.stage g) ∙ a.0 in absurd (cc)
-  woken DeviceOp.hear st' is side h s (inr (inl a)) m g = let x : stage.HearingGuest ≡ stage.DisarmingGuest = sym (at_guest_hear r.stage g) ∙ a.0 in absurd (cc)
-  woken DeviceOp.disarm st' is side h s (inr (inl a)) m g = subst (λ (x : Stage). GuestTurn port e d z p q r (next_at x) w v (waking r.stage)) (sym a.2)
+  woken DeviceOp.arm st' is side h s (inr (inl a)) m g = let x : stage.ArmingGuest ≡ stage.DisarmingGuest = sym (at_guest_arm r.stage g)
+      ∙ a.0 in absurd (cc)
+  woken DeviceOp.hear st' is side h s (inr (inl a)) m g = let x : stage.HearingGuest ≡ stage.DisarmingGuest = sym (at_guest_hear r.stage g)
+      ∙ a.0 in absurd (cc)
+  woken DeviceOp.disarm st' is side h s (inr (inl a)) m g = subst
+      (λ (x : Stage). GuestTurn port e d z p q r (next_at x) w v (waking r.stage)) (sym a.2)
       (waking_at stage.DisarmingGuest stage.HearingGuest Worked a.0
       (to_stage stage.DisarmingGuest (next_at stage.HearingGuest) Worked a.0 (λ x. stuck_woke is x s a.1) h) refl)
   woken DeviceOp.arm st' is side h s (inr (inr a)) m g = absurd (not_shadow side a.0)
@@ -526,8 +537,10 @@ module _ {P E D : Type 0} (port : PortModel P) (e : DeviceModel E) (d : DriverMo
       let idle = hears_idle s in
       let here : IsSome w.armed = hears_armed idle (subst (λ o. GuestHears o w.doing w.armed) s.says.0 h.guest_armed) in
       let some : IsSome w'.armed = (here.0, ap (λ (x : DeviceView). x.armed) (asleep_view s) ∙ here.1) in
-      let at : (x : Bool) → d.armed r.shadow ≡ x → Stands e d z (next_at (heard_next stage.HearingGuest ga x)) w' v = λ x y. stands_to x y f some h.shadow_armed in
-      made_at act.Asleep s stage.HearingGuest (next_at (heard_next stage.HearingGuest ga sa)) Slept (at sa is) (bag_same act.Asleep s s.says.2) refl
+      let at : (x : Bool) → d.armed r.shadow ≡ x → Stands e d z
+      (next_at (heard_next stage.HearingGuest ga x)) w' v = λ x y. stands_to x y f some h.shadow_armed in
+      made_at act.Asleep s stage.HearingGuest (next_at (heard_next stage.HearingGuest ga sa)) Slept (at sa is)
+      (bag_same act.Asleep s s.says.2) refl
       (not_woken s.op act.Asleep (λ y. cc y)) ((λ y. refl), λ y. refl) (λ y. cc y) (λ y. live_to sa)
       (omega (
         arith,
@@ -540,9 +553,11 @@ module _ {P E D : Type 0} (port : PortModel P) (e : DeviceModel E) (d : DriverMo
       stands_to : (x : Bool) → d.armed r.shadow ≡ x → Free e d z (with_guest r b) (e.side.after w s.op s.access s.got) v
           → IsSome (e.side.after w s.op s.access s.got).armed → IsSome v.armed ⊎ Stuck e d
           → Stands e d z (next_at (heard_next stage.HearingGuest ga x)) (e.side.after w s.op s.access s.got) v
-      stands_to true y f some o = settled e d law ldr z (with_guest r b) (e.side.after w s.op s.access s.got) v stage.HearingShadow refl f tt
+      stands_to true y f some o = settled e d law ldr z (with_guest r b)
+          (e.side.after w s.op s.access s.got) v stage.HearingShadow refl f tt
           (inl some) (ldr.armed r.shadow v f.drives y)
-      stands_to false y f some o = settled e d law ldr z (with_guest r b) (e.side.after w s.op s.access s.got) v stage.HearingGuest refl f tt some o
+      stands_to false y f some o = settled e d law ldr z (with_guest r b)
+          (e.side.after w s.op s.access s.got) v stage.HearingGuest refl f tt some o
 
       live_to : (x : Bool) → is_rested (heard_next stage.HearingGuest ga x) ≡ false
       live_to true = refl
@@ -599,7 +614,8 @@ module _ {P E D : Type 0} (port : PortModel P) (e : DeviceModel E) (d : DriverMo
         ap (λ o. guest_owes r.winding stage.Resting o w.doing w.shown v.shown (e.left r.guest)) s.says.0,
       ))
 
-  pub rested : Stands e d z r w v → IsDeviceStep port e p q w r.guest b act.Rested → GuestTurn port e d z p q r (next_at stage.Rested) w v Worked
+  pub rested : Stands e d z r w v → IsDeviceStep port e p q w r.guest b act.Rested
+      → GuestTurn port e d z p q r (next_at stage.Rested) w v Worked
   rested h s = to_stage stage.Resting (next_at stage.Rested) Worked
       (at_rest r.stage (subst (λ o. GuestIs r.stage o) s.says.0 h.guest)) (λ x. rests_now x s) h
 
@@ -688,8 +704,10 @@ module _ {P E D : Type 0} (port : PortModel P) (e : DeviceModel E) (d : DriverMo
   -- before a take nothing is in hand, and nothing to be given
   tied_at : (k : ℕ) (x : List Piece) → (h : Stands e d z (at_stage r stage.Taking) w v)
       → (s : IsDeviceStep port e p q w r.guest b (act.Taken k x)) → IsTied z r.table [] [] h.acts v.frame v.done
-  tied_at k x h s = subst (λ (us : List Used). IsTied z r.table [] us h.acts v.frame v.done) (subst (λ o. BackIs o h.back) s.says.1 h.to_give)
-      (subst (λ (cs : List (List Piece)). IsTied z r.table cs h.back h.acts v.frame v.done) (subst (λ o. TakesFrom o h.hand) s.says.1 h.takes) h.tied)
+  tied_at k x h s = subst (λ (us : List Used). IsTied z r.table [] us h.acts v.frame v.done)
+      (subst (λ o. BackIs o h.back) s.says.1 h.to_give)
+      (subst (λ (cs : List (List Piece)). IsTied z r.table cs h.back h.acts v.frame v.done)
+      (subst (λ o. TakesFrom o h.hand) s.says.1 h.takes) h.tied)
 
   takes_at : (k : ℕ) (x : List Piece) → Stands e d z r w v → IsDeviceStep port e p q w r.guest b (act.Taken k x) → r.stage ≡ stage.Taking
   takes_at k x h s = at_take r.stage (subst (λ o. GuestIs r.stage o) s.says.1 h.guest)
@@ -725,7 +743,12 @@ module _ {P E D : Type 0} (port : PortModel P) (e : DeviceModel E) (d : DriverMo
 
   -- and there is a head for it
   pub has_next : (x : List Piece) → Stands e d z r w v → MayOffer d.words v x → 0 < length (free v.frame v.done)
-  has_next x h may = omega (arith, room_free v.frame v.done x (ldr.places r.shadow v h.drives) may.fits may.room, borrowed_some v.frame x may.fits)
+  has_next x h may = omega (
+    arith,
+    room_free v.frame v.done x
+        (ldr.places r.shadow v h.drives) may.fits may.room,
+    borrowed_some v.frame x may.fits,
+  )
 
   takes_some : (winding g s : Bool) (left : ℕ) → 1 ≤ left → 1 ≤ taking_owes winding g s left
   takes_some winding true s left some = some
@@ -760,7 +783,8 @@ module _ {P E D : Type 0} (port : PortModel P) (e : DeviceModel E) (d : DriverMo
         offers = subst (λ o. OffersHand o (moved z.map x ∷ [])) (sym begun) refl;
         in_hand = tt;
         offer = (
-          s.says.3 ∙ ap (λ (y : List DeviceDone). length (takes y)) h.before ∙ omega (arith, taken_count z r.table h.acts v.frame v.done [] [] tied),
+          s.says.3 ∙ ap (λ (y : List DeviceDone). length (takes y)) h.before
+              ∙ omega (arith, taken_count z r.table h.acts v.frame v.done [] [] tied),
           is,
         );
         to_give = subst (λ o. BackIs o []) (sym s.says.2) refl;
@@ -788,7 +812,8 @@ module _ {P E D : Type 0} (port : PortModel P) (e : DeviceModel E) (d : DriverMo
       (λ u. took_now k head x c' u s drives (begun ∙ ap DriverOp.offer same) few is) h
 
   -- in the wind-up it stays in hand
-  kept_now : (k : ℕ) (x : List Piece) → (h : Stands e d z (at_stage r stage.Taking) w v) → IsDeviceStep port e p q w r.guest b (act.Taken k x)
+  kept_now : (k : ℕ) (x : List Piece) → (h : Stands e d z (at_stage r stage.Taking) w v)
+      → IsDeviceStep port e p q w r.guest b (act.Taken k x)
       → r.winding ≡ true → GuestTurn port e d z p q (at_stage r stage.Taking) (next_at stage.Taking) w v Handled
   kept_now k x h s winding =
       let w' : DeviceView = e.side.after w s.op s.access s.got in
@@ -811,7 +836,8 @@ module _ {P E D : Type 0} (port : PortModel P) (e : DeviceModel E) (d : DriverMo
         shadow = h.shadow;
         takes = subst (λ o. TakesFrom o (moved z.map x ∷ [])) (sym s.says.2) tt;
         offers = subst (λ o. OffersHand o (moved z.map x ∷ [])) (sym (shadow_free stage.Taking refl h)) tt;
-        in_hand = hand_to stage.Taking r.winding (moved z.map x ∷ []) (subst (λ (y : Bool). FewInHand y (moved z.map x ∷ [])) (sym winding) one);
+        in_hand = hand_to stage.Taking r.winding (moved z.map x ∷ [])
+            (subst (λ (y : Bool). FewInHand y (moved z.map x ∷ [])) (sym winding) one);
         offer = tt;
         to_give = subst (λ o. BackIs o []) (sym s.says.2) refl;
         ends = tt;

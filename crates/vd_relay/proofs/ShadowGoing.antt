@@ -46,7 +46,8 @@ collect_most false true false = omega arith
 collect_most false false false = omega arith
 
 module _ (Stuck : Type 0) (winding : Bool) (hand : List (List Piece)) (o : Op) (v w : DriverView) (g : Bool) (left left' : ℕ) where
-  collecting : (none : Bool) → o ≡ op.Collect → v.armed ≡ None → ShadowShown DriverOp.collect v.doing v.shown left → left' < left → Goes o v w
+  collecting : (none : Bool) → o ≡ op.Collect → v.armed ≡ None → ShadowShown DriverOp.collect v.doing v.shown left → left' < left
+      → Goes o v w
       → Went Stuck (stage.Collecting none) winding hand DriverOp.collect w g left' (collecting_owes winding none v.shown left)
   collecting none of unarmed i less s =
       let sees : w.shown ≡ true = s.shown (elim i.0 [ inl idle ↦ inr (inl (of, idle)) | inr shown ↦ inl shown ]) in
@@ -124,7 +125,8 @@ module _ (Stuck : Type 0) (winding : Bool) (hand : List (List Piece)) (o : Op) (
   to_op : (st x : Stage) (b' b : DriverOp) (owed owed' : ℕ) → st ≡ x → b' ≡ b → owed' ≡ owed → Went Stuck x winding hand b w g left' owed
       → Went Stuck st winding hand b' w g left' owed'
   to_op st x b' b owed owed' e f n h = subst (λ (y : Stage). Went Stuck y winding hand b' w g left' owed') (sym e)
-      (subst (λ y. Went Stuck x winding hand y w g left' owed') (sym f) (subst (λ (y : ℕ). Went Stuck x winding hand b w g left' y) (sym n) h))
+      (subst (λ y. Went Stuck x winding hand y w g left' owed') (sym f)
+      (subst (λ (y : ℕ). Went Stuck x winding hand b w g left' y) (sym n) h))
 
   pub went : (st : Stage) (a b : DriverOp) → ShadowIs st a → IsDriverOp a o → ShadowArmed Stuck st a v.doing v.armed
       → OffersHand a hand → ShadowShown a v.doing v.shown left → DriverGoesOn a b → left' < left → Goes o v w
@@ -137,22 +139,26 @@ module _ (Stuck : Type 0) (winding : Bool) (hand : List (List Piece)) (o : Op) (
       (collecting e.none of (subst (λ (y : Stage). ShadowArmed Stuck y DriverOp.collect v.doing v.armed) e.is ar) i less s)
   went st (DriverOp.offer c) b h of ar t i goes less s =
       let e = at_offer c st h in
-      to_op st (stage.Offering e.number e.head) b (DriverOp.offer c) left (shadow_owes winding st (DriverOp.offer c) v.doing g v.shown left) e.is goes
+      to_op st (stage.Offering e.number e.head) b (DriverOp.offer c) left
+      (shadow_owes winding st (DriverOp.offer c) v.doing g v.shown left) e.is goes
       (ap (λ (y : Stage). shadow_owes winding y (DriverOp.offer c) v.doing g v.shown left) e.is)
       (offering e.number e.head c of (subst (λ (y : Stage). ShadowArmed Stuck y (DriverOp.offer c) v.doing v.armed) e.is ar) t less s)
   went st DriverOp.arm b h of ar t i goes less s =
       let e = at_shadow_arm st h in
-      to_op st stage.ArmingShadow b DriverOp.arm (left + (if winding then 6 else 39)) (shadow_owes winding st DriverOp.arm v.doing g v.shown left) e goes
+      to_op st stage.ArmingShadow b DriverOp.arm (left + (if winding then 6 else 39))
+      (shadow_owes winding st DriverOp.arm v.doing g v.shown left) e goes
       (ap (λ (y : Stage). shadow_owes winding y DriverOp.arm v.doing g v.shown left) e)
       (arming of (subst (λ (y : Stage). ShadowArmed Stuck y DriverOp.arm v.doing v.armed) e ar) less s)
   went st DriverOp.hear b h of ar t i goes less s =
       let e = at_shadow_hear st h in
-      to_op st stage.HearingShadow b DriverOp.hear (shadow_hears winding v.doing) (shadow_owes winding st DriverOp.hear v.doing g v.shown left) e goes
+      to_op st stage.HearingShadow b DriverOp.hear (shadow_hears winding v.doing)
+      (shadow_owes winding st DriverOp.hear v.doing g v.shown left) e goes
       (ap (λ (y : Stage). shadow_owes winding y DriverOp.hear v.doing g v.shown left) e)
       (hearing of (subst (λ (y : Stage). ShadowArmed Stuck y DriverOp.hear v.doing v.armed) e ar) s)
   went st DriverOp.signal b h of ar t i goes less s =
       let e = at_shadow_signal st h in
-      to_op st (stage.Collecting e.none) b b (left + (if winding then 4 else 48)) (shadow_owes winding st DriverOp.signal v.doing g v.shown left) e.is refl
+      to_op st (stage.Collecting e.none) b b (left + (if winding then 4 else 48))
+      (shadow_owes winding st DriverOp.signal v.doing g v.shown left) e.is refl
       (ap (λ (y : Stage). shadow_owes winding y DriverOp.signal v.doing g v.shown left) e.is)
       (signalled e.none b goes of (subst (λ (y : Stage). ShadowArmed Stuck y DriverOp.signal v.doing v.armed) e.is ar) less s)
   went st DriverOp.disarm b h of ar t i goes less s = absurd (s.other of)

@@ -237,7 +237,8 @@ module _ {P E D : Type 0} (port : PortModel P) (e : DeviceModel E) (d : DriverMo
 
   offer_after : (answer : DriverAct) (s : IsDriverStep port d p q v r.shadow b answer) (st : Stage)
       → (d.side.after v s.op s.access s.got).done ≡ v.done → Rattle.vd_relay.specs.Stages.OfferIs st (since z) v.frame v.done
-      → Rattle.vd_relay.specs.Stages.OfferIs st (since z) (d.side.after v s.op s.access s.got).frame (d.side.after v s.op s.access s.got).done
+      → Rattle.vd_relay.specs.Stages.OfferIs st (since z) (d.side.after v s.op s.access s.got).frame
+      (d.side.after v s.op s.access s.got).done
   offer_after answer s st done is =
       subst (λ (f : Frame). Rattle.vd_relay.specs.Stages.OfferIs st (since z) f (d.side.after v s.op s.access s.got).done)
       (sym (ldr.framed v s.op s.access s.got))
@@ -311,7 +312,8 @@ module _ {P E D : Type 0} (port : PortModel P) (e : DeviceModel E) (d : DriverMo
       → Free e d z (with_shadow r b) w (d.side.after v s.op s.access s.got) → w.armed ≡ None
       → (d.side.after v s.op s.access s.got).armed ≡ None
       → Stands e d z (next_at (none_next (stage.Collecting none))) w (d.side.after v s.op s.access s.got)
-  none_settled true s f ga sa = settled e d law ldr z (with_shadow r b) w (d.side.after v s.op s.access s.got) stage.ArmingGuest refl f tt ga sa
+  none_settled true s f ga sa = settled e d law ldr z (with_shadow r b) w
+      (d.side.after v s.op s.access s.got) stage.ArmingGuest refl f tt ga sa
   none_settled false s f ga sa = settled e d law ldr z (with_shadow r b) w (d.side.after v s.op s.access s.got) stage.Taking refl f tt ga sa
 
   none_live : (none : Bool) → is_rested (none_next (stage.Collecting none)) ≡ false
@@ -347,7 +349,8 @@ module _ {P E D : Type 0} (port : PortModel P) (e : DeviceModel E) (d : DriverMo
 
   -- ---- the same in a wind-up
 
-  finished_same : (s : IsDriverStep port d p q v r.shadow b act.Nothing) → IsFinished (with_shadow r b) w (d.side.after v s.op s.access s.got)
+  finished_same : (s : IsDriverStep port d p q v r.shadow b act.Nothing)
+      → IsFinished (with_shadow r b) w (d.side.after v s.op s.access s.got)
       ↔ IsFinished r w v
   finished_same s =
       let same = ap (λ (o : List DriverDone). length (collects o)) s.says.2 in
@@ -412,7 +415,8 @@ module _ {P E D : Type 0} (port : PortModel P) (e : DeviceModel E) (d : DriverMo
 
   -- ---- armed
 
-  arms_of : (st : Stage) (answer : DriverAct) → (s : IsDriverStep port d p q v r.shadow b answer) → d.begun r.shadow ≡ DriverOp.arm → s.op ≡ op.Arm
+  arms_of : (st : Stage) (answer : DriverAct) → (s : IsDriverStep port d p q v r.shadow b answer) → d.begun r.shadow ≡ DriverOp.arm
+      → s.op ≡ op.Arm
   arms_of st answer s is = subst (λ o. IsDriverOp o s.op) is s.of_it
 
   armed_at : (s : IsDriverStep port d p q v r.shadow b act.Armed) → Rattle.vd_relay.specs.Stages.ShadowArms DriverOp.arm v.doing v.armed
@@ -487,7 +491,8 @@ module _ {P E D : Type 0} (port : PortModel P) (e : DeviceModel E) (d : DriverMo
 
   -- ---- awake
 
-  shown_at : (s : IsDriverStep port d p q v r.shadow b act.Awake) → s.op ≡ op.Arm → ShadowShown DriverOp.arm v.doing v.shown (d.left r.shadow)
+  shown_at : (s : IsDriverStep port d p q v r.shadow b act.Awake) → s.op ≡ op.Arm
+      → ShadowShown DriverOp.arm v.doing v.shown (d.left r.shadow)
       → (d.side.after v s.op s.access s.got).shown ≡ true
   shown_at s arm i = ldr.stays.shown v s.op s.access s.got s.was_next (subst (λ y. DriverGoes y) s.is_answer tt)
       (elim ((ldr.looks.awake v s.op s.access s.got s.was_next).0 (sym s.is_answer)) [
@@ -664,10 +669,12 @@ module _ {P E D : Type 0} (port : PortModel P) (e : DeviceModel E) (d : DriverMo
       → ShadowTurn port e d z p q r (next_at st') w v (waking r.stage)
   woken DriverOp.arm st' is side h s (inl a) m g =
       let at = at_shadow_arm r.stage g in
-      waking_at stage.ArmingShadow st' Worked at (to_stage stage.ArmingShadow (next_at st') Worked at (λ x. arming_woke st' is x s a.0) h) refl
+      waking_at stage.ArmingShadow st' Worked at (to_stage stage.ArmingShadow (next_at st') Worked at (λ x. arming_woke st' is x s a.0) h)
+      refl
   woken DriverOp.hear st' is side h s (inl a) m g =
       let at = at_shadow_hear r.stage g in
-      waking_at stage.HearingShadow st' Woke at (to_stage stage.HearingShadow (next_at st') Woke at (λ x. hearing_woke st' is x s a.0) h) refl
+      waking_at stage.HearingShadow st' Woke at (to_stage stage.HearingShadow (next_at st') Woke at (λ x. hearing_woke st' is x s a.0) h)
+      refl
   woken DriverOp.disarm st' is side h s (inl a) m g =
       let at = at_shadow_disarm r.stage g in
       waking_at stage.DisarmingShadow st' Worked at
@@ -714,7 +721,8 @@ module _ {P E D : Type 0} (port : PortModel P) (e : DeviceModel E) (d : DriverMo
       let idle = hears_idle s in
       let here : IsSome v.armed = hears_armed idle (subst (λ o. ShadowHears o v.doing v.armed) s.says.0 h.shadow_armed) in
       let some : IsSome v'.armed = (here.0, ap (λ (x : DriverView). x.armed) (asleep_view s) ∙ here.1) in
-      made_at act.Asleep s stage.HearingShadow (next_at (heard_next stage.HearingShadow ga sa)) Slept (stands_to ga is f some h.guest_armed) refl
+      made_at act.Asleep s stage.HearingShadow (next_at (heard_next stage.HearingShadow ga sa)) Slept
+      (stands_to ga is f some h.guest_armed) refl
       (not_woken s.op act.Asleep (λ y. cc y)) ((λ y. refl), λ y. refl) (once act.Asleep Slept (λ y. cc y) (λ y. cc y)) (live_to ga)
       (omega (
         arith,
@@ -727,9 +735,11 @@ module _ {P E D : Type 0} (port : PortModel P) (e : DeviceModel E) (d : DriverMo
       stands_to : (x : Bool) → e.armed r.guest ≡ x → Free e d z (with_shadow r b) w (d.side.after v s.op s.access s.got)
           → IsSome (d.side.after v s.op s.access s.got).armed → IsSome w.armed ⊎ Stuck e d
           → Stands e d z (next_at (heard_next stage.HearingShadow x sa)) w (d.side.after v s.op s.access s.got)
-      stands_to true y f some o = settled e d law ldr z (with_shadow r b) w (d.side.after v s.op s.access s.got) stage.HearingGuest refl f tt
+      stands_to true y f some o = settled e d law ldr z (with_shadow r b) w
+          (d.side.after v s.op s.access s.got) stage.HearingGuest refl f tt
           (law.armed r.guest w f.serves y) (inl some)
-      stands_to false y f some o = settled e d law ldr z (with_shadow r b) w (d.side.after v s.op s.access s.got) stage.HearingShadow refl f tt o some
+      stands_to false y f some o = settled e d law ldr z (with_shadow r b) w
+          (d.side.after v s.op s.access s.got) stage.HearingShadow refl f tt o some
 
       live_to : (x : Bool) → is_rested (heard_next stage.HearingShadow x sa) ≡ false
       live_to true = refl
@@ -760,8 +770,10 @@ module _ {P E D : Type 0} (port : PortModel P) (e : DeviceModel E) (d : DriverMo
     room = room_free v.frame v.done s.says.0 ok s.says.5.fits s.says.5.room
 
     tied_now : IsTied z r.table (s.says.0 ∷ []) [] h.acts v.frame v.done
-    tied_now = subst (λ (us : List Used). IsTied z r.table (s.says.0 ∷ []) us h.acts v.frame v.done) (none_back (stage.Offering number head) refl h)
-        (subst (λ (cs : List (List Piece)). IsTied z r.table cs h.back h.acts v.frame v.done) (subst (λ o. OffersHand o h.hand) s.says.1 h.offers) h.tied)
+    tied_now = subst (λ (us : List Used). IsTied z r.table (s.says.0 ∷ []) us h.acts v.frame v.done)
+        (none_back (stage.Offering number head) refl h)
+        (subst (λ (cs : List (List Piece)). IsTied z r.table cs h.back h.acts v.frame v.done)
+        (subst (λ o. OffersHand o h.hand) s.says.1 h.offers) h.tied)
 
     put_inside_at : head < length r.table
     put_inside_at = omega (arith, h.offer.1, next_inside (since z) r.table v.frame v.done s.says.0 ok fits room tied_now.holds)
@@ -859,7 +871,8 @@ module _ {P E D : Type 0} (port : PortModel P) (e : DeviceModel E) (d : DriverMo
 
   pub offered : (number head k : ℕ) → r.stage ≡ stage.Offering number head → Stands e d z r w v
       → IsDriverStep port d p q v r.shadow b (act.Offered k) → ShadowTurn port e d z p q r (stored b number head) w v Handled
-  offered number head k is h s = to_stage (stage.Offering number head) (stored b number head) Handled is (λ x. offered_now number head x k s) h
+  offered number head k is h s = to_stage (stage.Offering number head) (stored b number head) Handled is
+      (λ x. offered_now number head x k s) h
 
   pub offers_at : (k : ℕ) → Stands e d z r w v → IsDriverStep port d p q v r.shadow b (act.Offered k)
       → (number : ℕ) × (head : ℕ) × (r.stage ≡ stage.Offering number head)
@@ -874,8 +887,10 @@ module _ {P E D : Type 0} (port : PortModel P) (e : DeviceModel E) (d : DriverMo
     was_open : 1 ≤ occurs k (open_at v.done)
     was_open = occurs_from k (open_at v.done) said_at.was_open
 
-    tied_here : (none : Bool) → (h : Stands e d z (at_stage r (stage.Collecting none)) w v) → IsTied z r.table h.hand [] h.acts v.frame v.done
-    tied_here none h = subst (λ (us : List Used). IsTied z r.table h.hand us h.acts v.frame v.done) (none_back (stage.Collecting none) refl h) h.tied
+    tied_here : (none : Bool) → (h : Stands e d z (at_stage r (stage.Collecting none)) w v)
+        → IsTied z r.table h.hand [] h.acts v.frame v.done
+    tied_here none h = subst (λ (us : List Used). IsTied z r.table h.hand us h.acts v.frame v.done)
+        (none_back (stage.Collecting none) refl h) h.tied
 
     collected_now : (none : Bool) (number : ℕ) (a' : E) → (h : Stands e d z (at_stage r (stage.Collecting none)) w v)
         → number ≡ since z + k → e.stands a' w → e.begun a' ≡ DeviceOp.give number l → e.resting a' ≡ false → e.left a' ≤ 5

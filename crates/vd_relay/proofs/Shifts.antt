@@ -12,7 +12,8 @@ use Rattle.vd_ring.specs.History.{without, occurs, chain_at}
 use Rattle.vd_ring.proofs.Counts.{one_same, one_other, occurs-append}
 use Rattle.vd_ring.proofs.Rooms.{sum_map}
 
-pub without_shift : (b k : ℕ) (xs ys : List ℕ) → 1 ≤ occurs k xs → without (b + k) (map (λ j. b + j) (xs ++ ys)) ≡ map (λ j. b + j) (without k xs ++ ys)
+pub without_shift : (b k : ℕ) (xs ys : List ℕ) → 1 ≤ occurs k xs
+    → without (b + k) (map (λ j. b + j) (xs ++ ys)) ≡ map (λ j. b + j) (without k xs ++ ys)
 without_shift b k [] ys some = absurd (omega arith)
 without_shift b k (x ∷ xs) ys some = elim (cases_eq x k) [
   | inl e ↦ let f : b + x ≡ b + k = omega arith in rw (eq-eqb x k e, eq-eqb (b + x) (b + k) f) refl

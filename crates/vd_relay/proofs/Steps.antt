@@ -39,7 +39,8 @@ module _ {P E D : Type 0} (port : PortModel P) (e : DeviceModel E) (d : DriverMo
   same_finished : IsKept r u → IsFinished u w v ↔ IsFinished r w v
   same_finished k = ((λ f. (sym k.0 ∙ f.0, omega (arith, f.1, k.1), f.2)), λ f. (k.0 ∙ f.0, omega (arith, f.1, k.1), f.2))
 
-  pub shadow_from : owes e d u w v ≤ owes e d r w v → IsKept r u → ShadowTurn port e d z p q u r' w v t → ShadowTurn port e d z p q r r' w v t
+  pub shadow_from : owes e d u w v ≤ owes e d r w v → IsKept r u → ShadowTurn port e d z p q u r' w v t
+      → ShadowTurn port e d z p q r r' w v t
   shadow_from less k h = record {
     op = h.op;
     access = h.access;
@@ -63,7 +64,8 @@ module _ {P E D : Type 0} (port : PortModel P) (e : DeviceModel E) (d : DriverMo
 raised_small : (k n : ℕ) → raised k n < last_count → raised k n ≡ n + k
 raised_small k n h = omega arith
 
-pub paces : (c c' : Counts) (t : Turn) (owed owed' : ℕ) → c'.accesses ≡ raised (counted t) c.accesses → c'.handled ≡ raised (handled t) c.handled
+pub paces : (c c' : Counts) (t : Turn) (owed owed' : ℕ) → c'.accesses ≡ raised (counted t) c.accesses
+    → c'.handled ≡ raised (handled t) c.handled
     → c'.heard ≡ raised (woke t) c.heard → owed' + counted t ≤ owed + 64 * (handled t + woke t) → KeepsPace c owed → KeepsPace c' owed'
 paces c c' t owed owed' more handles hears paid pace = λ few less quiet.
     let a : c'.accesses ≡ c.accesses + counted t = more ∙ raised_small (counted t) c.accesses (omega (arith, more)) in
@@ -156,7 +158,8 @@ pub record Noted (c c' : Counts) (t : Turn) : Type 0 where
   pub handled : c'.handled ≡ raised (Rattle.vd_relay.specs.Pace.handled t) c.handled
   pub heard : c'.heard ≡ raised (woke t) c.heard
 
-module _ {P E D : Type 0} (port : PortModel P) (e : DeviceModel E) (d : DriverModel D) (z : Start) (p q : P) (r r' : State E D) (c c' : Counts)
+module _ {P E D : Type 0} (port : PortModel P) (e : DeviceModel E) (d : DriverModel D) (z : Start) (p q : P) (r r' : State E D)
+    (c c' : Counts)
     (w : DeviceView) (v : DriverView) (t : Turn) (said : Move) (b : Bool) where
   pub on_guest : said ≡ move_of t b → Noted c c' t → KeepsPace c (owes e d r w v) → GuestTurn port e d z p q r r' w v t
       → OnGuest port e d z p q r r' c c' w v said

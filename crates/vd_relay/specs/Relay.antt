@@ -231,7 +231,8 @@ pub record HandsBack {E D : Type 0} (e : DeviceModel E) (d : DriverModel D) (z :
 
 -- ---- a relay that may make a step
 
-abbrev pub CanStep : {P Q E D : Type 0} → PortModel P → PortModel Q → DeviceModel E → DriverModel D → List Mapping → P → Q → State E D → Counts
+abbrev pub CanStep : {P Q E D : Type 0} → PortModel P → PortModel Q → DeviceModel E → DriverModel D → List Mapping → P → Q → State E D
+    → Counts
     → Type 0
 CanStep p q e d ms a b r c = (z : Start) × (w : DeviceView) × (v : DriverView) × Holds e d z r c w v × (ms ≡ z.map)
     × IsOwn p e.side a w × IsOwn q d.side b v

@@ -41,7 +41,8 @@ fn rouse(guest: bool, shadow: bool, winding: bool, finished: bool) -> Stage
 /// What comes next where it sleeps no more.
 pub(crate) fn after_sleep<L: Layout>(state: &State<L::Device, L::Driver>) -> Stage
     ensures live { is_rested result ≡ false }
-    ensures roused { (w : DeviceView) (v : DriverView) → L.Device.device.stands state.now.guest w → L.Driver.driver.stands state.now.shadow v
+    ensures roused { (w : DeviceView) (v : DriverView) → L.Device.device.stands state.now.guest w
+        → L.Driver.driver.stands state.now.shadow v
         → IsRoused L.Device.device L.Driver.driver state.now w v result }
 {
     rouse(
@@ -72,8 +73,10 @@ pub(crate) fn turn<L: Layout>(state: &mut State<L::Device, L::Driver>)
         → Stays L.Device.device L.Driver.driver z state.old state.new w v }
     ensures live { is_rested state.new.stage ≡ false }
     ensures turned { state.new.winding ≡ true → state.new.stage ≡ Taking → ¬ (L.Device.device.begun state.new.guest ≡ DeviceOp.idle) }
-    ensures guest_arms { state.new.winding ≡ true → state.new.stage ≡ ArmingGuest → ¬ (L.Device.device.begun state.new.guest ≡ DeviceOp.idle) }
-    ensures shadow_arms { state.new.winding ≡ true → state.new.stage ≡ ArmingShadow → ¬ (L.Driver.driver.begun state.new.shadow ≡ DriverOp.idle) }
+    ensures guest_arms { state.new.winding ≡ true → state.new.stage ≡ ArmingGuest
+        → ¬ (L.Device.device.begun state.new.guest ≡ DeviceOp.idle) }
+    ensures shadow_arms { state.new.winding ≡ true → state.new.stage ≡ ArmingShadow
+        → ¬ (L.Driver.driver.begun state.new.shadow ≡ DriverOp.idle) }
     ensures kept { IsKept state.old state.new }
     ensures quiet { IsQuiet L.Driver.driver state.old state.new }
 {
@@ -86,8 +89,10 @@ pub(crate) fn turn<L: Layout>(state: &mut State<L::Device, L::Driver>)
 pub(crate) fn begin<L: Layout>(state: &mut State<L::Device, L::Driver>)
     requires live { is_rested state.old.stage ≡ false }
     requires turned { state.old.winding ≡ true → state.old.stage ≡ Taking → ¬ (L.Device.device.begun state.old.guest ≡ DeviceOp.idle) }
-    requires guest_arms { state.old.winding ≡ true → state.old.stage ≡ ArmingGuest → ¬ (L.Device.device.begun state.old.guest ≡ DeviceOp.idle) }
-    requires shadow_arms { state.old.winding ≡ true → state.old.stage ≡ ArmingShadow → ¬ (L.Driver.driver.begun state.old.shadow ≡ DriverOp.idle) }
+    requires guest_arms { state.old.winding ≡ true → state.old.stage ≡ ArmingGuest
+        → ¬ (L.Device.device.begun state.old.guest ≡ DeviceOp.idle) }
+    requires shadow_arms { state.old.winding ≡ true → state.old.stage ≡ ArmingShadow
+        → ¬ (L.Driver.driver.begun state.old.shadow ≡ DriverOp.idle) }
     requires own { (z : Start) × (w : DeviceView) × (v : DriverView) × Stands L.Device.device L.Driver.driver z state.old w v }
     ensures stays { (z : Start) (w : DeviceView) (v : DriverView) → Stands L.Device.device L.Driver.driver z state.old w v
         → Stays L.Device.device L.Driver.driver z state.old state.new w v }
@@ -108,7 +113,8 @@ pub(crate) fn begin<L: Layout>(state: &mut State<L::Device, L::Driver>)
 fn begin_guest<L: Layout>(state: &mut State<L::Device, L::Driver>)
     requires live { is_rested state.old.stage ≡ false }
     requires turned { state.old.winding ≡ true → state.old.stage ≡ Taking → ¬ (L.Device.device.begun state.old.guest ≡ DeviceOp.idle) }
-    requires guest_arms { state.old.winding ≡ true → state.old.stage ≡ ArmingGuest → ¬ (L.Device.device.begun state.old.guest ≡ DeviceOp.idle) }
+    requires guest_arms { state.old.winding ≡ true → state.old.stage ≡ ArmingGuest
+        → ¬ (L.Device.device.begun state.old.guest ≡ DeviceOp.idle) }
     requires side { is_shadow state.old.stage ≡ false }
     requires own { (z : Start) × (w : DeviceView) × (v : DriverView) × Stands L.Device.device L.Driver.driver z state.old w v }
     ensures stays { (z : Start) (w : DeviceView) (v : DriverView) → Stands L.Device.device L.Driver.driver z state.old w v
@@ -132,7 +138,8 @@ fn begin_guest<L: Layout>(state: &mut State<L::Device, L::Driver>)
 
 /// Of the shadow end. An offer was begun when its chain was taken.
 fn begin_shadow<L: Layout>(state: &mut State<L::Device, L::Driver>)
-    requires shadow_arms { state.old.winding ≡ true → state.old.stage ≡ ArmingShadow → ¬ (L.Driver.driver.begun state.old.shadow ≡ DriverOp.idle) }
+    requires shadow_arms { state.old.winding ≡ true → state.old.stage ≡ ArmingShadow
+        → ¬ (L.Driver.driver.begun state.old.shadow ≡ DriverOp.idle) }
     requires side { is_shadow state.old.stage ≡ true }
     requires own { (z : Start) × (w : DeviceView) × (v : DriverView) × Stands L.Device.device L.Driver.driver z state.old w v }
     ensures stays { (z : Start) (w : DeviceView) (v : DriverView) → Stands L.Device.device L.Driver.driver z state.old w v

@@ -42,7 +42,8 @@ fn make_turn<L: Layout, P: Port, Q: Port>(
     requires live { is_rested state.old.stage ≡ false }
     requires own { CanTurn P.port Q.port L.Device.device L.Driver.driver tree.now.mappings guest_port.old shadow_port.old state.old }
     ensures made { (z : Start) (w : DeviceView) (v : DriverView) → Stands L.Device.device L.Driver.driver z state.old w v
-        → tree.now.mappings ≡ z.map → IsOwn P.port L.Device.device.side guest_port.old w → IsOwn Q.port L.Driver.driver.side shadow_port.old v
+        → tree.now.mappings ≡ z.map → IsOwn P.port L.Device.device.side guest_port.old w
+        → IsOwn Q.port L.Driver.driver.side shadow_port.old v
         → OneTurn P.port Q.port L.Device.device L.Driver.driver z guest_port.old guest_port.new shadow_port.old shadow_port.new state.old
         state.new w v result }
     ensures kept { IsKept state.old state.new }
@@ -75,7 +76,8 @@ impl<L: Layout> Relay<L> {
         requires unarmed { L.Device.device.armed guest ≡ false }
         requires fresh { L.Driver.driver.begun shadow ≡ DriverOp.idle }
         requires apart { L.Driver.driver.armed shadow ≡ false }
-        ensures holds { (ms : List Mapping) (w : DeviceView) (v : DriverView) → IsOpen L.Device.device L.Driver.driver ms guest shadow table w v
+        ensures holds { (ms : List Mapping) (w : DeviceView) (v : DriverView)
+            → IsOpen L.Device.device L.Driver.driver ms guest shadow table w v
             → Holds L.Device.device L.Driver.driver (start ms w) result.state result.counts w v }
         ensures live { is_rested result.state.stage ≡ false }
         ensures winding { result.state.winding ≡ false }
@@ -107,7 +109,8 @@ impl<L: Layout> Relay<L> {
         requires live { is_rested self.old.state.stage ≡ false }
         requires own { CanStep P.port Q.port L.Device.device L.Driver.driver tree.now.mappings guest_port.old shadow_port.old self.old.state
             self.old.counts }
-        ensures step { (z : Start) (w : DeviceView) (v : DriverView) → Holds L.Device.device L.Driver.driver z self.old.state self.old.counts w v
+        ensures step { (z : Start) (w : DeviceView) (v : DriverView)
+            → Holds L.Device.device L.Driver.driver z self.old.state self.old.counts w v
             → tree.now.mappings ≡ z.map → IsOwn P.port L.Device.device.side guest_port.old w
             → IsOwn Q.port L.Driver.driver.side shadow_port.old v
             → IsRelayStep P.port Q.port L.Device.device L.Driver.driver z guest_port.old guest_port.new shadow_port.old shadow_port.new w v
@@ -138,7 +141,8 @@ impl<L: Layout> Relay<L> {
     pub fn begin_wind_up(&mut self, given: u32)
         requires live { is_rested self.old.state.stage ≡ false }
         requires once { self.old.state.winding ≡ false }
-        ensures holds { (z : Start) (w : DeviceView) (v : DriverView) → Holds L.Device.device L.Driver.driver z self.old.state self.old.counts w v
+        ensures holds { (z : Start) (w : DeviceView) (v : DriverView)
+            → Holds L.Device.device L.Driver.driver z self.old.state self.old.counts w v
             → Holds L.Device.device L.Driver.driver z self.new.state self.new.counts w v }
         ensures live { is_rested self.new.state.stage ≡ false }
         ensures winding { self.new.state.winding ≡ true }

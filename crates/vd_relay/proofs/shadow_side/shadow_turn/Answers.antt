@@ -7,7 +7,8 @@ use Rattle.vd_relay.proofs.shadow_side.shadow_turn.Goals as goal
 pub returns-in-Moved-clause-turn : goal.returns-in-Moved-clause-turn
 returns-in-Moved-clause-turn g c = λ z w v h own.
     let law = g.met.L.Layout.lawful in
-    went_on g.Q.Port.port g.L.Device.DeviceEnd.device g.L.Driver.DriverEnd.driver law.device_end law.driver_end z c.args.port.now c.step.new.port
+    went_on g.Q.Port.port g.L.Device.DeviceEnd.device g.L.Driver.DriverEnd.driver law.device_end law.driver_end z c.args.port.now
+    c.step.new.port
     c.args.state.now w v c.step.new.self c.requires.side h (c.in-Moved.ensures v h.drives own)
 
 pub returns-then-state-clause-turn : goal.returns-then-state-clause-turn
@@ -63,7 +64,8 @@ put-requires-clause-inside g c =
     let law = g.met.L.Layout.lawful in
     let o = c.requires.own in
     put_inside g.Q.Port.port g.L.Device.DeviceEnd.device g.L.Driver.DriverEnd.driver law.device_end law.driver_end o.0 c.args.port.now
-    c.step.new.port c.args.state.now o.1 o.2 c.step.new.self c.in-Offering.number c.in-Offering.head c.in-Offered.field-0 c.in-Offering.is o.3
+    c.step.new.port c.args.state.now o.1 o.2 c.step.new.self c.in-Offering.number c.in-Offering.head c.in-Offered.field-0 c.in-Offering.is
+    o.3
     (c.in-Offered.ensures o.2 o.3.drives o.4)
 
 pub put-requires-clause-free : goal.put-requires-clause-free
@@ -71,7 +73,8 @@ put-requires-clause-free g c =
     let law = g.met.L.Layout.lawful in
     let o = c.requires.own in
     put_free g.Q.Port.port g.L.Device.DeviceEnd.device g.L.Driver.DriverEnd.driver law.device_end law.driver_end o.0 c.args.port.now
-    c.step.new.port c.args.state.now o.1 o.2 c.step.new.self c.in-Offering.number c.in-Offering.head c.in-Offered.field-0 c.in-Offering.is o.3
+    c.step.new.port c.args.state.now o.1 o.2 c.step.new.self c.in-Offering.number c.in-Offering.head c.in-Offered.field-0 c.in-Offering.is
+    o.3
     (c.in-Offered.ensures o.2 o.3.drives o.4)
 
 pub returns-in-Offering-clause-turn : goal.returns-in-Offering-clause-turn
@@ -103,11 +106,13 @@ begin_give-requires-clause-may g c =
     let s = c.in-Collected.ensures o.2 o.3.drives o.4 in
     let at = stored_there g.Q.Port.port g.L.Device.DeviceEnd.device g.L.Driver.DriverEnd.driver law.device_end law.driver_end o.0
     c.args.port.now c.step.new.port c.args.state.now o.1 o.2 c.step.new.self _ _ _ o.3 s in
-    let is = number_is c.in-Guest.number c.in-Guest.ack_place (since o.0) c.in-Collected.number (same_origin _ _ _ c.in-Guest.ensures.origin at) in (
+    let is = number_is c.in-Guest.number c.in-Guest.ack_place (since o.0) c.in-Collected.number
+    (same_origin _ _ _ c.in-Guest.ensures.origin at) in (
       o.1,
       o.3.serves,
       subst (λ k. MayGive o.1.frame o.1.done k) (sym is)
-          (may_give_it g.Q.Port.port g.L.Device.DeviceEnd.device g.L.Driver.DriverEnd.driver law.device_end law.driver_end o.0 c.args.port.now
+          (may_give_it g.Q.Port.port g.L.Device.DeviceEnd.device g.L.Driver.DriverEnd.driver law.device_end law.driver_end o.0
+          c.args.port.now
           c.step.new.port c.args.state.now o.1 o.2 c.step.new.self _ _ _ o.3 s),
     )
 
@@ -117,7 +122,8 @@ returns-in-Guest-clause-turn g c = λ z w v h own.
     let s = c.in-Collected.ensures v h.drives own in
     let at = stored_there g.Q.Port.port g.L.Device.DeviceEnd.device g.L.Driver.DriverEnd.driver law.device_end law.driver_end z
     c.args.port.now c.step.new.port c.args.state.now w v c.step.new.self _ _ _ h s in
-    let is = number_is c.in-Guest.number c.in-Guest.ack_place (since z) c.in-Collected.number (same_origin _ _ _ c.in-Guest.ensures.origin at) in
+    let is = number_is c.in-Guest.number c.in-Guest.ack_place (since z) c.in-Collected.number
+    (same_origin _ _ _ c.in-Guest.ensures.origin at) in
     rw c.take.ensures.rows
     (collected g.Q.Port.port g.L.Device.DeviceEnd.device g.L.Driver.DriverEnd.driver law.device_end law.driver_end z c.args.port.now
     c.step.new.port c.args.state.now w v c.step.new.self _ _ _ c.in-Guest.number c.begin_give.new.self h s is

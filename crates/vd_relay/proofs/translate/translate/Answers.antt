@@ -24,5 +24,6 @@ loop-i-preserved c =
           ∙ next_moved ms i x c.in-Some.addr (omega (arith, c.loop-i.invariant.many)) found ∙ ap (λ (k : ℕ). moved_to ms k x) next;
       many = c.loop-i.invariant.many;
       lawful = subst (λ (y : List Piece). IsChain y) (sym c.set_addr.ensures)
-          (is_chain_addressed c.loop-i.chain i c.in-Some.addr (omega (arith, same, c.loop-i.invariant.many)) small c.loop-i.invariant.lawful);
+          (is_chain_addressed c.loop-i.chain i c.in-Some.addr
+          (omega (arith, same, c.loop-i.invariant.many)) small c.loop-i.invariant.lawful);
     }
