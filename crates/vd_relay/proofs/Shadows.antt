@@ -26,7 +26,7 @@ use Rattle.vd_layout.proofs.OnePair.{CollectedOne, says_collected}
 use Rattle.vd_layout.specs.Begun.{DriverOp, DeviceOp, DriverPublished, IsDriverOp, MayWake}
 use Rattle.vd_layout.specs.Driver.{DriverModel, IsLawfulDriver, IsDriverStep}
 use Rattle.vd_layout.specs.Device.{DeviceModel, IsLawfulDevice, MayGive}
-use Rattle.vd_layout.specs.Unarmed.{device_unarmed, driver_unarmed}
+use Rattle.vd_layout.specs.laws.Unarmed.{device_unarmed, driver_unarmed}
 use Rattle.vd_table.specs.declared.Origin.{Origin}
 use Rattle.vd_table.specs.declared.Origin.TheVariants.{Guest}
 use Rattle.vd_table.specs.Rows.{row}
