@@ -2,6 +2,7 @@
 #![tactic(auto)]
 
 mod bench;
+mod calls;
 mod draws;
 mod epoch;
 mod floor;
@@ -10,6 +11,7 @@ mod order;
 mod playing;
 mod preparing;
 mod rounds;
+mod setup;
 mod turn;
 
 pub use bench::Bench;
