@@ -62,8 +62,11 @@ module _ {E : Type 0} (e : DeviceModel E) (plan : Plan) (lanes : List (Lane E)) 
       let v : Vring = record (vring_of b q) { base = e.base end } in
       let set = base_is (e.base end) b' made in
       let new : Based q v = (
-        record { num = ap (λ (z : Vring). z.num) got ∙ (rings.each q low).num; addr = ap (λ (z : Vring). z.addr) got
-            ∙ (rings.each q low).addr },
+        record {
+          num = ap (λ (z : Vring). z.num) got ∙ (rings.each q low).num;
+          addr = ap (λ (z : Vring). z.addr) got
+              ∙ (rings.each q low).addr;
+        },
         λ z under atz end' isz. ap e.base (some_same end end' (Some end) refl
             (sym is ∙ ap (λ (w : Lane E). w.still) (some_same lane z (slice_get lanes q) at atz) ∙ isz)),
       ) in

@@ -12,8 +12,8 @@ ghost use Rattle.vd_play.specs.Setting.{setting_of};
 ghost use Rattle.vd_play.specs.Setup.{on, serving, HasBase, IsReady, IsUp, HasRings};
 
 use crate::bench::Bench;
-use crate::floor::{Floor, Lane};
 use crate::calls::{enable, order};
+use crate::floor::{Floor, Lane};
 use crate::order::{chain_count, stop_of};
 use vd_bus::{Bus, Device, Guest};
 use vd_layout::Layout;

@@ -1,46 +1,19 @@
 //! The bus of a machine, from its bring-up on (VIRTIO 1.2, 3.1.1).
-ghost use Rattle.std.specs.Prelude.{◌≡◌, ◌<◌, ◌≤◌, ◌^◌, ◌*◌, ℕ, true, false, [], length, None};
-ghost use Rattle.vd_bus.specs.BusStatus.{is_running};
+ghost use Rattle.std.specs.Prelude.{◌≡◌, length};
 ghost use Rattle.vd_machine.specs.File.{view};
-ghost use Rattle.vd_play.specs.Journal.{pass_map};
-ghost use Rattle.vd_play.specs.Setup.{ring_addr, region_message, with_vrings, with_map, Stands, IsBrought, IsUp, HasRings, IsBefore, AllServe, HasBases, IsReady};
+ghost use Rattle.vd_play.specs.Setup.{with_vrings, Stands, IsBrought, IsUp, HasRings, IsBefore, AllServe, HasBases, IsReady};
 
-use crate::calls::{resume, send, set_addr, set_base, set_features, set_num, set_status, suspend};
+use crate::calls::{resume, set_addr, set_base, set_features, set_num, set_status, suspend};
 use crate::floor::Lane;
+use crate::messages::{map_regions, unmap_regions};
+use crate::ring_addr::ring_addr;
 use vd_bus::Bus;
 use vd_layout::DeviceEnd;
-use vd_machine::{Machine, Region};
-use vd_uapi::{Msg, VringAddr, VringState};
+use vd_machine::Machine;
+use vd_uapi::VringState;
 
 /// The last iova: a region that lies outside the machine's own range of iovas is passed too.
 const LAST: u64 = (1 << 63) - 1;
-
-/// VHOST_IOTLB_UPDATE and VHOST_IOTLB_INVALIDATE.
-const UPDATE: u8 = 2;
-const INVALIDATE: u8 = 3;
-
-/// Where a ring lies that a queue has: ring r at r * 2^32, its areas in a row.
-fn ring_addr(packed: bool, size: u32, queue: u32, ring: u32) -> VringAddr
-    requires small { size < 2 ^ 16 }
-    requires low { ring < 2 ^ 31 }
-    ensures { result ≡ ring_addr packed size queue ring }
-{
-    let words = size as u64;
-    let at = ring as u64 * (1 << 32);
-    let device_area = if packed {
-        2 * words + 1
-    } else {
-        2 * words + (words + 6) / 4
-    };
-    VringAddr {
-        index: queue,
-        flags: 0,
-        desc: at,
-        used: at + 8 * device_area,
-        avail: at + 8 * (2 * words),
-        log: 0,
-    }
-}
 
 /// The bus at FEATURES_OK.
 fn new_bus(m: &Machine) -> Bus
@@ -147,41 +120,5 @@ fn set_bases<E: DeviceEnd>(m: &Machine, bus: &mut Bus, lanes: &[Lane<E>])
             };
             set_base(bus, &v);
         }
-    }
-}
-
-/// The message on a region at its own address.
-fn message(kind: u8, region: &Region) -> Msg
-    ensures { result ≡ region_message kind region.now }
-{
-    Msg {
-        asid: 0,
-        iova: region.addr,
-        size: region.size,
-        uaddr: region.addr,
-        perm: 3,
-        kind,
-    }
-}
-
-/// Maps each region at its own address.
-fn map_regions(m: &Machine, bus: &mut Bus)
-    requires stands { Stands (view m.now) bus.old }
-    requires empty { bus.old.map ≡ [] }
-    ensures { bus.new ≡ with_map bus.old (pass_map (view m.now)) }
-{
-    for region in m.regions.as_slice() {
-        send(bus, &message(UPDATE, region));
-    }
-}
-
-/// Takes out the mapping of each region.
-fn unmap_regions(m: &Machine, bus: &mut Bus)
-    requires stands { Stands (view m.now) bus.old }
-    requires mapped { bus.old.map ≡ pass_map (view m.now) }
-    ensures { bus.new ≡ with_map bus.old [] }
-{
-    for region in m.regions.as_slice() {
-        send(bus, &message(INVALIDATE, region));
     }
 }

@@ -48,19 +48,19 @@ loop-q-preserved g c =
                 (omega (arith, slice_get_within c.args.lanes.now k z atz, c.requires.many)) atz;
           }
       | in_default w ↦ subst (λ (z : BusState). record {
-            same : z ≡ with_vrings c.args.bus.now z.vrings;
-            rings : HasRings plan z;
-            bases : (k : ℕ) (lane : Lane _) → k < q + 1 → slice_get c.args.lanes.now k ≡ Some lane
-                → HasBase g.E.DeviceEnd.device lane.still (vring_at plan z k);
-          }) (sym w.bus-is) (record {
-            same = v.same;
-            rings = v.rings;
-            bases = λ k z less atz end is. elim (cases_eq k q) [
-              | inl e ↦ absurd (w.in_default.not-Some end (ap (λ (l : Lane _). l.still)
-                  (some_same _ z (slice_get c.args.lanes.now q) at (ap (λ (j : ℕ). slice_get c.args.lanes.now j) (sym e) ∙ atz)) ∙ is))
-              | inr other ↦ v.bases k z (omega (arith, less, other)) atz end is
-            ];
-          })
+        same : z ≡ with_vrings c.args.bus.now z.vrings;
+        rings : HasRings plan z;
+        bases : (k : ℕ) (lane : Lane _) → k < q + 1 → slice_get c.args.lanes.now k ≡ Some lane
+            → HasBase g.E.DeviceEnd.device lane.still (vring_at plan z k);
+      }) (sym w.bus-is) (record {
+        same = v.same;
+        rings = v.rings;
+        bases = λ k z less atz end is. elim (cases_eq k q) [
+          | inl e ↦ absurd (w.in_default.not-Some end (ap (λ (l : Lane _). l.still)
+              (some_same _ z (slice_get c.args.lanes.now q) at (ap (λ (j : ℕ). slice_get c.args.lanes.now j) (sym e) ∙ atz)) ∙ is))
+          | inr other ↦ v.bases k z (omega (arith, less, other)) atz end is
+        ];
+      })
     ]
 
 pub returns-clause-bases : goal.returns-clause-bases

@@ -2,7 +2,7 @@ use Rattle.std.proofs.Common.{ap, ◌∙◌}
 use Rattle.std.proofs.lemmas.Option.{slice_get-get_or}
 use Rattle.vd_machine.specs.Regions.{are_regions}
 use Rattle.vd_play.proofs.Maps.{invalidated}
-use Rattle.vd_play.proofs.setup.unmap_regions.Goals as goal
+use Rattle.vd_play.proofs.messages.unmap_regions.Goals as goal
 
 pub loop-region-preserved : goal.loop-region-preserved
 loop-region-preserved c =

@@ -5,7 +5,7 @@ use Rattle.vd_machine.specs.File.{view}
 use Rattle.vd_machine.specs.Regions.{are_regions}
 use Rattle.vd_play.proofs.Buses.{stands_map}
 use Rattle.vd_play.proofs.Maps.{update_granted}
-use Rattle.vd_play.proofs.setup.map_regions.Goals as goal
+use Rattle.vd_play.proofs.messages.map_regions.Goals as goal
 
 pub send-requires : goal.send-requires
 send-requires c =
