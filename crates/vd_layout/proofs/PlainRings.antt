@@ -21,8 +21,8 @@ use Rattle.vd_ring.specs.declared.device.DeviceView.{DeviceView}
 use Rattle.vd_layout.specs.Begun.{DriverOp, DeviceOp}
 use Rattle.vd_layout.specs.Driver.{DriverModel, HasRoom, MayOffer}
 use Rattle.vd_layout.specs.Device.{DeviceModel, is_rested}
-use Rattle.vd_layout.specs.Unarmed.{driver_unarmed, device_unarmed}
-use Rattle.vd_layout.specs.Runs.{still_awake}
+use Rattle.vd_layout.specs.laws.Unarmed.{driver_unarmed, device_unarmed}
+use Rattle.vd_layout.specs.laws.Runs.{still_awake}
 use Rattle.vd_layout.specs.Ended.{DriverEnded, DeviceEnded}
 use Rattle.vd_layout.specs.Layout.{LayoutModel, IsLawfulLayout, IsMadeWith, CanMake, IsFresh}
 use Rattle.vd_layout.specs.Both.{AreOn, plain_frame}

@@ -10,10 +10,10 @@ pub mod Runs
 pub mod Stepped
 pub mod DriverFinish
 pub mod DeviceFinish
-pub mod Unarmed
 pub mod Whole
 pub mod Both
 pub mod RingLists
 pub mod Noted
 pub mod Ended
 pub mod PlainRing
+pub mod laws

@@ -1,6 +1,5 @@
 -- For which views the device's end of a packed ring stands, and what it has begun.
 use Rattle.std.specs.Prelude.{◌≡◌, ℕ, ◌+◌, ◌-◌, ◌*◌, ◌/◌, ◌<◌, ◌≤◌, ◌&&◌, not, nat_eq, nat_lt, Bool, true, false, List, [], ◌∷◌, ◌++◌, length, Option, None, Some, if◌then◌else◌, slice_index_or}
-use Rattle.std.proofs.Common.{ap, ◌∙◌}
 use Rattle.vd_model.specs.declared.chain.Piece.{Piece}
 use Rattle.vd_model.specs.Chains.{needs}
 use Rattle.vd_words.specs.declared.access.Op.{Op}
@@ -170,13 +169,6 @@ pub record DeviceStands (e : PackedDevice) (v : DeviceView) : Type 0 where
   pub kick : e.kick ≡ kick_at v.frame
   pub signals : DeviceSignals e.armed e.heard e.bells e.given e.doing v
   pub doing : DeviceStepStands e.doing e.pieces.items e.second e.at v.frame v.done v.doing
-
--- an end that is not armed stands for views that are not
-pub not_armed : (e : PackedDevice) (v : DeviceView) → DeviceStands e v → e.armed ≡ false → v.armed ≡ None
-not_armed e v st off = st.signals.is_armed ∙ ap (λ (b : Bool). if b then Some (take_position v.frame v.done) else None) off
-
-pub is_armed : (e : PackedDevice) (v : DeviceView) → DeviceStands e v → e.armed ≡ true → v.armed ≡ Some (take_position v.frame v.done)
-is_armed e v st on = st.signals.is_armed ∙ ap (λ (b : Bool). if b then Some (take_position v.frame v.done) else None) on
 
 -- ---- the operation that is begun, and the accesses that it still takes at most
 

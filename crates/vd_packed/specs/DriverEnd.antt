@@ -1,6 +1,5 @@
 -- For which views the driver's end of a packed ring stands, and what it has begun.
 use Rattle.std.specs.Prelude.{◌≡◌, ℕ, zero, suc, ◌+◌, ◌-◌, ◌*◌, ◌/◌, ◌<◌, ◌≤◌, Bool, true, false, if◌then◌else◌, List, length, take, Some, None, slice_index_or}
-use Rattle.std.proofs.Common.{ap, ◌∙◌}
 use Rattle.vd_model.specs.declared.chain.Piece.{Piece}
 use Rattle.vd_model.specs.declared.features.Features.{Features}
 use Rattle.vd_model.specs.Chains.{needs}
@@ -131,13 +130,6 @@ pub record DriverStands (e : PackedDriver) (v : DriverView) : Type 0 where
   pub kick : e.kick ≡ kick_at v.frame
   pub signals : DriverSignals e.armed e.heard e.bells e.offered e.doing v
   pub doing : DriverStepStands e.doing e.pieces.items e.at v.frame v.done v.doing
-
--- an end that is not armed stands for views that are not
-pub not_armed : (e : PackedDriver) (v : DriverView) → DriverStands e v → e.armed ≡ false → v.armed ≡ None
-not_armed e v st off = st.signals.is_armed ∙ ap (λ (b : Bool). if b then Some (collect_position v.frame v.done) else None) off
-
-pub is_armed : (e : PackedDriver) (v : DriverView) → DriverStands e v → e.armed ≡ true → v.armed ≡ Some (collect_position v.frame v.done)
-is_armed e v st on = st.signals.is_armed ∙ ap (λ (b : Bool). if b then Some (collect_position v.frame v.done) else None) on
 
 -- ---- the operation that is begun, and the accesses that it still takes at most
 

@@ -5,11 +5,5 @@ pub mod Events
 pub mod DriverEnd
 pub mod DeviceEnd
 pub mod Telling
-pub mod TabledSteps
-pub mod DriverBells
 pub mod Loaded
-pub mod Loads
-pub mod DeviceLooking
-pub mod DeviceTabling
-pub mod DeviceBells
 pub mod laws

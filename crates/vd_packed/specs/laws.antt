@@ -13,3 +13,11 @@ pub mod DeviceRest
 pub mod DeviceLaws
 pub mod Opening
 pub mod PackedLayout
+pub mod DeviceBells
+pub mod DeviceEnd
+pub mod DeviceLooking
+pub mod DeviceTabling
+pub mod DriverBells
+pub mod DriverEnd
+pub mod Loads
+pub mod TabledSteps

@@ -17,7 +17,7 @@ use Rattle.vd_ring.specs.declared.device.DeviceNow.TheVariants as device
 use Rattle.vd_ring.specs.declared.device.DeviceView.{DeviceView}
 use Rattle.vd_ring.specs.History.{entry, open_size, offers, collects, takes, gives, open_at, head, chain, occurs, used_at, collected, with_head}
 use Rattle.vd_ring.specs.Places.{Places}
-use Rattle.vd_ring.specs.Signals.{moves}
+use Rattle.vd_ring.specs.laws.Signals.{moves}
 use Rattle.vd_ring.specs.Lists.{Lists}
 use Rattle.vd_ring.proofs.Counts.{sum_one, Contains_from, with_head_is}
 use Rattle.vd_ring.proofs.HeldPlaces.{open_below, chain_fits, collect_places, same_head}

@@ -14,7 +14,7 @@ use Rattle.vd_ring.specs.Control.{Acks}
 use Rattle.vd_ring.specs.Places.{Places}
 use Rattle.vd_ring.specs.Lists.{Lists}
 use Rattle.vd_ring.specs.Signals.{Signals}
-use Rattle.vd_ring.specs.Signals as signal
+use Rattle.vd_ring.specs.laws.Signals as signal
 use Rattle.vd_ring.proofs.DeviceAcks.{acks_elsewhere}
 use Rattle.vd_packed_ring.specs.PackedWords.{IsDevices, width, driver_event, device_event, kick_at, call_at, ack_word, second_word, is_available}
 use Rattle.vd_packed_ring.specs.PackedSignals.{armed_value, disabled, bell_word, asks, StoresEvent, StoresDisable, StoresBell}

@@ -9,7 +9,7 @@ use Rattle.vd_ring.specs.declared.driver.DriverView.{DriverView}
 use Rattle.vd_ring.specs.declared.device.DeviceNow.{DeviceNow}
 use Rattle.vd_ring.specs.declared.device.DeviceNow.TheVariants.{Idle, Taking, Checking, Ringing, Arming, Disarming, Resting}
 use Rattle.vd_ring.specs.declared.device.DeviceView.{DeviceView}
-use Rattle.vd_ring.specs.Signals.{wakes}
+use Rattle.vd_ring.specs.laws.Signals.{wakes}
 use Rattle.vd_packed_ring.specs.PackedWords.{IsDescriptors, driver_event, device_event, kick_at, call_at, second_word, width}
 use Rattle.vd_packed_ring.specs.PackedSignals.{StoresEvent, StoresBell, LoadsBell}
 use Rattle.vd_packed_ring.specs.PackedPositions.{take_position}

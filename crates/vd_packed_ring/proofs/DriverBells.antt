@@ -14,7 +14,7 @@ use Rattle.vd_ring.specs.History.{collects, gives}
 use Rattle.vd_ring.specs.Control.{Commands}
 use Rattle.vd_ring.specs.Places.{Places}
 use Rattle.vd_ring.specs.Signals.{Signals}
-use Rattle.vd_ring.specs.Signals as signal
+use Rattle.vd_ring.specs.laws.Signals as signal
 use Rattle.vd_ring.proofs.ControlSteps.{commands_elsewhere}
 use Rattle.vd_packed_ring.specs.PackedWords.{IsDrivers, width, tables_from, commands_from, driver_event, device_event, kick_at, call_at, command_word, ack_word, second_word, is_used}
 use Rattle.vd_packed_ring.specs.PackedSignals.{armed_value, disabled, bell_word, asks, StoresEvent, StoresDisable, StoresBell}

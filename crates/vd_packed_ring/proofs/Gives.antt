@@ -12,8 +12,9 @@ use Rattle.vd_ring.specs.declared.device.DeviceDone.{DeviceDone}
 use Rattle.vd_ring.specs.declared.device.DeviceDone.TheVariants.{Give, Rest}
 use Rattle.vd_ring.specs.declared.device.DeviceNow.TheVariants.{Idle, Checking, Resting}
 use Rattle.vd_ring.specs.declared.device.DeviceView.{DeviceView}
-use Rattle.vd_ring.specs.Signals.{Signals, nothing, moves}
-use Rattle.vd_ring.specs.Signals.{publishes as publishes_range}
+use Rattle.vd_ring.specs.Signals.{Signals, nothing}
+use Rattle.vd_ring.specs.laws.Signals.{moves}
+use Rattle.vd_ring.specs.laws.Signals.{publishes as publishes_range}
 use Rattle.vd_ring.specs.Sleep.{gives_made}
 use Rattle.vd_ring.specs.History.{offers, takes, gives, running, running_size, taken_head, with_head, head, chain, chain_at, given, batch, entry, IsWhole}
 use Rattle.vd_ring.proofs.Counts.{occurs_from, with_head_is, sum_one}

@@ -22,7 +22,8 @@ use Rattle.vd_ring.specs.Frames.{borrowed}
 use Rattle.vd_ring.specs.History.{offers, takes, gives, free, head, next_head, chain, used_at, entry}
 use Rattle.vd_ring.specs.Places.{Places}
 use Rattle.vd_ring.specs.Lists.{Lists}
-use Rattle.vd_ring.specs.Signals.{Signals, check, moves, publishes as publishes_range}
+use Rattle.vd_ring.specs.Signals.{Signals, check}
+use Rattle.vd_ring.specs.laws.Signals.{moves, publishes as publishes_range}
 use Rattle.vd_ring.proofs.HeldPlaces.{offer_places, chain_before}
 use Rattle.vd_ring.proofs.HeldInside.{next_low}
 use Rattle.vd_ring.proofs.ListSteps.{lists_offered, given_below}

@@ -4,7 +4,7 @@ use Rattle.std.proofs.lemmas.List.{length-replicate, get_or-replicate}
 use Rattle.std.proofs.lemmas.List.Elements.{All-nil}
 use Rattle.vd_ring.specs.declared.frame.Frame.{Frame}
 use Rattle.vd_ring.specs.Frames.{Fits}
-use Rattle.vd_ring.specs.Signals.{opens as signals_open}
+use Rattle.vd_ring.specs.laws.Signals.{opens as signals_open}
 use Rattle.vd_ring.proofs.Counts.{one_above, length_upto, occurs_upto}
 use Rattle.vd_packed_ring.specs.PackedWords.{IsLawful, width, kick_at, call_at, command_word, ack_word, driver_event, device_event}
 use Rattle.vd_packed_ring.specs.PackedLaws.{IsFresh}

@@ -14,7 +14,8 @@ use Rattle.vd_ring.specs.declared.device.DeviceDone.TheVariants.{Take}
 use Rattle.vd_ring.specs.declared.device.DeviceNow.TheVariants.{Idle, Taking}
 use Rattle.vd_ring.specs.declared.device.DeviceView.{DeviceView}
 use Rattle.vd_ring.specs.Frames.{limit}
-use Rattle.vd_ring.specs.Signals.{Signals, nothing, moves}
+use Rattle.vd_ring.specs.Signals.{Signals, nothing}
+use Rattle.vd_ring.specs.laws.Signals.{moves}
 use Rattle.vd_ring.specs.Sleep.{gives_made}
 use Rattle.vd_ring.specs.History.{offers, takes, head, chain}
 use Rattle.vd_ring.proofs.DeviceLists.{lists_taken}

@@ -13,7 +13,7 @@ use Rattle.vd_layout.specs.declared.moves.Move.TheVariants as move
 use Rattle.vd_layout.specs.Driver.{DriverModel}
 use Rattle.vd_layout.specs.Device.{DeviceModel}
 use Rattle.vd_layout.specs.Layout.{LayoutModel, IsLawfulLayout}
-use Rattle.vd_layout.specs.Plain.{plain_step}
+use Rattle.vd_layout.specs.laws.Plain.{plain_step}
 use mathlib.Core.List.{IsPrefix}
 use Rattle.vd_ring.specs.History.{offers, collects, takes, gives}
 use Rattle.vd_bus.specs.Device.{DeviceParty, IsServed, HasServed, IsDeviceAccess}

@@ -19,7 +19,8 @@ use Rattle.vd_ring.specs.History.{offers, collects, takes, gives, numbers, occur
 use Rattle.vd_ring.specs.Batches.{IsEntry}
 use Rattle.vd_ring.specs.Lists.{Lists, AreGives}
 use Rattle.vd_ring.specs.Places.{Places}
-use Rattle.vd_ring.specs.Signals.{nothing, none_before}
+use Rattle.vd_ring.specs.Signals.{nothing}
+use Rattle.vd_ring.specs.laws.Signals.{none_before}
 use Rattle.vd_ring.specs.Sleep.{span, position, used_position, gives_made, driver_owed, device_owed, driver_idle, device_idle, RingSignals, DriverWaits, DeviceWaits}
 use Rattle.vd_ring.proofs.Counts.{occurs_from, one_above}
 

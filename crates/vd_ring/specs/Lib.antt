@@ -15,3 +15,4 @@ pub mod DeviceSteps
 pub mod Signals
 pub mod Sleep
 pub mod Looks
+pub mod laws

@@ -5,3 +5,4 @@ pub mod Outcome
 pub mod Answers
 pub mod Layouts
 pub mod Through
+pub mod laws

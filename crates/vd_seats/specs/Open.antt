@@ -1,14 +1,12 @@
 -- A ring on which any chain of few bytes may be offered.
-use Rattle.std.proofs.Common.{◌≡◌, ◌<◌, ◌≤◌, true, false, List, [], ◌∷◌, length, None, sym, subst, rules, nat_lt, if◌then◌else◌}
+use Rattle.std.specs.Prelude.{◌≡◌, true, false, List, None}
 use Rattle.vd_model.specs.declared.chain.Piece.{Piece}
-use Rattle.vd_model.specs.Chains.{IsChain, total}
 use Rattle.vd_ring.specs.declared.driver.DriverView.{DriverView}
 use Rattle.vd_ring.specs.declared.frame.Frame.{Frame}
 use Rattle.vd_ring.specs.Control.{IsControlChain}
-use Rattle.vd_ring.specs.Frames.{AreInBounds, Fits}
-use Rattle.vd_ring.specs.History.{offers, next_head}
+use Rattle.vd_ring.specs.Frames.{Fits}
+use Rattle.vd_ring.specs.History.{next_head}
 use Rattle.vd_layout.specs.Control.{ControlWords}
-use Rattle.vd_layout.specs.Driver.{HasRoom, MayOffer}
 
 -- it has no bounds, and is no control ring
 pub record IsOpen (f : Frame) : Type 0 where
@@ -20,29 +18,3 @@ pub record MayStand (words : ControlWords) (v : DriverView) (c : List Piece) : T
   pub fits : Fits v.frame c
   pub control : v.frame.control ≡ true
       → IsControlChain (words.command v.frame (next_head v.frame v.done)) (words.ack v.frame (next_head v.frame v.done)) c
-
--- ---- lemmas
-
--- a chain that may stand on the ring may be offered where there is room
-pub may_offer : (words : ControlWords) (v : DriverView) (c : List Piece) → MayStand words v c → length (offers v.done) < 1000000000
-    → HasRoom v.frame v.done c → MayOffer words v c
-may_offer words v c may n room = record {
-  fits = may.fits;
-  room = room;
-  limited = elim (nat_lt v.frame.ring 16) as (λ b. length (offers v.done) < (if b then 4000000000 else 4294967295))
-      [ true ↦ (search rules) | false ↦ (search rules) ];
-  control = may.control;
-}
-
--- a chain of one piece may be offered where there is room
-pub may_offer_one : (words : ControlWords) (v : DriverView) → IsOpen v.frame → (piece : Piece) (c : List Piece) → c ≡ piece ∷ []
-    → IsChain c → piece.len ≤ 4294967295 → length (offers v.done) < 1000000000 → HasRoom v.frame v.done c → MayOffer words v c
-may_offer_one words v bare piece c is chain small n room = may_offer words v c (record {
-  fits = record {
-    chain = chain;
-    size = search rules;
-    length = subst (λ (xs : List Piece). total xs ≤ 4294967295) (sym is) (search rules);
-    bounds = subst (λ b. AreInBounds b c) (sym bare.unbounded) tt;
-  };
-  control = λ on. absurd (cc (on, bare.uncontrolled));
-}) n room

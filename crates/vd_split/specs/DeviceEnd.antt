@@ -2,7 +2,6 @@
 use Rattle.std.specs.Prelude.{◌≡◌, ℕ, ◌+◌, ◌-◌, ◌*◌, ◌%◌, ◌<◌, ◌≤◌, ◌&&◌, nat_eq, Bool, true, false, List, [], ◌∷◌, ◌++◌, length, Option, None, Some, if◌then◌else◌, nat_lt, slice_index_or, not}
 use Rattle.vd_bits.specs.Lanes.{lane32}
 use Rattle.vd_model.specs.declared.chain.Piece.{Piece}
-use Rattle.std.proofs.Common.{ap, ◌∙◌}
 use Rattle.vd_words.specs.declared.access.Op.{Op}
 use Rattle.vd_words.specs.declared.access.Op.TheVariants as op
 use Rattle.vd_ring.specs.declared.frame.Frame.{Frame}
@@ -159,13 +158,6 @@ pub record DeviceStands (e : SplitDevice) (v : DeviceView) : Type 0 where
   pub kick : e.kick ≡ kick_at v.frame
   pub signals : DeviceSignals e.armed e.heard e.bells e.given e.doing v
   pub doing : DeviceStepStands e.doing e.pieces.items e.addr v.frame v.done v.doing
-
--- an end that is not armed stands for views that are not
-pub not_armed : (e : SplitDevice) (v : DeviceView) → DeviceStands e v → e.armed ≡ false → v.armed ≡ None
-not_armed e v st off = st.signals.is_armed ∙ ap (λ (b : Bool). if b then Some (length (takes v.done)) else None) off
-
-pub is_armed : (e : SplitDevice) (v : DeviceView) → DeviceStands e v → e.armed ≡ true → v.armed ≡ Some (length (takes v.done))
-is_armed e v st on = st.signals.is_armed ∙ ap (λ (b : Bool). if b then Some (length (takes v.done)) else None) on
 
 -- ---- the operation that is begun, and the accesses that it still takes at most
 

@@ -10,3 +10,6 @@ pub mod DeviceLaws
 pub mod SplitLayout
 pub mod DriverBells
 pub mod DeviceBells
+pub mod DeviceEnd
+pub mod DriverEnd
+pub mod Tracked

@@ -18,7 +18,7 @@ use Rattle.vd_ring.specs.Control.{Acks}
 use Rattle.vd_ring.specs.Places.{Places}
 use Rattle.vd_ring.specs.Lists.{Lists}
 use Rattle.vd_ring.specs.Signals.{Signals}
-use Rattle.vd_ring.specs.Signals as signal
+use Rattle.vd_ring.specs.laws.Signals as signal
 use Rattle.vd_ring.proofs.DeviceLists.{counts}
 use Rattle.vd_ring.proofs.DeviceAcks.{acks_elsewhere}
 use Rattle.vd_split_ring.specs.SplitWords.{width, used_from, call_at, ack_word, id_word, len_word, lane_word, driver_event_lane, device_event_word, device_event_lane, armed_value, wants, bell_word, shows, shown_from}

@@ -15,8 +15,8 @@ use Rattle.vd_ring.specs.declared.device.DeviceNow.TheVariants.{Idle, Giving, Ch
 use Rattle.vd_ring.specs.declared.device.DeviceView.{DeviceView}
 use Rattle.vd_ring.specs.History.{offers, collects, takes, gives, running, taken_head, head, chain_at, occurs, given, entry, batch, with_head, IsWhole, last_used}
 use Rattle.vd_ring.specs.Lists.{entry_at}
-use Rattle.vd_ring.specs.Signals.{moves}
-use Rattle.vd_ring.specs.Signals.{publishes as publishes_range}
+use Rattle.vd_ring.specs.laws.Signals.{moves}
+use Rattle.vd_ring.specs.laws.Signals.{publishes as publishes_range}
 use Rattle.vd_split_ring.specs.SplitWords.{shown_from, IsDevices, width, used_from, id_word, len_word, used_id, used_len, ack_word}
 use Rattle.vd_split_ring.specs.SplitDevice.{Names, Measures, PublishesUsed, device_gives, device_rests}
 use Rattle.vd_split_ring.specs.SplitRing.{Ring, Gives, EndsGive, chains_out, chains_in, entries_out, entries_in}

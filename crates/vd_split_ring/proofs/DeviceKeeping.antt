@@ -21,7 +21,7 @@ use Rattle.vd_split_ring.proofs.DeviceLooks.{offers_shown, looks, look_tells, sh
 use Rattle.vd_split_ring.proofs.DeviceTakes.{loads}
 use Rattle.vd_split_ring.proofs.DeviceGives.{names, measures, publishes, rests}
 use Rattle.vd_split_ring.proofs.DeviceControl.{commands, acks}
-use Rattle.vd_ring.specs.Signals.{wakes}
+use Rattle.vd_ring.specs.laws.Signals.{wakes}
 use Rattle.vd_split_ring.proofs.Bells.{device_event_inside, driver_event_low, kick_stands}
 use Rattle.vd_split_ring.proofs.DeviceBells.{checks, rings_bell, arms, looks_again, hears, disarms, disarmed, begins_rest}
 

@@ -9,7 +9,7 @@ use Rattle.vd_ring.specs.declared.device.DeviceDone.{DeviceDone}
 use Rattle.vd_ring.specs.declared.device.DeviceNow.TheVariants.{Idle, Taking}
 use Rattle.vd_ring.specs.declared.device.DeviceView.{DeviceView}
 use Rattle.vd_ring.specs.Frames.{Fits, limit}
-use Rattle.vd_ring.specs.Signals.{moves}
+use Rattle.vd_ring.specs.laws.Signals.{moves}
 use Rattle.vd_ring.specs.History.{offers, takes, running, open_at, places, head, chain, occurs}
 use Rattle.vd_split_ring.specs.SplitWords.{is_tabled, lane_word, entry_lane, shows, shown_from, ShowsIndex, reading}
 use Rattle.vd_split_ring.specs.SplitDevice.{loaded_head, IsNewHead, device_looks}

@@ -18,7 +18,7 @@ use Rattle.vd_ring.specs.Frames.{Fits, borrowed}
 use Rattle.vd_ring.specs.History.{offers, takes, open_at, open_size, places, chain, occurs, first}
 use Rattle.vd_ring.specs.Control.{IsControlChain}
 use Rattle.vd_ring.specs.Places.{Places}
-use Rattle.vd_ring.specs.Signals.{moves}
+use Rattle.vd_ring.specs.laws.Signals.{moves}
 use Rattle.vd_split_ring.specs.SplitWords.{IsLawful, shows, put, words_of, Stand, table, pointer, is_tabled, spelling, reading, is_whole, chain_of, cursor, command_word, ack_word}
 use Rattle.vd_split_ring.specs.SplitDevice.{loaded_head, BeginsChain, device_takes, device_loads}
 use Rattle.vd_split_ring.specs.SplitRing.{HasSeen, Loads, Ring, chains_out, chains_in}

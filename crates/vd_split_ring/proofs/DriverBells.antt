@@ -15,7 +15,7 @@ use Rattle.vd_ring.specs.History.{collects, gives}
 use Rattle.vd_ring.specs.Control.{Commands}
 use Rattle.vd_ring.specs.Places.{Places}
 use Rattle.vd_ring.specs.Signals.{Signals}
-use Rattle.vd_ring.specs.Signals as signal
+use Rattle.vd_ring.specs.laws.Signals as signal
 use Rattle.vd_ring.proofs.ControlSteps.{commands_elsewhere}
 use Rattle.vd_ring.proofs.ListSteps.{given_within}
 use Rattle.vd_split_ring.specs.SplitWords.{IsLawful, width, used_from, kick_at, command_word, ack_word, lane_at, lane_word, with_lane, entry_lane, event_lane, driver_event_lane, device_event_word, device_event_lane, armed_value, wants, bell_word, shows, shown_from}

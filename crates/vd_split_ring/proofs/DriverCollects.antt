@@ -22,7 +22,7 @@ use Rattle.vd_ring.proofs.ListSteps.{same_used, batch_one, entry_is, next_open, 
 use Rattle.vd_ring.proofs.ControlSteps.{commands_collected, acks_collected}
 use Rattle.vd_split_ring.specs.SplitWords.{command_word, ack_word, shows, shown_from, ShowsIndex, used_id, used_len}
 use Rattle.vd_split_ring.specs.SplitDriver.{NamesOpen, driver_looks, driver_collects}
-use Rattle.vd_ring.specs.Signals.{moves}
+use Rattle.vd_ring.specs.laws.Signals.{moves}
 use Rattle.vd_split_ring.specs.SplitRing.{DriverWords, DeviceWords, Ring, DeviceDoing, HasSeen, Finds, Loads, entries_out, entries_in}
 use Rattle.vd_split_ring.proofs.Areas.{shows_more, shows_further, shown_is}
 

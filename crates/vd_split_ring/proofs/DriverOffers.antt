@@ -18,8 +18,9 @@ use Rattle.vd_ring.specs.declared.device.DeviceView.{DeviceView}
 use Rattle.vd_ring.specs.Frames.{borrowed}
 use Rattle.vd_ring.specs.History.{offers, collects, takes, free, places, next_head, chain, first, occurs}
 use Rattle.vd_ring.specs.Places.{Places}
-use Rattle.vd_ring.specs.Signals.{Signals, check, moves}
-use Rattle.vd_ring.specs.Signals.{publishes as publishes_range}
+use Rattle.vd_ring.specs.Signals.{Signals, check}
+use Rattle.vd_ring.specs.laws.Signals.{moves}
+use Rattle.vd_ring.specs.laws.Signals.{publishes as publishes_range}
 use Rattle.vd_ring.specs.Lists.{Lists}
 use Rattle.vd_ring.proofs.Counts.{occurs_parts}
 use Rattle.vd_ring.proofs.HeldPlaces.{free_once, free_inside, borrowed_some, offer_places, places_before, chain_before}

@@ -5,7 +5,7 @@ use Rattle.std.proofs.lemmas.List.Elements.{All-nil}
 use Rattle.vd_bits.specs.Lanes.{lane16}
 use Rattle.vd_ring.specs.declared.frame.Frame.{Frame}
 use Rattle.vd_ring.specs.Frames.{Fits}
-use Rattle.vd_ring.specs.Signals.{opens as signals_open}
+use Rattle.vd_ring.specs.laws.Signals.{opens as signals_open}
 use Rattle.vd_ring.proofs.Counts.{one_above, length_upto, occurs_upto}
 use Rattle.vd_split_ring.specs.SplitWords.{IsLawful, width, used_from, kick_at, call_at, command_word, ack_word, lane_word, event_lane}
 use Rattle.vd_split_ring.specs.SplitLaws.{IsFresh}

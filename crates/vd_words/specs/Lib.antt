@@ -2,3 +2,4 @@ pub mod Plain
 pub mod Step
 pub mod Model
 pub mod Own
+pub mod laws

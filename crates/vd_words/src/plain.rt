@@ -87,7 +87,8 @@ pub struct PlainPort<'a> {
 impl Port for PlainPort<'_> {
     ghost use Rattle.std.specs.Prelude.{◌≡◌, ◌<◌, length, refl};
     ghost use Rattle.std.proofs.Common.{◌∙◌};
-    ghost use Rattle.vd_words.specs.Step.{place_of, written, answered, PlainMoves, AreAlike, fits_at, words_at, answer_at, stays_plain, count_at, alike_trans, alike_after};
+    ghost use Rattle.vd_words.specs.Step.{place_of, written, answered, PlainMoves, AreAlike};
+    ghost use Rattle.vd_words.specs.laws.Step.{fits_at, words_at, answer_at, stays_plain, count_at, alike_trans, alike_after};
 
     ghost port = { record {
       ring = λ s. s.at.now.ring;

@@ -33,7 +33,8 @@ use Rattle.vd_packed.specs.declared.device.PackedDevice.{PackedDevice}
 use Rattle.vd_packed.specs.declared.device.DeviceStep.{DeviceStep}
 use Rattle.vd_packed.specs.declared.device.DeviceStep.TheVariants as step
 use Rattle.vd_packed.specs.DriverEnd.{packed_words}
-use Rattle.vd_packed.specs.DeviceEnd.{HoldsRunning, IsCount, number_at, IsNext, DeviceStands, DeviceStepStands, DeviceStepArmed, device_owes, not_armed, device_begun, device_left, is_resting, packed_device}
+use Rattle.vd_packed.specs.DeviceEnd.{HoldsRunning, IsCount, number_at, IsNext, DeviceStands, DeviceStepStands, DeviceStepArmed, device_owes, device_begun, device_left, is_resting, packed_device}
+use Rattle.vd_packed.specs.laws.DeviceEnd.{not_armed}
 use Rattle.vd_packed.specs.laws.Bounds.{few_used}
 use Rattle.vd_packed.specs.laws.Places.{ring_position_below, second_at, same_at, forward_at, used_second_at}
 use Rattle.vd_packed.specs.Seconds.{used_second}

@@ -29,7 +29,8 @@ use Rattle.vd_packed.specs.declared.device.PackedDevice.{PackedDevice}
 use Rattle.vd_packed.specs.declared.device.DeviceStep.{DeviceStep}
 use Rattle.vd_packed.specs.declared.device.DeviceStep.TheVariants as step
 use Rattle.vd_packed.specs.declared.ring_position.RingPosition.{RingPosition}
-use Rattle.vd_packed.specs.DeviceEnd.{HoldsRunning, number_at, IsNext, IsTaking, IsTabling, DeviceStands, DeviceStepStands, DeviceStepArmed, device_owes, not_armed, is_armed, device_begun, device_left, is_resting, is_idle, packed_device}
+use Rattle.vd_packed.specs.DeviceEnd.{HoldsRunning, number_at, IsNext, IsTaking, IsTabling, DeviceStands, DeviceStepStands, DeviceStepArmed, device_owes, device_begun, device_left, is_resting, is_idle, packed_device}
+use Rattle.vd_packed.specs.laws.DeviceEnd.{not_armed, is_armed}
 use Rattle.vd_packed_ring.proofs.DeviceStaying.{device_stays}
 use Rattle.vd_packed.specs.laws.Places.{base_at_ring_position}
 use Rattle.vd_packed.specs.RingPositions.{base_word}

@@ -24,7 +24,8 @@ use Rattle.vd_layout.specs.Device.{DeviceSays}
 use Rattle.vd_packed.specs.declared.device.PackedDevice.{PackedDevice}
 use Rattle.vd_packed.specs.declared.device.DeviceStep.TheVariants as step
 use Rattle.vd_packed.specs.DriverEnd.{packed_words}
-use Rattle.vd_packed.specs.DeviceEnd.{TakesOnce, HoldsRunning, number_at, DeviceStands, device_begun, device_left, not_armed}
+use Rattle.vd_packed.specs.DeviceEnd.{TakesOnce, HoldsRunning, number_at, DeviceStands, device_begun, device_left}
+use Rattle.vd_packed.specs.laws.DeviceEnd.{not_armed}
 use Rattle.vd_packed.specs.laws.DeviceGiving.{Goes, at_step}
 use Rattle.vd_packed.specs.laws.Places.{second_at, same_at}
 

@@ -31,14 +31,15 @@ use Rattle.vd_packed.specs.declared.ring_position.RingPosition.{RingPosition}
 use Rattle.vd_packed.specs.declared.device.Told.TheVariants as told
 use Rattle.vd_packed.specs.Telling.{act_of}
 use Rattle.vd_packed.specs.DriverEnd.{packed_words}
-use Rattle.vd_packed.specs.DeviceEnd.{TakesOnce, HoldsRunning, number_at, not_armed, DeviceStands, device_begun, device_left}
+use Rattle.vd_packed.specs.DeviceEnd.{TakesOnce, HoldsRunning, number_at, DeviceStands, device_begun, device_left}
+use Rattle.vd_packed.specs.laws.DeviceEnd.{not_armed}
 use Rattle.vd_packed.specs.laws.DeviceGiving.{Goes, at_step}
 use Rattle.vd_packed.specs.laws.Places.{same_at}
 use Rattle.vd_packed.specs.RingPositions.{IsAt, forward}
 use Rattle.vd_packed.specs.laws.DeviceTaking.{Loaded, head_direct, address_next, is_direct, is_ended, ring_position_more, more_goes, whole_chain}
 use Rattle.vd_packed.specs.laws.Bounds.{few_each, limit_small, needs_few}
 use Rattle.vd_packed.specs.Loaded.{HasMore, HasTaken, MayTake}
-use Rattle.vd_packed.specs.Loads.{id_last}
+use Rattle.vd_packed.specs.laws.Loads.{id_last}
 use Rattle.vd_packed.specs.laws.Tabling.{direct_needs}
 
 -- it leaves the position of what was given

@@ -28,7 +28,7 @@ use Rattle.vd_packed.specs.laws.Places.{ring_position_below, second_at, same_at,
 use Rattle.vd_packed.specs.RingPositions.{IsAt, forward}
 use Rattle.vd_packed.specs.Loaded.{HasMore, names_its_table}
 use Rattle.vd_packed.specs.laws.ToldTables.{told_direct, two_each, direct_more, direct_address}
-use Rattle.vd_packed.specs.Loads.{following_even, following_odd, ends_odd, ends_last, pieces_last}
+use Rattle.vd_packed.specs.laws.Loads.{following_even, following_odd, ends_odd, ends_last, pieces_last}
 
 -- ---- words without a table
 

@@ -29,7 +29,8 @@ use Rattle.vd_packed.specs.declared.driver.PackedDriver.{PackedDriver}
 use Rattle.vd_packed.specs.declared.driver.Slot.{Slot}
 use Rattle.vd_packed.specs.declared.driver.DriverStep.TheVariants as step
 use Rattle.vd_packed.specs.laws.Bounds.{limit_small, offer_position_few}
-use Rattle.vd_packed.specs.DriverEnd.{HoldsIds, DriverStands, DriverStepStands, DriverStepArmed, driver_owes, not_armed, driver_begun, driver_left}
+use Rattle.vd_packed.specs.DriverEnd.{HoldsIds, DriverStands, DriverStepStands, DriverStepArmed, driver_owes, driver_begun, driver_left}
+use Rattle.vd_packed.specs.laws.DriverEnd.{not_armed}
 use Rattle.vd_packed.specs.laws.DriverSteps.{Goes}
 use Rattle.vd_packed.specs.laws.Places.{second_at, same_at, forward_at, shows_used_at}
 use Rattle.vd_packed.specs.Seconds.{shows_used}

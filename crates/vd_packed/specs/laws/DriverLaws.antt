@@ -29,7 +29,8 @@ use Rattle.vd_packed.specs.declared.driver.PackedDriver.{PackedDriver}
 use Rattle.vd_packed.specs.declared.driver.DriverStep.{DriverStep}
 use Rattle.vd_packed.specs.declared.driver.DriverStep.TheVariants as step
 use Rattle.vd_packed.specs.declared.ring_position.RingPosition.{RingPosition}
-use Rattle.vd_packed.specs.DriverEnd.{DriverStands, DriverStepStands, DriverStepArmed, driver_owes, driver_begun, driver_left, not_armed, is_armed, packed_driver, packed_words}
+use Rattle.vd_packed.specs.DriverEnd.{DriverStands, DriverStepStands, DriverStepArmed, driver_owes, driver_begun, driver_left, packed_driver, packed_words}
+use Rattle.vd_packed.specs.laws.DriverEnd.{not_armed, is_armed}
 use Rattle.vd_packed_ring.proofs.DriverStaying.{driver_stays}
 use Rattle.vd_packed.specs.laws.DriverSteps.{needed_is}
 use Rattle.vd_packed.specs.laws.Places.{same_at, forward_at}

@@ -39,7 +39,8 @@ use Rattle.vd_packed.specs.declared.driver.Slot.{Slot}
 use Rattle.vd_packed.specs.declared.driver.DriverStep.TheVariants as step
 use Rattle.vd_packed.specs.declared.ring_position.RingPosition.{RingPosition}
 use Rattle.vd_packed.specs.laws.Bounds.{limit_small, needs_few, offer_position_few}
-use Rattle.vd_packed.specs.DriverEnd.{HoldsIds, DriverStands, DriverStepStands, DriverStepArmed, driver_owes, not_armed, Keeps, offering, driver_begun, driver_left, packed_driver}
+use Rattle.vd_packed.specs.DriverEnd.{HoldsIds, DriverStands, DriverStepStands, DriverStepArmed, driver_owes, Keeps, offering, driver_begun, driver_left, packed_driver}
+use Rattle.vd_packed.specs.laws.DriverEnd.{not_armed}
 use Rattle.vd_packed.specs.laws.Offers.{begins_at}
 use Rattle.vd_packed.specs.Tabled.{needed, published_word}
 use Rattle.vd_packed.specs.laws.Tabling.{direct_needs, plan_direct, plan_length, apart_at, published_at}

@@ -32,7 +32,8 @@ use Rattle.vd_layout.specs.Device.{DeviceSays, IsDeviceStep, is_rested}
 use Rattle.vd_split.specs.declared.device.SplitDevice.{SplitDevice}
 use Rattle.vd_split.specs.declared.device.DeviceStep.TheVariants as step
 use Rattle.vd_split.specs.DriverEnd.{split_words}
-use Rattle.vd_split.specs.DeviceEnd.{DeviceStepArmed, device_owes, not_armed, HoldsRunning, number_at, IsNext, DeviceStands, DeviceStepStands, device_begun, device_left, is_resting, split_device}
+use Rattle.vd_split.specs.DeviceEnd.{DeviceStepArmed, device_owes, HoldsRunning, number_at, IsNext, DeviceStands, DeviceStepStands, device_begun, device_left, is_resting, split_device}
+use Rattle.vd_split.specs.laws.DeviceEnd.{not_armed}
 use Rattle.vd_split.specs.Parts.{next_place, used_area}
 use Rattle.vd_split.specs.laws.Plans.{next_mod, copies_set}
 

@@ -30,7 +30,8 @@ use Rattle.vd_layout.specs.Device.{IsStill, IsLawfulDevice}
 use Rattle.vd_split.specs.declared.device.SplitDevice.{SplitDevice}
 use Rattle.vd_split.specs.declared.device.DeviceStep.{DeviceStep}
 use Rattle.vd_split.specs.declared.device.DeviceStep.TheVariants as step
-use Rattle.vd_split.specs.DeviceEnd.{DeviceStepArmed, device_owes, not_armed, is_armed, HoldsRunning, number_at, IsNext, IsTaking, IsTabling, DeviceStands, DeviceStepStands, device_begun, device_left, is_resting, is_idle, split_device}
+use Rattle.vd_split.specs.DeviceEnd.{DeviceStepArmed, device_owes, HoldsRunning, number_at, IsNext, IsTaking, IsTabling, DeviceStands, DeviceStepStands, device_begun, device_left, is_resting, is_idle, split_device}
+use Rattle.vd_split.specs.laws.DeviceEnd.{not_armed, is_armed}
 use Rattle.vd_split.specs.laws.Plans.{copies_other}
 
 -- ---- whole

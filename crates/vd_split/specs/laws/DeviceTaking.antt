@@ -32,7 +32,8 @@ use Rattle.vd_split.specs.declared.device.SplitDevice.{SplitDevice}
 use Rattle.vd_split.specs.declared.device.DeviceStep.{DeviceStep}
 use Rattle.vd_split.specs.declared.device.DeviceStep.TheVariants as step
 use Rattle.vd_split.specs.DriverEnd.{split_words}
-use Rattle.vd_split.specs.DeviceEnd.{DeviceStepArmed, device_owes, is_resting, not_armed, HoldsRunning, number_at, HasLoaded, DeviceStands, DeviceStepStands, device_begun, device_left}
+use Rattle.vd_split.specs.DeviceEnd.{DeviceStepArmed, device_owes, is_resting, HoldsRunning, number_at, HasLoaded, DeviceStands, DeviceStepStands, device_begun, device_left}
+use Rattle.vd_split.specs.laws.DeviceEnd.{not_armed}
 use Rattle.vd_split.specs.laws.DeviceGiving.{Goes}
 use Rattle.vd_split.specs.Parts.{next_place}
 use Rattle.vd_split.specs.laws.Plans.{next_mod}

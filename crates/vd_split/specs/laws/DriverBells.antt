@@ -22,7 +22,8 @@ use Rattle.vd_layout.specs.Driver.{DriverSays}
 use Rattle.vd_split.specs.declared.driver.SplitDriver.{SplitDriver}
 use Rattle.vd_split.specs.declared.driver.DriverStep.{DriverStep}
 use Rattle.vd_split.specs.declared.driver.DriverStep.TheVariants as step
-use Rattle.vd_split.specs.DriverEnd.{DriverStands, DriverStepStands, DriverStepArmed, driver_owes, driver_begun, driver_left, Wakes, not_armed, is_armed}
+use Rattle.vd_split.specs.DriverEnd.{DriverStands, DriverStepStands, DriverStepArmed, driver_owes, driver_begun, driver_left, Wakes}
+use Rattle.vd_split.specs.laws.DriverEnd.{not_armed, is_armed}
 use Rattle.vd_split.specs.laws.DriverSteps.{Goes}
 use Rattle.vd_split.specs.Parts.{Copies, own_lane, own_value, all_words}
 use Rattle.vd_split.specs.laws.Plans.{copies_set}

@@ -26,7 +26,8 @@ use Rattle.vd_layout.specs.Driver.{DriverSays}
 use Rattle.vd_split.specs.declared.driver.SplitDriver.{SplitDriver}
 use Rattle.vd_split.specs.declared.driver.Slot.{Slot}
 use Rattle.vd_split.specs.declared.driver.DriverStep.TheVariants as step
-use Rattle.vd_split.specs.DriverEnd.{HoldsPlaces, DriverStands, DriverStepStands, DriverStepArmed, driver_begun, driver_left, not_armed}
+use Rattle.vd_split.specs.DriverEnd.{HoldsPlaces, DriverStands, DriverStepStands, DriverStepArmed, driver_begun, driver_left}
+use Rattle.vd_split.specs.laws.DriverEnd.{not_armed}
 use Rattle.vd_split.specs.laws.DriverSteps.{Goes}
 use Rattle.vd_split.specs.Parts.{next_place, used_area}
 use Rattle.vd_split.specs.laws.Plans.{next_mod}

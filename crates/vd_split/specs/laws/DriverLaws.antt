@@ -33,7 +33,8 @@ use Rattle.vd_layout.specs.Driver.{HasRoom, MayOffer, IsLawfulDriver}
 use Rattle.vd_split.specs.declared.driver.SplitDriver.{SplitDriver}
 use Rattle.vd_split.specs.declared.driver.DriverStep.{DriverStep}
 use Rattle.vd_split.specs.declared.driver.DriverStep.TheVariants as step
-use Rattle.vd_split.specs.DriverEnd.{DriverStands, DriverStepStands, DriverStepArmed, driver_owes, driver_begun, driver_left, split_driver, split_words, is_armed, not_armed}
+use Rattle.vd_split.specs.DriverEnd.{DriverStands, DriverStepStands, DriverStepArmed, driver_owes, driver_begun, driver_left, split_driver, split_words}
+use Rattle.vd_split.specs.laws.DriverEnd.{is_armed, not_armed}
 use Rattle.vd_split.specs.Parts.{needed, first_store}
 use Rattle.vd_split.specs.laws.Plans.{copies_other}
 

@@ -36,7 +36,8 @@ use Rattle.vd_split.specs.declared.driver.SplitDriver.{SplitDriver}
 use Rattle.vd_split.specs.declared.driver.Slot.{Slot}
 use Rattle.vd_split.specs.declared.driver.DriverStep.{DriverStep}
 use Rattle.vd_split.specs.declared.driver.DriverStep.TheVariants as step
-use Rattle.vd_split.specs.DriverEnd.{HoldsPlaces, DriverStands, DriverStepStands, Keeps, offering, driver_begun, driver_left, split_driver, not_armed, DriverStepArmed, driver_owes}
+use Rattle.vd_split.specs.DriverEnd.{HoldsPlaces, DriverStands, DriverStepStands, Keeps, offering, driver_begun, driver_left, split_driver, DriverStepArmed, driver_owes}
+use Rattle.vd_split.specs.laws.DriverEnd.{not_armed}
 use Rattle.vd_split.specs.laws.DriverLaws.{room_from}
 use Rattle.vd_split.specs.Parts.{next_place, needed, table_place, tabled, described_step, tabled_step}
 use Rattle.vd_split.specs.laws.Plans.{some_free, enough, plan_direct, direct_length, plan_tabled, tabled_length, needed_is, plan_inside, begins_at, next_mod, copies_set, copies_other}

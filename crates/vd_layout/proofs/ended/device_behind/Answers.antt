@@ -1,4 +1,4 @@
-use Rattle.vd_layout.specs.Ended.{device_ended}
+use Rattle.vd_layout.specs.laws.Ended.{device_ended}
 use Rattle.vd_layout.proofs.ended.device_behind.Goals as goal
 
 pub returns-clause-did : goal.returns-clause-did

@@ -1,4 +1,4 @@
-use Rattle.vd_layout.specs.Ended.{driver_ended}
+use Rattle.vd_layout.specs.laws.Ended.{driver_ended}
 use Rattle.vd_layout.proofs.ended.driver_behind.Goals as goal
 
 pub returns-clause-did : goal.returns-clause-did

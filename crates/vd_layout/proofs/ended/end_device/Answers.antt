@@ -1,5 +1,5 @@
 use Rattle.std.proofs.Common.{◌∙◌, sym, ap, rules}
-use Rattle.vd_layout.specs.Ended.{device_ended_on}
+use Rattle.vd_layout.specs.laws.Ended.{device_ended_on}
 use Rattle.vd_layout.proofs.ended.end_device.Goals as goal
 
 pub returns-clause-ring : goal.returns-clause-ring

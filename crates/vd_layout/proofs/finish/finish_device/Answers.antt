@@ -1,8 +1,9 @@
 use Rattle.std.proofs.Common.{rules, ◌≡◌, sym, subst}
 use Rattle.vd_ring.specs.declared.device.DeviceView.{DeviceView}
 use Rattle.vd_layout.specs.Begun.{DeviceOp}
-use Rattle.vd_layout.specs.Run.{own_run}
-use Rattle.vd_layout.specs.DeviceFinish.{DeviceGoing, device_goes, device_ends}
+use Rattle.vd_layout.specs.laws.Run.{own_run}
+use Rattle.vd_layout.specs.DeviceFinish.{DeviceGoing}
+use Rattle.vd_layout.specs.laws.DeviceFinish.{device_goes, device_ends}
 use Rattle.vd_layout.proofs.finish.finish_device.Goals as goal
 
 -- the port is the end's own at the view to which it came

@@ -1,8 +1,9 @@
 use Rattle.std.proofs.Common.{rules, ◌≡◌, sym, subst}
 use Rattle.vd_ring.specs.declared.driver.DriverView.{DriverView}
 use Rattle.vd_layout.specs.Begun.{DriverOp}
-use Rattle.vd_layout.specs.Run.{own_run}
-use Rattle.vd_layout.specs.DriverFinish.{DriverGoing, driver_goes, driver_ends}
+use Rattle.vd_layout.specs.laws.Run.{own_run}
+use Rattle.vd_layout.specs.DriverFinish.{DriverGoing}
+use Rattle.vd_layout.specs.laws.DriverFinish.{driver_goes, driver_ends}
 use Rattle.vd_layout.proofs.finish.finish_driver.Goals as goal
 
 -- the port is the end's own at the view to which it came

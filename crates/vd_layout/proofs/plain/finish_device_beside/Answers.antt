@@ -1,4 +1,4 @@
-use Rattle.vd_layout.specs.Both.{device_owns, device_finished, device_did}
+use Rattle.vd_layout.specs.laws.Both.{device_owns, device_finished, device_did}
 use Rattle.vd_layout.proofs.plain.finish_device_beside.Goals as goal
 
 pub finish_device-requires-clause-own : goal.finish_device-requires-clause-own

@@ -1,4 +1,4 @@
-use Rattle.vd_layout.specs.Both.{driver_owns, driver_finished, driver_did}
+use Rattle.vd_layout.specs.laws.Both.{driver_owns, driver_finished, driver_did}
 use Rattle.vd_layout.proofs.plain.finish_driver_beside.Goals as goal
 
 pub finish_driver-requires-clause-own : goal.finish_driver-requires-clause-own

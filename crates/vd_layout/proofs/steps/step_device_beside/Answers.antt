@@ -1,5 +1,5 @@
-use Rattle.vd_layout.specs.Both.{device_owns}
-use Rattle.vd_layout.specs.Stepped.{device_stepped}
+use Rattle.vd_layout.specs.laws.Both.{device_owns}
+use Rattle.vd_layout.specs.laws.Stepped.{device_stepped}
 use Rattle.vd_layout.proofs.steps.step_device_beside.Goals as goal
 
 pub step-requires-clause-own : goal.step-requires-clause-own

@@ -1,5 +1,5 @@
-use Rattle.vd_layout.specs.Both.{driver_owns}
-use Rattle.vd_layout.specs.Stepped.{driver_stepped}
+use Rattle.vd_layout.specs.laws.Both.{driver_owns}
+use Rattle.vd_layout.specs.laws.Stepped.{driver_stepped}
 use Rattle.vd_layout.proofs.steps.step_driver_beside.Goals as goal
 
 pub step-requires-clause-own : goal.step-requires-clause-own

@@ -1,4 +1,4 @@
-use Rattle.vd_layout.specs.Plain.{own_plain_device}
+use Rattle.vd_layout.specs.laws.Plain.{own_plain_device}
 use Rattle.vd_play.proofs.Turning.{device_on}
 use Rattle.vd_play.proofs.turn.device_access.Goals as goal
 

@@ -1,4 +1,4 @@
-use Rattle.vd_layout.specs.Plain.{own_plain_driver}
+use Rattle.vd_layout.specs.laws.Plain.{own_plain_driver}
 use Rattle.vd_play.proofs.Turning.{guest_on}
 use Rattle.vd_play.proofs.turn.guest_access.Goals as goal
 

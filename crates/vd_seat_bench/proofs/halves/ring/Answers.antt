@@ -1,5 +1,5 @@
 use Rattle.std.proofs.Common.{refl}
-use Rattle.vd_seats.specs.Fresh.{starts, waits}
+use Rattle.vd_seats.specs.laws.Fresh.{starts, waits}
 use Rattle.vd_seat_bench.proofs.halves.ring.Goals as goal
 
 pub invariant_of-driver : goal.invariant_of-driver

@@ -11,7 +11,7 @@ use Rattle.vd_packed.specs.declared.device.PackedDevice.{PackedDevice}
 use Rattle.vd_packed.specs.Telling.{act_of}
 use Rattle.vd_packed.specs.DeviceEnd.{DeviceStands}
 use Rattle.vd_packed.specs.laws.DeviceGiving.{Goes, made}
-use Rattle.vd_packed.specs.DeviceTabling.{pointer_goes}
+use Rattle.vd_packed.specs.laws.DeviceTabling.{pointer_goes}
 use Rattle.vd_packed.specs.laws.DeviceTaken.{loaded_goes, loaded_chain, may_take}
 use Rattle.vd_packed.specs.laws.DeviceTaking.{Loaded, loaded_of, address_next, few_pieces}
 use Rattle.vd_packed.specs.Loaded.{names_its_table}

@@ -5,7 +5,7 @@ use Rattle.vd_ring.specs.declared.act.DeviceAct.TheVariants as act
 use Rattle.vd_packed.specs.declared.device.PackedDevice.{PackedDevice}
 use Rattle.vd_packed.specs.declared.device.DeviceStep.TheVariants as step
 use Rattle.vd_packed.specs.laws.DeviceGiving.{made}
-use Rattle.vd_packed.specs.DeviceBells.{again_next, armed_goes, awake_goes}
+use Rattle.vd_packed.specs.laws.DeviceBells.{again_next, armed_goes, awake_goes}
 use Rattle.vd_packed.proofs.device.PackedDevice.look_again.Goals as goal
 
 pub access-word-requires : goal.access-word-requires

@@ -10,7 +10,7 @@ use Rattle.vd_packed.specs.declared.device.PackedDevice.{PackedDevice}
 use Rattle.vd_packed.specs.Telling.{act_of}
 use Rattle.vd_packed.specs.DeviceEnd.{DeviceStands}
 use Rattle.vd_packed.specs.laws.DeviceGiving.{Goes, made}
-use Rattle.vd_packed.specs.DeviceTabling.{addr_place, second_at, Tabled, tabled_of, table_second_goes, tabled_chain, may_take_tabled}
+use Rattle.vd_packed.specs.laws.DeviceTabling.{addr_place, second_at, Tabled, tabled_of, table_second_goes, tabled_chain, may_take_tabled}
 use Rattle.vd_packed.proofs.device.PackedDevice.table_second.Goals as goal
 
 -- the access at the place that the body computed

@@ -5,7 +5,7 @@ use Rattle.vd_ring.specs.declared.act.DriverAct.TheVariants as act
 use Rattle.vd_packed.specs.declared.driver.PackedDriver.{PackedDriver}
 use Rattle.vd_packed.specs.declared.driver.DriverStep.TheVariants as step
 use Rattle.vd_packed.specs.laws.DriverSteps.{made}
-use Rattle.vd_packed.specs.DriverBells.{check_goes}
+use Rattle.vd_packed.specs.laws.DriverBells.{check_goes}
 use Rattle.vd_packed.proofs.driver.PackedDriver.check.Goals as goal
 
 pub returns-then-asks : goal.returns-then-asks

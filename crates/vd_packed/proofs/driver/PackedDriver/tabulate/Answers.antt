@@ -11,7 +11,7 @@ use Rattle.vd_packed.specs.declared.driver.PackedDriver.{PackedDriver}
 use Rattle.vd_packed.specs.DriverEnd.{DriverStands}
 use Rattle.vd_packed.specs.laws.DriverSteps.{Goes, made}
 use Rattle.vd_packed.specs.Tabled.{table_place, tabled, tabled_step}
-use Rattle.vd_packed.specs.TabledSteps.{table_goes_at, table_facts}
+use Rattle.vd_packed.specs.laws.TabledSteps.{table_goes_at, table_facts}
 use Rattle.vd_packed.proofs.driver.PackedDriver.tabulate.Goals as goal
 
 -- the step with what the body computed: the chain's pieces, its id, and the word of the store

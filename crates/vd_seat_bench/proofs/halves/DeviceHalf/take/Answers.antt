@@ -1,5 +1,5 @@
 use Rattle.std.proofs.Common.{◌∙◌}
-use Rattle.vd_seat_bench.specs.Halves.{finished_device}
+use Rattle.vd_seat_bench.specs.laws.Halves.{finished_device}
 use Rattle.vd_seat_bench.proofs.halves.DeviceHalf.take.Goals as goal
 
 pub finish_device-requires-clause-own : goal.finish_device-requires-clause-own

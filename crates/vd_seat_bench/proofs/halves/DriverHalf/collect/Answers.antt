@@ -1,5 +1,5 @@
 use Rattle.std.proofs.Common.{◌∙◌}
-use Rattle.vd_seat_bench.specs.Halves.{finished_driver}
+use Rattle.vd_seat_bench.specs.laws.Halves.{finished_driver}
 use Rattle.vd_seat_bench.proofs.halves.DriverHalf.collect.Goals as goal
 
 pub finish_driver-requires-clause-own : goal.finish_driver-requires-clause-own

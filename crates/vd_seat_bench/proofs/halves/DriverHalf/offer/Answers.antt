@@ -1,6 +1,6 @@
 use Rattle.std.proofs.Common.{rules, ◌∙◌}
-use Rattle.vd_seats.specs.Open.{may_offer_one}
-use Rattle.vd_seat_bench.specs.Halves.{finished_driver}
+use Rattle.vd_seats.specs.laws.Open.{may_offer_one}
+use Rattle.vd_seat_bench.specs.laws.Halves.{finished_driver}
 use Rattle.vd_seat_bench.proofs.halves.DriverHalf.offer.Goals as goal
 
 pub finish_driver-requires-clause-own : goal.finish_driver-requires-clause-own

@@ -1,6 +1,6 @@
 use Rattle.std.proofs.Common.{ap, ◌∙◌}
 use Rattle.vd_seats.specs.Seat.{SeatState}
-use Rattle.vd_seats.specs.Closing.{meets, meets_at}
+use Rattle.vd_seats.specs.laws.Closing.{meets, meets_at}
 use Rattle.vd_seats.proofs.table.RingTable.meet.Goals as goal
 
 pub returns : goal.returns

@@ -1,5 +1,5 @@
-use Rattle.vd_seats.specs.Seat.{devices_own}
-use Rattle.vd_seats.specs.Asleep.{device_told_asleep}
+use Rattle.vd_seats.specs.laws.Seat.{devices_own}
+use Rattle.vd_seats.specs.laws.Asleep.{device_told_asleep}
 use Rattle.vd_seats.proofs.tests.asleep.hear_device.Goals as goal
 
 pub finish_device-requires-clause-own : goal.finish_device-requires-clause-own

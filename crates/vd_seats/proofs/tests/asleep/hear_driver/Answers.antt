@@ -1,5 +1,5 @@
-use Rattle.vd_seats.specs.Seat.{drivers_own}
-use Rattle.vd_seats.specs.Asleep.{driver_told_asleep}
+use Rattle.vd_seats.specs.laws.Seat.{drivers_own}
+use Rattle.vd_seats.specs.laws.Asleep.{driver_told_asleep}
 use Rattle.vd_seats.proofs.tests.asleep.hear_driver.Goals as goal
 
 pub finish_driver-requires-clause-own : goal.finish_driver-requires-clause-own

@@ -1,8 +1,8 @@
 use Rattle.std.proofs.Common.{refl, sym, subst, List, false}
 use Rattle.vd_model.specs.declared.chain.Piece.{Piece}
 use Rattle.vd_ring.specs.Frames.{AreInBounds}
-use Rattle.vd_layout.specs.Runs.{driver_on, device_on}
-use Rattle.vd_seats.specs.Fresh.{starts, waits, driven, served}
+use Rattle.vd_layout.specs.laws.Runs.{driver_on, device_on}
+use Rattle.vd_seats.specs.laws.Fresh.{starts, waits, driven, served}
 use Rattle.vd_seats.proofs.Two.{two_fit}
 use Rattle.vd_seats.proofs.tests.kinds.moves.Goals as goal
 

@@ -2,7 +2,7 @@ use Rattle.std.proofs.Common.{refl}
 use Rattle.vd_packed.specs.laws.PackedLayout.{packed_layout, packed_laws}
 use Rattle.vd_packed.specs.DriverEnd.{packed_driver}
 use Rattle.vd_packed.specs.DeviceEnd.{packed_device}
-use Rattle.vd_seats.specs.Fresh.{starts}
+use Rattle.vd_seats.specs.laws.Fresh.{starts}
 use Rattle.vd_seats.proofs.tests.rows.the_device_sees_the_descriptor.Goals as goal
 
 pub offer_one-requires : goal.offer_one-requires

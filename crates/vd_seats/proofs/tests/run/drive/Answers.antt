@@ -1,6 +1,6 @@
 use Rattle.std.proofs.Common.{sym, subst}
 use Rattle.vd_seats.specs.Open.{IsOpen}
-use Rattle.vd_layout.specs.Runs.{driver_on}
+use Rattle.vd_layout.specs.laws.Runs.{driver_on}
 use Rattle.vd_seats.proofs.tests.run.drive.Goals as goal
 
 pub turn_driver-requires : goal.turn_driver-requires

@@ -1,5 +1,5 @@
 use Rattle.std.proofs.Common.{refl}
-use Rattle.vd_seats.specs.Fresh.{starts, waits, driven, served}
+use Rattle.vd_seats.specs.laws.Fresh.{starts, waits, driven, served}
 use Rattle.vd_seats.proofs.tests.run.move_all.Goals as goal
 
 pub run_two-driver-requires-clause-drives : goal.run_two-driver-requires-clause-drives

@@ -1,4 +1,4 @@
-use Rattle.vd_layout.specs.Runs.{device_on}
+use Rattle.vd_layout.specs.laws.Runs.{device_on}
 use Rattle.vd_seats.proofs.tests.run.serve.Goals as goal
 
 pub turn_device-requires : goal.turn_device-requires

@@ -1,5 +1,5 @@
 use Rattle.vd_seats.proofs.Around.{device_stepped}
-use Rattle.vd_seats.specs.Seat.{devices_own, devices_told, serves_after}
+use Rattle.vd_seats.specs.laws.Seat.{devices_own, devices_told, serves_after}
 use Rattle.vd_seats.proofs.tests.told.access_device.Goals as goal
 
 pub access-requires : goal.access-requires

@@ -1,5 +1,5 @@
 use Rattle.vd_seats.proofs.Around.{driver_stepped}
-use Rattle.vd_seats.specs.Seat.{drivers_own, drivers_told, drives_after}
+use Rattle.vd_seats.specs.laws.Seat.{drivers_own, drivers_told, drives_after}
 use Rattle.vd_seats.proofs.tests.told.access_driver.Goals as goal
 
 pub access-requires : goal.access-requires

@@ -2,7 +2,7 @@ use Rattle.vd_words.specs.declared.access.Access.TheVariants.{Load}
 use Rattle.vd_packed.specs.laws.PackedLayout.{packed_layout, packed_laws}
 use Rattle.vd_packed.specs.DriverEnd.{packed_driver}
 use Rattle.vd_packed.specs.DeviceEnd.{packed_device}
-use Rattle.vd_seats.specs.Seat.{devices_own, devices_told}
+use Rattle.vd_seats.specs.laws.Seat.{devices_own, devices_told}
 use Rattle.vd_seats.proofs.tests.told_packed.load_own_device.Goals as goal
 
 pub access-requires : goal.access-requires

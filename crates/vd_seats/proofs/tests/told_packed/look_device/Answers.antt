@@ -6,7 +6,7 @@ use Rattle.vd_packed.specs.DeviceEnd.{packed_device}
 use Rattle.std.proofs.Common.{subst}
 use Rattle.vd_ring.specs.declared.device.DeviceNow.{DeviceNow}
 use Rattle.vd_packed_ring.specs.PackedDevice.{DeviceTellsAt}
-use Rattle.vd_seats.specs.Seat.{devices_own, devices_told}
+use Rattle.vd_seats.specs.laws.Seat.{devices_own, devices_told}
 use Rattle.vd_seats.proofs.tests.told_packed.look_device.Goals as goal
 
 pub access-requires : goal.access-requires

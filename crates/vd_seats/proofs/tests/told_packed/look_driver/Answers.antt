@@ -6,7 +6,7 @@ use Rattle.vd_packed.specs.DeviceEnd.{packed_device}
 use Rattle.std.proofs.Common.{subst}
 use Rattle.vd_ring.specs.declared.driver.DriverNow.{DriverNow}
 use Rattle.vd_packed_ring.specs.PackedDriver.{DriverTellsAt}
-use Rattle.vd_seats.specs.Seat.{drivers_own, drivers_told}
+use Rattle.vd_seats.specs.laws.Seat.{drivers_own, drivers_told}
 use Rattle.vd_seats.proofs.tests.told_packed.look_driver.Goals as goal
 
 pub access-requires : goal.access-requires

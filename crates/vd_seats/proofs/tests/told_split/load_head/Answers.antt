@@ -6,7 +6,7 @@ use Rattle.vd_split.specs.DeviceEnd.{split_device}
 use Rattle.std.proofs.Common.{subst}
 use Rattle.vd_ring.specs.declared.device.DeviceNow.{DeviceNow}
 use Rattle.vd_split_ring.specs.SplitDevice.{DeviceTellsAt}
-use Rattle.vd_seats.specs.Seat.{devices_own, devices_told}
+use Rattle.vd_seats.specs.laws.Seat.{devices_own, devices_told}
 use Rattle.vd_seats.proofs.tests.told_split.load_head.Goals as goal
 
 pub access-requires : goal.access-requires

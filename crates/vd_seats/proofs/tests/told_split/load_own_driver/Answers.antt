@@ -2,7 +2,7 @@ use Rattle.vd_words.specs.declared.access.Access.TheVariants.{Load}
 use Rattle.vd_split.specs.laws.SplitLayout.{split_layout, split_laws}
 use Rattle.vd_split.specs.DriverEnd.{split_driver}
 use Rattle.vd_split.specs.DeviceEnd.{split_device}
-use Rattle.vd_seats.specs.Seat.{drivers_own, drivers_told}
+use Rattle.vd_seats.specs.laws.Seat.{drivers_own, drivers_told}
 use Rattle.vd_seats.proofs.tests.told_split.load_own_driver.Goals as goal
 
 pub access-requires : goal.access-requires

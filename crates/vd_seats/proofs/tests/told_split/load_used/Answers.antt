@@ -6,7 +6,7 @@ use Rattle.vd_split.specs.DeviceEnd.{split_device}
 use Rattle.std.proofs.Common.{subst}
 use Rattle.vd_ring.specs.declared.driver.DriverNow.{DriverNow}
 use Rattle.vd_split_ring.specs.SplitDriver.{DriverTellsAt}
-use Rattle.vd_seats.specs.Seat.{drivers_own, drivers_told}
+use Rattle.vd_seats.specs.laws.Seat.{drivers_own, drivers_told}
 use Rattle.vd_seats.proofs.tests.told_split.load_used.Goals as goal
 
 pub access-requires : goal.access-requires

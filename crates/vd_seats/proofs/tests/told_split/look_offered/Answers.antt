@@ -4,7 +4,7 @@ use Rattle.vd_split.specs.laws.SplitLayout.{split_layout, split_laws}
 use Rattle.vd_split.specs.DriverEnd.{split_driver}
 use Rattle.vd_split.specs.DeviceEnd.{split_device}
 use Rattle.vd_seats.proofs.Around.{device_stepped}
-use Rattle.vd_seats.specs.Seat.{devices_own}
+use Rattle.vd_seats.specs.laws.Seat.{devices_own}
 use Rattle.vd_seats.proofs.tests.told_split.look_offered.Goals as goal
 
 pub access-requires : goal.access-requires

@@ -4,7 +4,7 @@ use Rattle.vd_split.specs.laws.SplitLayout.{split_layout, split_laws}
 use Rattle.vd_split.specs.DriverEnd.{split_driver}
 use Rattle.vd_split.specs.DeviceEnd.{split_device}
 use Rattle.vd_seats.proofs.Around.{driver_stepped}
-use Rattle.vd_seats.specs.Seat.{drivers_own}
+use Rattle.vd_seats.specs.laws.Seat.{drivers_own}
 use Rattle.vd_seats.proofs.tests.told_split.look_published.Goals as goal
 
 pub access-requires : goal.access-requires

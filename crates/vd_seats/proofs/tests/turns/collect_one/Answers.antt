@@ -1,4 +1,4 @@
-use Rattle.vd_layout.specs.Runs.{driver_ran}
+use Rattle.vd_layout.specs.laws.Runs.{driver_ran}
 use Rattle.vd_seats.proofs.tests.turns.collect_one.Goals as goal
 
 pub returns : goal.returns

@@ -1,4 +1,4 @@
-use Rattle.vd_layout.specs.Runs.{device_ran}
+use Rattle.vd_layout.specs.laws.Runs.{device_ran}
 use Rattle.vd_seats.proofs.tests.turns.give_one.Goals as goal
 
 pub returns : goal.returns

@@ -1,6 +1,6 @@
 use Rattle.std.proofs.Common.{rules}
-use Rattle.vd_layout.specs.Runs.{driver_ran}
-use Rattle.vd_seats.specs.Open.{may_offer_one}
+use Rattle.vd_layout.specs.laws.Runs.{driver_ran}
+use Rattle.vd_seats.specs.laws.Open.{may_offer_one}
 use Rattle.vd_seats.proofs.tests.turns.offer_one.Goals as goal
 
 pub begin_offer-requires-clause-may : goal.begin_offer-requires-clause-may

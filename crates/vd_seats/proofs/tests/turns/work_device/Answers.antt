@@ -1,4 +1,4 @@
-use Rattle.vd_layout.specs.Runs.{device_on}
+use Rattle.vd_layout.specs.laws.Runs.{device_on}
 use Rattle.vd_seats.proofs.tests.turns.work_device.Goals as goal
 
 pub arm_device-requires : goal.arm_device-requires

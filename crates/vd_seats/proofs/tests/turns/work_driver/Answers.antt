@@ -1,4 +1,4 @@
-use Rattle.vd_layout.specs.Runs.{driver_on}
+use Rattle.vd_layout.specs.laws.Runs.{driver_on}
 use Rattle.vd_seats.proofs.tests.turns.work_driver.Goals as goal
 
 pub collect_one-requires : goal.collect_one-requires

@@ -2,7 +2,8 @@ use Rattle.std.proofs.Common.{rules, ◌∙◌, refl, ap, replicate}
 use Rattle.vd_split.specs.declared.tests.tracked.Tracked.{Tracked}
 use Rattle.vd_layout.specs.Layout.{CanMake}
 use Rattle.vd_split.specs.laws.SplitLayout.{split_layout}
-use Rattle.vd_split.specs.Tracked.{plain_features, start_driver, start_frame, made, may_start, tracks_start, own_tracked}
+use Rattle.vd_split.specs.Tracked.{plain_features, start_driver, start_frame}
+use Rattle.vd_split.specs.laws.Tracked.{made, may_start, tracks_start, own_tracked}
 use Rattle.vd_split.proofs.tests.tracked.an_offer_is_made_on_a_port_that_tracks_the_view.Goals as goal
 
 pub begin_offer-requires-clause-may : goal.begin_offer-requires-clause-may

@@ -1,7 +1,8 @@
 use Rattle.std.proofs.Common.{◌∙◌, ap, refl, replicate, false, None}
 use Rattle.vd_ring.specs.declared.frame.Frame.{Frame}
 use Rattle.vd_layout.specs.Layout.{IsMadeWith}
-use Rattle.vd_layout.specs.Both.{fresh_on, plain_frame}
+use Rattle.vd_layout.specs.Both.{plain_frame}
+use Rattle.vd_layout.specs.laws.Both.{fresh_on}
 use Rattle.vd_split.proofs.tests.rig.Rig.new.Goals as goal
 
 pub invariant_of-result : goal.invariant_of-result

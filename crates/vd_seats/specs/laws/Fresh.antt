@@ -11,7 +11,8 @@ use Rattle.vd_layout.specs.Device.{DeviceModel}
 use Rattle.vd_layout.specs.Runs.{DriverOn, DeviceOn, DriverRan, DeviceRan}
 use Rattle.vd_layout.specs.Layout.{LayoutModel, IsMadeWith, IsFresh, IsLawfulLayout}
 use Rattle.vd_seats.specs.declared.view.View.TheVariants.{Driver, Device}
-use Rattle.vd_seats.specs.Seat.{SeatState, AreSeats, port_of, drivers_own, devices_own, drives_run, serves_run}
+use Rattle.vd_seats.specs.Seat.{SeatState, AreSeats, port_of}
+use Rattle.vd_seats.specs.laws.Seat.{drivers_own, devices_own, drives_run, serves_run}
 
 module _ {D E : Type 0} (d : DriverModel D) (e : DeviceModel E) (l : LayoutModel) (law : IsLawfulLayout d e l) where
   pub starts : {size : ℕ} {f : Features} {control : Bool} {x : D} {y : E} {g : Frame} {table : TableId} {first second : SeatState}

@@ -19,7 +19,8 @@ use Rattle.vd_packed.specs.declared.device.Told.{Told}
 use Rattle.vd_packed.specs.declared.device.Told.TheVariants as told
 use Rattle.vd_packed.specs.Telling.{act_of}
 use Rattle.vd_packed.specs.DriverEnd.{packed_words}
-use Rattle.vd_packed.specs.DeviceEnd.{DeviceStands, DeviceStepStands, not_armed, device_begun, device_left}
+use Rattle.vd_packed.specs.DeviceEnd.{DeviceStands, DeviceStepStands, device_begun, device_left}
+use Rattle.vd_packed.specs.laws.DeviceEnd.{not_armed}
 use Rattle.vd_packed.specs.laws.DeviceGiving.{Goes, at_step}
 use Rattle.vd_packed.specs.Loaded.{HasSeen}
 use Rattle.vd_packed.specs.laws.Places.{second_at, same_at, shows_available_at}

@@ -8,8 +8,8 @@ use Rattle.vd_ring.specs.declared.device.DeviceView.{DeviceView}
 use Rattle.vd_layout.specs.Begun.{DriverOp, DeviceOp}
 use Rattle.vd_layout.specs.Driver.{DriverModel, IsDriverStep, IsLawfulDriver}
 use Rattle.vd_layout.specs.Device.{DeviceModel, IsDeviceStep, IsLawfulDevice}
-use Rattle.vd_layout.specs.DriverFinish as driver
-use Rattle.vd_layout.specs.DeviceFinish as device
+use Rattle.vd_layout.specs.laws.DriverFinish as driver
+use Rattle.vd_layout.specs.laws.DeviceFinish as device
 
 module _ {D : Type 0} (d : DriverModel D) (law : IsLawfulDriver d) where
   pub driver_unarmed : (x : D) (v : DriverView) → d.stands x v → v.armed ≡ None → d.armed x ≡ false

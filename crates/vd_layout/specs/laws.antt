@@ -1,0 +1,10 @@
+pub mod Both
+pub mod DeviceFinish
+pub mod DriverFinish
+pub mod Ended
+pub mod Plain
+pub mod Run
+pub mod Runs
+pub mod Stepped
+pub mod Unarmed
+pub mod Whole

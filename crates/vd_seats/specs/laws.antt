@@ -1,0 +1,5 @@
+pub mod Asleep
+pub mod Closing
+pub mod Fresh
+pub mod Open
+pub mod Seat
