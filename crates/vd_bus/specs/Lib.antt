@@ -5,3 +5,7 @@ pub mod Scripts
 pub mod Guest
 pub mod Pace
 pub mod Acts
+pub mod Bus
+pub mod BusStatus
+pub mod BusRings
+pub mod BusMap

@@ -2,7 +2,6 @@
 use Rattle.std.specs.Prelude.{◌≡◌, false, List}
 use Rattle.vd_words.specs.Model.{PortModel}
 use Rattle.vd_words.specs.Own.{IsOwn}
-use Rattle.vd_ring.specs.declared.act.DeviceAct.TheVariants as act
 use Rattle.vd_ring.specs.declared.device.DeviceView.{DeviceView}
 use Rattle.vd_ring.specs.declared.driver.DriverView.{DriverView}
 use Rattle.vd_layout.specs.Begun.{DriverOp, DeviceOp}

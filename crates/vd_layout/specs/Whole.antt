@@ -1,8 +1,6 @@
 -- A whole operation on plain words: they meet the ring invariant after it, with the same view of the other side.
 use Rattle.std.specs.Prelude.{ℕ, List}
 use Rattle.vd_words.specs.Model.{PortModel}
-use Rattle.vd_ring.specs.declared.act.DriverAct.TheVariants as driver_act
-use Rattle.vd_ring.specs.declared.act.DeviceAct.TheVariants as device_act
 use Rattle.vd_ring.specs.declared.driver.DriverView.{DriverView}
 use Rattle.vd_ring.specs.declared.device.DeviceView.{DeviceView}
 use Rattle.vd_layout.specs.Layout.{LayoutModel}

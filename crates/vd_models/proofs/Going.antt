@@ -1,5 +1,5 @@
 -- What an access that ends no operation but a signal leaves of a model device: whether it is armed, what it was shown, and what it owes.
-use Rattle.std.proofs.Common.{◌≡◌, ◌≢◌, ◌⊎◌, ℕ, ◌+◌, ◌<◌, ◌≤◌, Bool, true, false, Option, Some, None, List, length, refl, sym, ◌∙◌, ap, subst, arith, inl, inr}
+use Rattle.std.proofs.Common.{◌≡◌, ◌≢◌, ◌⊎◌, ℕ, ◌+◌, ◌<◌, ◌≤◌, Bool, true, Some, None, List, sym, ◌∙◌, ap, subst, arith, inl, inr}
 use Rattle.vd_words.specs.declared.access.Op.{Op}
 use Rattle.vd_words.specs.declared.access.Op.TheVariants as op
 use Rattle.vd_ring.specs.declared.device.DeviceNow.{DeviceNow}
@@ -11,7 +11,7 @@ use Rattle.vd_models.specs.declared.window.Held.{Held}
 use Rattle.vd_models.specs.declared.serving.Stage.{Stage}
 use Rattle.vd_models.specs.declared.serving.Stage.TheVariants as stage
 use Rattle.vd_models.specs.Stages.{StageIs, ArmedIs, OpIs, hear_owes, take_owes, owes}
-use Rattle.vd_models.proofs.Stages.{at_take, at_give, at_rest, at_arm, at_hear, at_disarm, unarming, armed_none, take_small, hear_small, published_owes, published_not}
+use Rattle.vd_models.proofs.Stages.{at_take, at_give, at_rest, at_arm, at_hear, at_disarm, unarming, armed_none, take_small, published_owes, published_not}
 
 -- what holds after it
 pub record Went (st : Stage) (b : DeviceOp) (w : DeviceView) (left owed : ℕ) : Type 0 where

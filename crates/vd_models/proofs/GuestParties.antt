@@ -14,48 +14,41 @@ use Rattle.vd_bus.specs.Scripts.{chains}
 use Rattle.vd_models.specs.declared.counts.Counts.{Counts}
 use Rattle.vd_models.specs.declared.counts.Turn.{Turn}
 use Rattle.vd_models.specs.declared.cursor.Cursor.{Cursor}
+use Rattle.vd_models.specs.declared.driving.Booted.{Booted}
 use Rattle.vd_models.specs.declared.driving.Loaded.{Loaded}
+use Rattle.vd_models.specs.declared.driving.GuestPhase.{GuestPhase}
+use Rattle.vd_models.specs.declared.driving.GuestPhase.TheVariants as phase
 use Rattle.vd_models.specs.declared.driving.GuestStage.{GuestStage}
 use Rattle.vd_models.specs.declared.driving.GuestStage.TheVariants as stage
 use Rattle.vd_models.specs.Counting.{counted, woke}
 use Rattle.vd_models.specs.Cursors.{left_at, next_at, IsSettled}
-use Rattle.vd_models.specs.GuestStages.{BegunIs, ArmedIs, OpIs, DoneIs, is_done, first_stage, idle_owes, owes}
-use Rattle.vd_models.specs.Driving.{GuestHolds, IsPlan, IsLoaded, Driven, Drives, IsDriveTurn, IsPaid, drive, owes_at, script_of, is_done_of}
+use Rattle.vd_models.specs.GuestStages.{BegunIs, ArmedIs, OpIs, DoneIs, is_done, first_stage, owes}
+use Rattle.vd_models.specs.Driving.{GuestHolds, IsBooted, IsPlan, IsLoaded, IsFresh, booted_of, Driven, Drives, IsDriveTurn, IsPaid, owes_at, loaded_of, is_done_of}
 use Rattle.vd_models.proofs.GuestGoing.{idle_small}
 use Rattle.vd_models.proofs.Parties.{raised_small}
 use Rattle.vd_models.proofs.Scripts.{chains_count, start_left}
 
-some_same : {A : Type 0} (x y : A) (o : Option A) → o ≡ Some x → o ≡ Some y → x ≡ y
-some_same x y o p q = cc
+-- what it holds, by the name that the code has for it
+pub opened : {D : Type 0} (d : DriverModel D) (p : GuestPhase D) (b : Booted D) (c : Counts) (v : DriverView) → GuestHolds d p c v
+    → p ≡ phase.Booted b → IsBooted d b c v
+opened d p b c v h is = subst (λ (z : GuestPhase _). GuestHolds d z c v) is h
 
-pub same_script : (x : Option Loaded) (y : Loaded) (s : Script) → x ≡ Some y → script_of x ≡ Some s → y.script ≡ s
-same_script x y s p q = some (sym (ap script_of p) ∙ q)
-  where
-    some : Some y.script ≡ Some s → y.script ≡ s
-    some e = cc
+-- a guest that was loaded and not booted has made no access
+pub quiet : {D : Type 0} (p : GuestPhase D) (x : Loaded) (c : Counts) → p ≡ phase.Loaded x → IsFresh p c → c.accesses ≡ 0
+quiet p x c is h = h (ap (λ (z : GuestPhase _). booted_of z) is)
 
--- what it holds, by the names that the code has for it
-pub record Opened {D : Type 0} (d : DriverModel D) (e : D) (x : Loaded) (c : Counts) (v : DriverView) : Type 0 where
-  pub plan : IsPlan x
-  pub booted : x.booted ≡ true
-  pub drives : Drives d (drive e x) v
-  pub paid : IsPaid c (owes_at d (drive e x) v) (x.offered + length x.returned.items)
+pub loaded_is : {D : Type 0} (p : GuestPhase D) (y : Loaded) → p ≡ phase.Loaded y → IsLoaded p → IsPlan y
+loaded_is p y is h = subst (λ (z : GuestPhase _). IsLoaded z) is h
 
-pub opened : {D : Type 0} (d : DriverModel D) (end : Option D) (x : Option Loaded) (c : Counts) (v : DriverView) (z : D) (y : Loaded)
-    → GuestHolds d end x c v → end ≡ Some z → x ≡ Some y → Opened d z y c v
-opened d end x c v z y h is_end is_y =
-    subst (λ e. Opened d e y c v) (some_same h.is_end z end h.at_end is_end)
-    (subst (λ (l : Loaded). Opened d h.is_end l c v) (some_same h.is_loaded y x h.at_loaded is_y)
-    (record { plan = h.plan; booted = h.booted; drives = h.drives; paid = h.paid }))
-
-pub loaded_is : (x : Option Loaded) (y : Loaded) → x ≡ Some y → IsLoaded x → IsPlan y × (y.booted ≡ false)
-loaded_is x y is h = subst (λ (o : Option Loaded). IsLoaded o) is h
+pub same_script : (x y : Script) → ◌≡◌ {A = Option Script} (Some x) (Some y) → x ≡ y
+same_script x y e = cc
 
 pub total_is : (y : Loaded) → IsPlan y → y.total ≡ length (chains y.script)
 total_is y p = p.total ∙ sym (chains_count y.script.runs)
 
-pub not_done : (x : Option Loaded) (y : Loaded) → x ≡ Some y → (is_done_of x ≡ true → ⊥) → is_done y.stage ≡ false
-not_done x y is n = at y.stage (λ e. n (ap is_done_of is ∙ e))
+pub not_done : {D : Type 0} (p : GuestPhase D) (b : Booted D) → p ≡ phase.Booted b → (is_done_of (loaded_of p) ≡ true → ⊥)
+    → is_done b.loaded.stage ≡ false
+not_done p b is n = at b.loaded.stage (λ e. n (ap (λ (z : GuestPhase _). is_done_of (loaded_of z)) is ∙ e))
   where
     at : (st : GuestStage) → (is_done st ≡ true → ⊥) → is_done st ≡ false
     at stage.Done m = absurd (m refl)
@@ -101,12 +94,12 @@ first_is n = at (n == 0) refl
         some : false ≡ (n == 0) → 0 < n
         some e = elim (cases_eq n 0) [ inl z ↦ absurd (let f : (n == 0) ≡ true = eq-eqb n 0 z in cc) | inr ne ↦ omega arith ]
 
-pub booted : {D : Type 0} (d : DriverModel D) (end : D) (y : Loaded) (at : Cursor) (st : GuestStage) (v : DriverView)
+pub boots : {D : Type 0} (d : DriverModel D) (end : D) (y : Loaded) (at : Cursor) (st : GuestStage) (v : DriverView)
     → d.begun end ≡ DriverOp.idle → IsPlan y → y.offered ≡ 0 → y.returned.items ≡ []
     → left_at y.script.runs at ≡ left_at y.script.runs (record { run = 0; used = 0 }) → IsSettled y.script.runs at
     → st ≡ first_stage y.total → d.stands end v → CanBoot y.script v
     → Drives d (record { end = end; script = y.script; at = at; offered = y.offered; returned = y.returned.items; stage = st }) v
-booted d end y at st v idle plan none empty left settled is stands can =
+boots d end y at st v idle plan none empty left settled is stands can =
     let total = total_is y plan in
     let f : FirstIs (length (chains y.script)) st = subst (λ (z : GuestStage). FirstIs (length (chains y.script)) z) (sym (is
     ∙ ap first_stage total)) (first_is (length (chains y.script))) in

@@ -3,9 +3,14 @@ pub mod Holding
 pub mod Stages
 pub mod Going
 pub mod Turns
+pub mod Sleeps
+pub mod Passing
 pub mod Parties
 pub mod Scripts
 pub mod GuestGoing
 pub mod Drives
+pub mod Offering
+pub mod GuestSleeps
+pub mod GuestPassing
 pub mod GuestParties
 pub mod Faults

@@ -1,5 +1,5 @@
 -- From what a model device holds to what its calls do.
-use Rattle.std.proofs.Common.{◌≡◌, ◌↔◌, ℕ, ◌+◌, ◌-◌, ◌*◌, ◌<◌, ◌≤◌, ◌==◌, Bool, true, false, Option, Some, None, Result, Ok, Err, is_err, OnOk, List, [], ◌∷◌, ◌++◌, length, min, nat_lt, if◌then◌else◌, refl, sym, ◌∙◌, ap, subst, arith, inl, inr}
+use Rattle.std.proofs.Common.{◌≡◌, ◌↔◌, ℕ, ◌+◌, ◌<◌, ◌≤◌, ◌==◌, Bool, true, false, Result, Ok, Err, is_err, OnOk, List, [], ◌∷◌, ◌++◌, length, nat_lt, if◌then◌else◌, refl, sym, ◌∙◌, ap, subst, arith, inl, inr}
 use Rattle.std.specs.List.{All}
 use Rattle.std.proofs.lemmas.Bool.{cases_eq, cases_lt, eq-eqb, ne_eqb}
 use Rattle.std.proofs.lemmas.List.{drop_all, length-map}
@@ -22,39 +22,28 @@ use Rattle.vd_bus.specs.declared.journal.Journal.{Journal}
 use Rattle.vd_bus.specs.Device.{IsJournalled, IsBegun, chains_of, gave}
 use Rattle.vd_bus.specs.Entries.{Reserved}
 use Rattle.vd_bus.specs.Pace.{last_count, raised, worked, attaches, KeepsPace}
-use Rattle.circular_buffer.specs.Buffer.{Buffer}
 use Rattle.vd_models.specs.declared.counts.Counts.{Counts}
 use Rattle.vd_models.specs.declared.counts.Turn.{Turn}
 use Rattle.vd_models.specs.declared.counts.Turn.TheVariants.{Worked, Woke, Slept}
+use Rattle.vd_models.specs.declared.serving.Phase.{Phase}
+use Rattle.vd_models.specs.declared.serving.Phase.TheVariants as phase
 use Rattle.vd_models.specs.declared.serving.Session.{Session}
 use Rattle.vd_models.specs.declared.serving.Stage.{Stage}
 use Rattle.vd_models.specs.declared.serving.Stage.TheVariants as stage
 use Rattle.vd_models.specs.declared.window.Held.{Held}
 use Rattle.vd_models.specs.Counting.{counted, woke, move_of}
-use Rattle.vd_models.specs.Holding.{HaveLens, IsHeld, held_numbers, capacity_of, journal_room}
+use Rattle.vd_models.specs.Holding.{HaveLens, IsHeld, capacity_of, journal_room}
 use Rattle.vd_models.specs.Stages.{is_done, owes}
-use Rattle.vd_models.specs.Serving.{State, state, Serves, IsTurn, Holds, IsPaid, owes_at, attached_of, is_done_of, all_of}
+use Rattle.vd_models.specs.Serving.{State, state, Serves, IsTurn, Holds, IsAttached, IsPaid, owes_at, is_done_of, all_of}
 use Rattle.vd_models.proofs.Stages.{idle_small, window_most}
 
-some_same : {A : Type 0} (x y : A) (o : Option A) → o ≡ Some x → o ≡ Some y → x ≡ y
-some_same x y o p q = cc
+-- what it holds, by the name that the code has for its session
+pub opened : {E : Type 0} (e : DeviceModel E) (p : Phase E) (s : Session E) (j : Journal) (c : Counts) (w : DeviceView)
+    → Holds e p j c w → p ≡ phase.Serving s → IsAttached e s j c w
+opened e p s j c w h is = subst (λ (z : Phase _). Holds e z j c w) is h
 
--- what it holds, by the names that the code has for it
-pub record Opened {E : Type 0} (e : DeviceModel E) (s : Session E) (h : Buffer Held) (j : Journal) (c : Counts)
-    (w : DeviceView) : Type 0 where
-  pub serves : Serves e (state s h j.begun) w
-  pub paid : IsPaid c (owes_at e (state s h j.begun) w) (length j.begun.items + gave s.by w + attaches j.events.items)
-
-pub opened : {E : Type 0} (e : DeviceModel E) (o : Option (Session E)) (held : Option (Buffer Held)) (j : Journal) (c : Counts)
-    (w : DeviceView) (s : Session E) (h : Buffer Held)
-    → Holds e o held j c w → o ≡ Some s → held ≡ Some h → Opened e s h j c w
-opened {E = E} e o held j c w s h x is_session is_held =
-    subst (λ (z : Session E). Opened e z h j c w) (some_same x.is_session s o x.at_session is_session)
-    (subst (λ (z : Buffer Held). Opened e x.is_session z j c w) (some_same x.is_held h held x.at_held is_held)
-    (record { serves = x.serves; paid = x.paid }))
-
-pub not_done : {E : Type 0} (o : Option (Session E)) (s : Session E) → o ≡ Some s → (is_done_of o ≡ true → ⊥) → is_done s.stage ≡ false
-not_done o s is n = at s.stage (λ d. n (ap is_done_of is ∙ d))
+pub not_done : {E : Type 0} (p : Phase E) (s : Session E) → p ≡ phase.Serving s → (is_done_of p ≡ true → ⊥) → is_done s.stage ≡ false
+not_done p s is n = at s.stage (λ d. n (ap is_done_of is ∙ d))
   where
     at : (st : Stage) → (is_done st ≡ true → ⊥) → is_done st ≡ false
     at stage.Taking m = refl
@@ -132,16 +121,16 @@ whole_spread s none even whole k = elim (cases_lt k (length (gives s))) [
 ]
 
 -- an end that was resumed, with an empty window
-pub starts : {E : Type 0} (e : DeviceModel E) (law : IsLawfulDevice e) (end : E) (s : Session E) (held : Buffer Held)
-    (begun : Reserved Begun) (w : DeviceView)
+pub starts : {E : Type 0} (e : DeviceModel E) (law : IsLawfulDevice e) (end : E) (s : Session E) (begun : Reserved Begun)
+    (w : DeviceView)
     → s.stage ≡ stage.Taking → e.stands end w → IsStill e end → e.stands s.end w → e.begun s.end ≡ DeviceOp.idle
-    → e.resting s.end ≡ false → s.by.at ≡ length begun.items → s.by.from ≡ length (takes w.done) → held.items ≡ [] → 0 < held.capacity
-    → s.by.count ≤ begun.room → all_of s.by < 4294967296 → HaveLens begun.items → Serves e (state s held begun) w
-starts e law end s held begun w taking stands still stands' idle awake is_at is_from none some room small lens =
+    → e.resting s.end ≡ false → s.by.at ≡ length begun.items → s.by.from ≡ length (takes w.done) → s.held.items ≡ [] → 0 < s.held.capacity
+    → s.by.count ≤ begun.room → all_of s.by < 4294967296 → HaveLens begun.items → Serves e (state s begun) w
+starts e law end s begun w taking stands still stands' idle awake is_at is_from none some room small lens =
     let h = law.whole end w stands still in
     let by = s.by in
     let in_order = w.frame.features.in_order in
-    let at : Serves e (record { end = s.end; by = by; stage = stage.Taking; held = held; begun = begun }) w = record {
+    let at : Serves e (record { end = s.end; by = by; stage = stage.Taking; held = s.held; begun = begun }) w = record {
       stands = stands';
       serving = record {
         as_many = omega arith;
@@ -160,7 +149,7 @@ starts e law end s held begun w taking stands still stands' idle awake is_at is_
         noted = All-nil (λ (y : Held). IsJournalled begun.items by.at by.from (entry y.number y.len));
         order = λ o j d below. absurd (omega arith);
       };
-      stage = subst (λ o. Rattle.vd_models.specs.Stages.StageIs stage.Taking o in_order held.items (length begun.items) (all_of by))
+      stage = subst (λ o. Rattle.vd_models.specs.Stages.StageIs stage.Taking o in_order s.held.items (length begun.items) (all_of by))
           (sym idle) (inl none);
       armed = law.unarmed end w stands still;
       op = subst (λ o. Rattle.vd_models.specs.Stages.OpIs o w.doing w.shown (e.left s.end)) (sym idle) tt;
@@ -171,7 +160,7 @@ starts e law end s held begun w taking stands still stands' idle awake is_at is_
       small = small;
       lens = lens;
     } in
-    subst (λ (z : Stage). Serves e (record { end = s.end; by = by; stage = z; held = held; begun = begun }) w) (sym taking) at
+    subst (λ (z : Stage). Serves e (record { end = s.end; by = by; stage = z; held = s.held; begun = begun }) w) (sym taking) at
 
 attaches_push : (es : List Event) (x : Event) → attaches (es ++ x ∷ []) ≡ attaches es + attaches (x ∷ [])
 attaches_push [] x = omega arith
@@ -183,33 +172,32 @@ pub attaches_more : (es es' : List Event) (x : Event) → es' ≡ es ++ x ∷ []
 attaches_more es es' x is = ap attaches is ∙ attaches_push es x
 
 -- it owes little when it is attached
-pub begins_paid : {E : Type 0} (e : DeviceModel E) (law : IsLawfulDevice e) (end : E) (s : Session E) (held : Buffer Held)
-    (begun : Reserved Begun) (w : DeviceView) (c : Counts) (n n' : ℕ)
+pub begins_paid : {E : Type 0} (e : DeviceModel E) (law : IsLawfulDevice e) (end : E) (s : Session E) (begun : Reserved Begun)
+    (w : DeviceView) (c : Counts) (n n' : ℕ)
     → e.stands end w → IsStill e end → e.begun s.end ≡ DeviceOp.idle → s.by.at ≡ length begun.items → s.by.from ≡ length (takes w.done)
     → n' ≡ n + 1
-    → KeepsPace c.accesses c.heard (length begun.items + length begun.items + c.heard + n) → IsPaid c (owes_at e (state s held begun) w)
+    → KeepsPace c.accesses c.heard (length begun.items + length begun.items + c.heard + n) → IsPaid c (owes_at e (state s begun) w)
     (length begun.items + gave s.by w + n')
-begins_paid e law end s held begun w c n n' stands still idle is_at is_from one paced few fewer =
+begins_paid e law end s begun w c n n' stands still idle is_at is_from one paced few fewer =
     let h = law.whole end w stands still in
     omega (arith, paced few fewer, h.1, ap (λ o. owes s.stage o w.doing w.shown (e.left s.end)) idle, idle_small s.stage w.shown)
 
 -- ---- the room for events
 
-pub room_most : (o : Option (Buffer Held)) (r : ℕ) → journal_room o r ≤ r
-room_most None r = omega arith
-room_most (Some b) r = at (b.capacity == 0)
-  where
-    at : (t : Bool) → (if t then 0 else r) ≤ r
-    at true = omega arith
-    at false = omega arith
+room_small : (t : Bool) (r : ℕ) → (if t then 0 else r) ≤ r
+room_small true r = omega arith
+room_small false r = omega arith
 
-pub room_all : (b : Buffer Held) (r : ℕ) → 0 < b.capacity → journal_room (Some b) r ≡ r
-room_all b r some = ap {B = ℕ} (λ (t : Bool). if t then 0 else r) (ne_eqb b.capacity 0 (λ z. omega arith))
+pub room_most : {E : Type 0} (p : Phase E) (r : ℕ) → journal_room p r ≤ r
+room_most p r = room_small (capacity_of p == 0) r
 
-pub room_some : (o : Option (Buffer Held)) (b : Buffer Held) (r : ℕ) → o ≡ Some b → 0 < journal_room o r → 0 < b.capacity
-room_some o b r is some = elim (cases_eq b.capacity 0) [
-  | inl z ↦ absurd (let none : journal_room o r ≡ 0 = ap (λ q. journal_room q r) is ∙ ap {B = ℕ} (λ (t : Bool). if t then 0 else r)
-      (eq-eqb b.capacity 0 z) in omega arith)
+pub room_all : {E : Type 0} (p : Phase E) (r : ℕ) → 0 < capacity_of p → journal_room p r ≡ r
+room_all p r some = ap {B = ℕ} (λ (t : Bool). if t then 0 else r) (ne_eqb (capacity_of p) 0 (λ z. omega arith))
+
+pub room_some : {E : Type 0} (p : Phase E) (r : ℕ) → 0 < journal_room p r → 0 < capacity_of p
+room_some p r some = elim (cases_eq (capacity_of p) 0) [
+  | inl z ↦ absurd (let none : journal_room p r ≡ 0 = ap {B = ℕ} (λ (t : Bool). if t then 0 else r) (eq-eqb (capacity_of p) 0 z) in
+      omega arith)
   | inr ne ↦ omega arith
 ]
 
@@ -218,11 +206,12 @@ ok_of (Ok x) P ok h = h
 ok_of (Err x) P ok h = absurd (cc)
 
 -- no more chains run than it has room for
-pub running_within : {E : Type 0} (e : DeviceModel E) (o : Option (Session E)) (held : Option (Buffer Held)) (j : Journal) (c : Counts)
-    (w : DeviceView) → Holds e o held j c w → length (running w.done) ≤ capacity_of held
-running_within e o held j c w h =
-    let most : length h.is_held.items ≤ h.is_held.capacity = window_most h.is_session.stage
-    (length h.is_held.items) h.is_held.capacity h.serves.window in
-    let many : length h.is_held.items ≡ length (running w.done) = sym (length-map h.is_held.items (λ (x : Held). x.number))
+pub running_within : {E : Type 0} (e : DeviceModel E) (p : Phase E) (j : Journal) (c : Counts) (w : DeviceView) → Holds e p j c w
+    → length (running w.done) ≤ capacity_of p
+running_within e phase.Unreserved j c w h = absurd h
+running_within e (phase.Free b) j c w h = absurd h
+running_within e (phase.Serving s) j c w h =
+    let most : length s.held.items ≤ s.held.capacity = window_most s.stage (length s.held.items) s.held.capacity h.serves.window in
+    let many : length s.held.items ≡ length (running w.done) = sym (length-map s.held.items (λ (x : Held). x.number))
     ∙ ap length h.serves.held.hand in
-    omega (arith, most, many, ap capacity_of h.at_held)
+    omega (arith, most, many)

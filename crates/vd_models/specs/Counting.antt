@@ -3,7 +3,7 @@ use Rattle.std.specs.Prelude.{ℕ, Bool, true, false}
 use Rattle.vd_layout.specs.declared.moves.Move.{Move}
 use Rattle.vd_layout.specs.declared.moves.Move.TheVariants as move
 use Rattle.vd_models.specs.declared.counts.Turn.{Turn}
-use Rattle.vd_models.specs.declared.counts.Turn.TheVariants.{Worked, Woke, Slept}
+use Rattle.vd_models.specs.declared.counts.Turn.TheVariants.{Woke, Slept}
 
 -- 1 for an access that was no look of a sleeper
 abbrev pub counted : Turn → ℕ

@@ -21,7 +21,10 @@ use Rattle.vd_models.specs.declared.counts.Counts.{Counts}
 use Rattle.vd_models.specs.declared.counts.Turn.{Turn}
 use Rattle.vd_models.specs.declared.counts.Turn.TheVariants.{Slept}
 use Rattle.vd_models.specs.declared.cursor.Cursor.{Cursor}
+use Rattle.vd_models.specs.declared.driving.Booted.{Booted}
 use Rattle.vd_models.specs.declared.driving.Loaded.{Loaded}
+use Rattle.vd_models.specs.declared.driving.GuestPhase.{GuestPhase}
+use Rattle.vd_models.specs.declared.driving.GuestPhase.TheVariants as phase
 use Rattle.vd_models.specs.declared.driving.GuestStage.{GuestStage}
 use Rattle.vd_models.specs.Counting.{counted, woke}
 use Rattle.vd_models.specs.Cursors.{left_at, next_at, IsSettled}
@@ -78,7 +81,6 @@ pub record BeginsDrive {D : Type 0} (d : DriverModel D) (v : DriverView) (x y : 
 pub record IsKept (x y : Loaded) : Type 0 where
   pub plan : IsPlan y
   pub script : y.script ≡ x.script
-  pub booted : y.booted ≡ x.booted
 
 -- one access of the port was made, which was next in the view, and the guest drives on at the view after it. It is paid for: by one
 -- that it owed, or by a chain offered or collected, or a bell heard
@@ -111,6 +113,12 @@ Begins d x y = (v : DriverView) → DriveOpens d x v → BeginsDrive d v x y
 
 -- ---- the guest
 
+abbrev pub loaded_of : {D : Type 0} → GuestPhase D → Option Loaded
+loaded_of phase.Unloaded = None
+loaded_of (phase.Loaded x) = Some x
+loaded_of (phase.Booted b) = Some b.loaded
+loaded_of (phase.Halted x) = Some x
+
 abbrev pub script_of : Option Loaded → Option Script
 script_of None = None
 script_of (Some x) = Some x.script
@@ -128,34 +136,33 @@ is_done_of None = false
 is_done_of (Some x) = is_done x.stage
 
 -- it is loaded, and was not booted
-abbrev pub IsLoaded : Option Loaded → Type 0
-IsLoaded None = ⊥
-IsLoaded (Some x) = IsPlan x × (x.booted ≡ false)
+abbrev pub IsLoaded : {D : Type 0} → GuestPhase D → Type 0
+IsLoaded (phase.Loaded x) = IsPlan x
+IsLoaded _ = ⊥
 
 -- the accesses made and those owed are within the pace, for counts below the last
 abbrev pub IsPaid : Counts → ℕ → ℕ → Type 0
 IsPaid c owed did = c.accesses < last_count → c.heard < last_count → c.accesses + owed ≤ 64 * (did + c.heard + 1)
 
-abbrev pub booted_of : Option Loaded → Bool
-booted_of None = false
-booted_of (Some x) = x.booted
+abbrev pub booted_of : {D : Type 0} → GuestPhase D → Bool
+booted_of (phase.Booted b) = true
+booted_of (phase.Halted x) = true
+booted_of _ = false
 
 -- a guest that was not booted has made no access
-abbrev pub IsFresh : Option Loaded → Counts → Type 0
-IsFresh x c = booted_of x ≡ false → c.accesses ≡ 0
+abbrev pub IsFresh : {D : Type 0} → GuestPhase D → Counts → Type 0
+IsFresh p c = booted_of p ≡ false → c.accesses ≡ 0
 
 -- it keeps the pace
 abbrev pub Paces : Option Loaded → Counts → Type 0
 Paces x c = IsPaid c 0 (offered_of x + length (returned_of x))
 
--- it is loaded, and its end stands for the view
-pub record GuestHolds {D : Type 0} (d : DriverModel D) (end : Option D) (loaded : Option Loaded) (counts : Counts) (v : DriverView)
-    : Type 0 where
-  pub is_end : D
-  pub is_loaded : Loaded
-  pub at_end : end ≡ Some is_end
-  pub at_loaded : loaded ≡ Some is_loaded
-  pub plan : IsPlan is_loaded
-  pub booted : is_loaded.booted ≡ true
-  pub drives : Drives d (drive is_end is_loaded) v
-  pub paid : IsPaid counts (owes_at d (drive is_end is_loaded) v) (is_loaded.offered + length is_loaded.returned.items)
+-- it was booted, and its end stands for the view
+pub record IsBooted {D : Type 0} (d : DriverModel D) (b : Booted D) (counts : Counts) (v : DriverView) : Type 0 where
+  pub plan : IsPlan b.loaded
+  pub drives : Drives d (drive b.end b.loaded) v
+  pub paid : IsPaid counts (owes_at d (drive b.end b.loaded) v) (b.loaded.offered + length b.loaded.returned.items)
+
+abbrev pub GuestHolds : {D : Type 0} → DriverModel D → GuestPhase D → Counts → DriverView → Type 0
+GuestHolds d (phase.Booted b) counts v = IsBooted d b counts v
+GuestHolds d _ counts v = ⊥

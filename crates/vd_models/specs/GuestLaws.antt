@@ -1,5 +1,5 @@
 -- A model guest's laws.
-use Rattle.std.specs.Prelude.{◌≡◌, ℕ, zero, suc, ◌+◌, ◌<◌, Bool, true, false, Option, Some, None, IsSome, List, [], ◌∷◌, ◌++◌, length, map, drop, slice_get}
+use Rattle.std.specs.Prelude.{◌≡◌, ℕ, zero, suc, ◌+◌, true, Option, Some, None, IsSome, List, [], ◌∷◌, ◌++◌, length, map, drop, slice_get}
 use Rattle.std.proofs.Common.{refl, sym, ◌∙◌, ap, subst, arith}
 use Rattle.std.proofs.lemmas.List.{take-append-drop, length-take-le, length-map, take_all}
 use mathlib.Core.List.{IsPrefix}
@@ -11,17 +11,20 @@ use Rattle.vd_ring.specs.declared.driver.DriverView.{DriverView}
 use Rattle.vd_ring.specs.declared.frame.Frame.{Frame}
 use Rattle.vd_ring.specs.History.{offers, collects}
 use Rattle.vd_layout.specs.Begun.{DriverOp}
-use Rattle.vd_layout.specs.Driver.{DriverModel, IsLawfulDriver, HasRoom}
+use Rattle.vd_layout.specs.Driver.{DriverModel, IsLawfulDriver}
 use Rattle.vd_bus.specs.Guest.{as_return, HasDrivenAll, CannotOffer}
 use Rattle.vd_bus.specs.Pace.{KeepsPace}
 use Rattle.vd_bus.specs.Scripts.{chains}
 use Rattle.vd_models.specs.declared.counts.Counts.{Counts}
+use Rattle.vd_models.specs.declared.driving.Booted.{Booted}
 use Rattle.vd_models.specs.declared.driving.Loaded.{Loaded}
+use Rattle.vd_models.specs.declared.driving.GuestPhase.{GuestPhase}
+use Rattle.vd_models.specs.declared.driving.GuestPhase.TheVariants as phase
 use Rattle.vd_models.specs.declared.driving.GuestStage.{GuestStage}
 use Rattle.vd_models.specs.declared.driving.GuestStage.TheVariants as stage
-use Rattle.vd_models.specs.Cursors.{left_at, next_at}
+use Rattle.vd_models.specs.Cursors.{next_at}
 use Rattle.vd_models.specs.GuestStages.{BegunIs, DoneIs, ArmedIs, IsStuck, is_done}
-use Rattle.vd_models.specs.Driving.{GuestHolds, Paces, script_of, offered_of, returned_of, is_done_of}
+use Rattle.vd_models.specs.Driving.{GuestHolds, IsBooted, Paces, loaded_of, script_of, offered_of, returned_of, is_done_of}
 
 pub unloaded_law : (x : Option Loaded) → script_of x ≡ None → (offered_of x ≡ 0) × (returned_of x ≡ [])
 unloaded_law None h = (refl, refl)
@@ -31,11 +34,8 @@ pub pace_law : (x : Option Loaded) (c : Counts) → Paces x c
     → KeepsPace c.accesses c.heard (offered_of x + length (returned_of x) + c.heard + 1)
 pace_law x c h few fewer = omega (arith, h few fewer)
 
-same_script : (x : Option Loaded) (y : Loaded) (s : Script) → x ≡ Some y → script_of x ≡ Some s → y.script ≡ s
-same_script x y s p q = some (sym (ap script_of p) ∙ q)
-  where
-    some : Some y.script ≡ Some s → y.script ≡ s
-    some e = cc
+same_script : (x y : Script) → ◌≡◌ {A = Option Script} (Some x) (Some y) → x ≡ y
+same_script x y e = cc
 
 done_all : (st : GuestStage) (n m : ℕ) → is_done st ≡ true → DoneIs st n m → n ≡ m
 done_all stage.Done n m e h = h
@@ -93,70 +93,94 @@ get_drop (suc n) [] = refl
 get_drop (suc n) (x ∷ xs) = get_drop n xs
 
 module _ {D : Type 0} (d : DriverModel D) where
-  pub held_law : (end : Option D) (x : Option Loaded) (c : Counts) (v : DriverView) → GuestHolds d end x c v → IsSome (script_of x)
-  held_law end x c v h = subst (λ (o : Option Loaded). IsSome (script_of o)) (sym h.at_loaded) refl
+  many : (b : Booted D) (c : Counts) (v : DriverView) → IsBooted d b c v → length (offers v.done) ≡ b.loaded.offered
+  many b c v h = ap length h.drives.offers ∙ length-take-le b.loaded.offered (chains b.loaded.script) h.drives.some
 
-  many : (end : Option D) (x : Option Loaded) (c : Counts) (v : DriverView) → (h : GuestHolds d end x c v)
-      → length (offers v.done) ≡ h.is_loaded.offered
-  many end x c v h = ap length h.drives.offers ∙ length-take-le h.is_loaded.offered (chains h.is_loaded.script) h.drives.some
-
-  pub offered_law : (end : Option D) (x : Option Loaded) (c : Counts) (v : DriverView) → GuestHolds d end x c v
-      → offered_of x ≡ length (offers v.done)
-  offered_law end x c v h = ap offered_of h.at_loaded ∙ sym (many end x c v h)
-
-  pub offers_law : (end : Option D) (x : Option Loaded) (c : Counts) (v : DriverView) (s : Script) → GuestHolds d end x c v
-      → script_of x ≡ Some s → IsPrefix (offers v.done) (chains s)
-  offers_law end x c v s h is =
-      let y : Loaded = h.is_loaded in
-      subst (λ (z : Script). IsPrefix (offers v.done) (chains z)) (same_script x y s h.at_loaded is) (
-        drop y.offered
-            (chains y.script),
+  offers_of : (b : Booted D) (c : Counts) (v : DriverView) (s : Script) → IsBooted d b c v → b.loaded.script ≡ s
+      → IsPrefix (offers v.done) (chains s)
+  offers_of b c v s h is =
+      let y : Loaded = b.loaded in
+      subst (λ (z : Script). IsPrefix (offers v.done) (chains z)) is (
+        drop y.offered (chains y.script),
         ap (λ us. us ++ drop y.offered (chains y.script)) h.drives.offers ∙ take-append-drop y.offered
             (chains y.script),
       )
 
-  pub returned_law : (end : Option D) (x : Option Loaded) (c : Counts) (v : DriverView) → GuestHolds d end x c v
-      → returned_of x ≡ map as_return (collects v.done)
-  returned_law end x c v h = ap returned_of h.at_loaded ∙ h.drives.returned
-
-  pub done_law : (law : IsLawfulDriver d) (end : Option D) (x : Option Loaded) (c : Counts) (v : DriverView) (s : Script)
-      → GuestHolds d end x c v → script_of x ≡ Some s → is_done_of x ≡ true → HasDrivenAll s v
-  done_law law end x c v s h is e =
-      let y : Loaded = h.is_loaded in
-      let done : is_done y.stage ≡ true = sym (ap is_done_of h.at_loaded) ∙ e in
+  all_of : (law : IsLawfulDriver d) (b : Booted D) (c : Counts) (v : DriverView) (s : Script) → IsBooted d b c v → b.loaded.script ≡ s
+      → is_done b.loaded.stage ≡ true → HasDrivenAll s v
+  all_of law b c v s h is done =
+      let y : Loaded = b.loaded in
       let all : length y.returned.items ≡ length (chains y.script) = done_all y.stage (length y.returned.items) (length
       (chains y.script)) done h.drives.done in
       let back : length y.returned.items ≡ length (collects v.done) = ap length h.drives.returned ∙ length-map
       (collects v.done) as_return in
       let whole : offers v.done ≡ chains y.script = h.drives.offers ∙ take_all y.offered (chains y.script)
-      (omega (arith, h.drives.count, many end x c v h, all, back)) in
-      let idle = done_idle y.stage (d.begun h.is_end) (next_at y.script.runs y.at) v.frame v.done done h.drives.begun in
-      subst (λ (z : Script). HasDrivenAll z v) (same_script x y s h.at_loaded is) (record {
+      (omega (arith, h.drives.count, many b c v h, all, back)) in
+      let idle = done_idle y.stage (d.begun b.end) (next_at y.script.runs y.at) v.frame v.done done h.drives.begun in
+      subst (λ (z : Script). HasDrivenAll z v) is (record {
         offers = whole;
-        collects = sym back
-            ∙ all;
-        idle = law.at_rest h.is_end v h.drives.stands idle;
+        collects = sym back ∙ all;
+        idle = law.at_rest b.end v h.drives.stands idle;
       })
 
-  pub finishes_law : (end : Option D) (x : Option Loaded) (c : Counts) (v : DriverView) (s : Script) → GuestHolds d end x c v
-      → script_of x ≡ Some s → HasDrivenAll s v → is_done_of x ≡ true
-  finishes_law end x c v s h is all =
-      let y : Loaded = h.is_loaded in
+  finished_of : (b : Booted D) (c : Counts) (v : DriverView) (s : Script) → IsBooted d b c v → b.loaded.script ≡ s → HasDrivenAll s v
+      → is_done b.loaded.stage ≡ true
+  finished_of b c v s h is all =
+      let y : Loaded = b.loaded in
       let back : length y.returned.items ≡ length (collects v.done) = ap length h.drives.returned ∙ length-map
       (collects v.done) as_return in
-      let these : length (chains y.script) ≡ length (chains s) = ap (λ (z : Script). length (chains z))
-      (same_script x y s h.at_loaded is) in
-      ap is_done_of h.at_loaded ∙ all_done y.stage (length y.returned.items) (length (chains y.script)) (back ∙ all.collects
-      ∙ sym these) h.drives.done
+      let these : length (chains y.script) ≡ length (chains s) = ap (λ (z : Script). length (chains z)) is in
+      all_done y.stage (length y.returned.items) (length (chains y.script)) (back ∙ all.collects ∙ sym these) h.drives.done
 
-  pub armed_law : (end : Option D) (x : Option Loaded) (c : Counts) (v : DriverView) (s : Script) (t : ℕ) → GuestHolds d end x c v
-      → script_of x ≡ Some s → v.armed ≡ Some t → CannotOffer s v
-  armed_law end x c v s t h is some p get room =
-      let y : Loaded = h.is_loaded in
-      let stuck = arms y.stage (d.begun h.is_end) v.doing
+  stuck_of : (b : Booted D) (c : Counts) (v : DriverView) (s : Script) (t : ℕ) → IsBooted d b c v → b.loaded.script ≡ s
+      → v.armed ≡ Some t → CannotOffer s v
+  stuck_of b c v s t h is some p get room =
+      let y : Loaded = b.loaded in
+      let stuck = arms y.stage (d.begun b.end) v.doing
       (next_at y.script.runs y.at) v.frame v.done t v.armed some h.drives.armed h.drives.begun in
       let next : next_at y.script.runs y.at ≡ Some p = ap (λ cs. slice_get cs 0) h.drives.left ∙ get_drop y.offered (chains y.script)
-      ∙ ap (slice_get (chains y.script)) (sym (many end x c v h))
-      ∙ ap (λ (z : Script). slice_get (chains z) (length (offers v.done))) (same_script x y s h.at_loaded is) ∙ get in
+      ∙ ap (slice_get (chains y.script)) (sym (many b c v h))
+      ∙ ap (λ (z : Script). slice_get (chains z) (length (offers v.done))) is ∙ get in
       let none : IsStuck (Some p) v.frame v.done = subst (λ z. IsStuck z v.frame v.done) next stuck in
       none room
+
+  -- what the laws say of a guest that was booted they say of each that holds a view
+  held : (p : GuestPhase D) (c : Counts) (v : DriverView) (Q : GuestPhase D → Type 0) → GuestHolds d p c v
+      → ((b : Booted D) → IsBooted d b c v → Q (phase.Booted b)) → Q p
+  held phase.Unloaded c v Q h f = absurd h
+  held (phase.Loaded x) c v Q h f = absurd h
+  held (phase.Booted b) c v Q h f = f b h
+  held (phase.Halted x) c v Q h f = absurd h
+
+  pub held_law : (p : GuestPhase D) (c : Counts) (v : DriverView) → GuestHolds d p c v → IsSome (script_of (loaded_of p))
+  held_law p c v h = held p c v (λ z. IsSome (script_of (loaded_of z))) h (λ b x. refl)
+
+  pub offered_law : (p : GuestPhase D) (c : Counts) (v : DriverView) → GuestHolds d p c v → offered_of (loaded_of p) ≡ length
+      (offers v.done)
+  offered_law p c v h = held p c v (λ z. offered_of (loaded_of z) ≡ length (offers v.done)) h (λ b x. sym (many b c v x))
+
+  pub offers_law : (p : GuestPhase D) (c : Counts) (v : DriverView) (s : Script) → GuestHolds d p c v → script_of (loaded_of p) ≡ Some s
+      → IsPrefix (offers v.done) (chains s)
+  offers_law p c v s h = held p c v (λ z. script_of (loaded_of z) ≡ Some s → IsPrefix (offers v.done) (chains s)) h
+      (λ b x is. offers_of b c v s x (same_script b.loaded.script s is))
+
+  pub returned_law : (p : GuestPhase D) (c : Counts) (v : DriverView) → GuestHolds d p c v
+      → returned_of (loaded_of p) ≡ map as_return (collects v.done)
+  returned_law p c v h = held p c v (λ z. returned_of (loaded_of z) ≡ map as_return (collects v.done)) h (λ b x. x.drives.returned)
+
+  pub done_law : (law : IsLawfulDriver d) (p : GuestPhase D) (c : Counts) (v : DriverView) (s : Script) → GuestHolds d p c v
+      → script_of (loaded_of p) ≡ Some s → is_done_of (loaded_of p) ≡ true → HasDrivenAll s v
+  done_law law p c v s h = held p c v
+      (λ z. script_of (loaded_of z) ≡ Some s → is_done_of (loaded_of z) ≡ true → HasDrivenAll s v) h
+      (λ b x is e. all_of law b c v s x (same_script b.loaded.script s is) e)
+
+  pub finishes_law : (p : GuestPhase D) (c : Counts) (v : DriverView) (s : Script) → GuestHolds d p c v → script_of (loaded_of p) ≡ Some s
+      → HasDrivenAll s v → is_done_of (loaded_of p) ≡ true
+  finishes_law p c v s h = held p c v
+      (λ z. script_of (loaded_of z) ≡ Some s → HasDrivenAll s v → is_done_of (loaded_of z) ≡ true) h
+      (λ b x is all. finished_of b c v s x (same_script b.loaded.script s is) all)
+
+  pub armed_law : (p : GuestPhase D) (c : Counts) (v : DriverView) (s : Script) (t : ℕ) → GuestHolds d p c v
+      → script_of (loaded_of p) ≡ Some s → v.armed ≡ Some t → CannotOffer s v
+  armed_law p c v s t h = held p c v (λ z. script_of (loaded_of z) ≡ Some s → v.armed ≡ Some t → CannotOffer s v) h
+      (λ b x is some. stuck_of b c v s t x (same_script b.loaded.script s is) some)

@@ -1,5 +1,5 @@
 -- The chains that a model device has begun and not given.
-use Rattle.std.specs.Prelude.{◌≡◌, ℕ, ◌+◌, ◌-◌, ◌<◌, ◌==◌, Bool, true, false, Option, Some, None, List, [], length, map, take, drop, slice_get, slice_index_or, nat_lt, min, if◌then◌else◌}
+use Rattle.std.specs.Prelude.{◌≡◌, ℕ, ◌+◌, ◌-◌, ◌<◌, ◌==◌, Bool, true, false, Option, List, [], length, map, take, drop, slice_get, slice_index_or, nat_lt, min, if◌then◌else◌}
 use Rattle.std.specs.List.{All}
 use Rattle.vd_model.specs.declared.chain.Piece.{Piece}
 use Rattle.vd_model.specs.declared.record.Begun.{Begun}
@@ -9,7 +9,9 @@ use Rattle.vd_ring.specs.declared.frame.Frame.{Frame}
 use Rattle.vd_ring.specs.History.{entry, takes, gives, running, numbers, occurs}
 use Rattle.vd_bus.specs.declared.device.Attached.{Attached}
 use Rattle.vd_bus.specs.Device.{IsJournalled, chains_of, lens_of}
-use Rattle.circular_buffer.specs.Buffer.{Buffer, last_item}
+use Rattle.circular_buffer.specs.Buffer.{last_item}
+use Rattle.vd_models.specs.declared.serving.Phase.{Phase}
+use Rattle.vd_models.specs.declared.serving.Phase.TheVariants as phase
 use Rattle.vd_models.specs.declared.window.Held.{Held}
 
 -- the chain that is given next, and those that are left then
@@ -52,10 +54,10 @@ held_of k c = record { number = k; len = given_len c }
 
 -- ---- the room
 
-abbrev pub capacity_of : Option (Buffer Held) → ℕ
-capacity_of None = 0
-capacity_of (Some b) = b.capacity
+abbrev pub capacity_of : {E : Type 0} → Phase E → ℕ
+capacity_of phase.Unreserved = 0
+capacity_of (phase.Free held) = held.capacity
+capacity_of (phase.Serving s) = s.held.capacity
 
-abbrev pub journal_room : Option (Buffer Held) → ℕ → ℕ
-journal_room None room = 0
-journal_room (Some b) room = if b.capacity == 0 then 0 else room
+abbrev pub journal_room : {E : Type 0} → Phase E → ℕ → ℕ
+journal_room p room = if capacity_of p == 0 then 0 else room

@@ -1,5 +1,5 @@
 -- A model device's laws.
-use Rattle.std.specs.Prelude.{◌≡◌, ◌≢◌, ℕ, ◌+◌, ◌*◌, ◌<◌, ◌≤◌, Bool, true, false, Option, Some, None, IsSome, List, [], length, if◌then◌else◌}
+use Rattle.std.specs.Prelude.{◌≡◌, ℕ, ◌+◌, ◌<◌, Bool, true, Option, Some, IsSome, List, [], length, if◌then◌else◌}
 use Rattle.std.proofs.Common.{refl, sym, ◌∙◌, ap, subst, arith}
 use Rattle.std.proofs.lemmas.Bool.{lt-ltb}
 use Rattle.vd_model.specs.declared.record.Begun.{Begun}
@@ -11,13 +11,12 @@ use Rattle.vd_ring.specs.History.{takes, gives, running, occurs, IsWhole}
 use Rattle.vd_layout.specs.Begun.{DeviceOp}
 use Rattle.vd_layout.specs.Device.{DeviceModel, IsLawfulDevice}
 use Rattle.vd_bus.specs.declared.device.Attached.{Attached}
-use Rattle.vd_bus.specs.declared.event.Event.{Event}
 use Rattle.vd_bus.specs.declared.journal.Journal.{Journal}
 use Rattle.vd_bus.specs.Device.{IsServing, HasServedAll, ArmsRightly, gave}
 use Rattle.vd_bus.specs.Pace.{KeepsPace, attaches}
-use Rattle.circular_buffer.specs.Buffer.{Buffer}
 use Rattle.vd_models.specs.declared.counts.Counts.{Counts}
-use Rattle.vd_models.specs.declared.serving.Session.{Session}
+use Rattle.vd_models.specs.declared.serving.Phase.{Phase}
+use Rattle.vd_models.specs.declared.serving.Phase.TheVariants as phase
 use Rattle.vd_models.specs.declared.serving.Stage.{Stage}
 use Rattle.vd_models.specs.declared.serving.Stage.TheVariants as stage
 use Rattle.vd_models.specs.declared.window.Held.{Held}
@@ -80,32 +79,33 @@ arms stage.Taking op d io hs n all t o is a h = absurd (cc (is, a))
 arms stage.Giving op d io hs n all t o is a h = absurd (cc (is, a))
 arms stage.Done op d io hs n all t o is a h = absurd (cc (is, a))
 
-same_by : {E : Type 0} (o : Option (Session E)) (s : Session E) (a : Attached) → o ≡ Some s → attached_of o ≡ Some a → s.by ≡ a
-same_by o s a p q = some (sym (ap attached_of p) ∙ q)
-  where
-    some : Some s.by ≡ Some a → s.by ≡ a
-    some e = cc
+same_by : (x y : Attached) → ◌≡◌ {A = Option Attached} (Some x) (Some y) → x ≡ y
+same_by x y e = cc
 
 module _ {E : Type 0} (e : DeviceModel E) where
-  pub held_law : (o : Option (Session E)) (held : Option (Buffer Held)) (j : Journal) (c : Counts) (w : DeviceView) → Holds e o held j c w
-      → IsSome (attached_of o)
-  held_law o held j c w h = subst (λ (z : Option (Session E)). IsSome (attached_of z)) (sym h.at_session) refl
+  pub held_law : (p : Phase E) (j : Journal) (c : Counts) (w : DeviceView) → Holds e p j c w → IsSome (attached_of p)
+  held_law phase.Unreserved j c w h = absurd h
+  held_law (phase.Free b) j c w h = absurd h
+  held_law (phase.Serving s) j c w h = refl
 
-  pub serves_law : (o : Option (Session E)) (held : Option (Buffer Held)) (j : Journal) (c : Counts) (w : DeviceView) (a : Attached)
-      → Holds e o held j c w → attached_of o ≡ Some a → IsServing j.begun.items a w.done
-  serves_law o held j c w a h is = subst (λ b. IsServing j.begun.items b w.done) (same_by o h.is_session a h.at_session is) h.serves.serving
+  pub serves_law : (p : Phase E) (j : Journal) (c : Counts) (w : DeviceView) (a : Attached) → Holds e p j c w → attached_of p ≡ Some a
+      → IsServing j.begun.items a w.done
+  serves_law phase.Unreserved j c w a h is = absurd h
+  serves_law (phase.Free b) j c w a h is = absurd h
+  serves_law (phase.Serving s) j c w a h is = subst (λ (b : Attached). IsServing j.begun.items b w.done)
+      (same_by s.by a is) h.serves.serving
 
-  pub done_law : (law : IsLawfulDevice e) (o : Option (Session E)) (held : Option (Buffer Held)) (j : Journal) (c : Counts) (w : DeviceView)
-      (a : Attached) → Holds e o held j c w → attached_of o ≡ Some a → is_done_of o ≡ true → HasServedAll (length j.begun.items) a w
-  done_law law o held j c w a h is d =
+  pub done_law : (law : IsLawfulDevice e) (p : Phase E) (j : Journal) (c : Counts) (w : DeviceView) (a : Attached) → Holds e p j c w
+      → attached_of p ≡ Some a → is_done_of p ≡ true → HasServedAll (length j.begun.items) a w
+  done_law law phase.Unreserved j c w a h is d = absurd h
+  done_law law (phase.Free b) j c w a h is d = absurd h
+  done_law law (phase.Serving s) j c w a h is d =
       let v = h.serves in
-      let s : Session E = h.is_session in
-      let done : is_done s.stage ≡ true = sym (ap is_done_of h.at_session) ∙ d in
-      let f = at_done s.stage (e.begun s.end) w.frame.features.in_order h.is_held.items (length j.begun.items) (all_of s.by) done v.stage in
-      let g = whole j.begun.items s.by h.is_held.items w.frame w.done f.1 v.held in
-      let l = v.last done in
+      let f = at_done s.stage (e.begun s.end) w.frame.features.in_order s.held.items (length j.begun.items) (all_of s.by) d v.stage in
+      let g = whole j.begun.items s.by s.held.items w.frame w.done f.1 v.held in
+      let l = v.last d in
       record {
-        all = f.2 ∙ ap all_of (same_by o s a h.at_session is);
+        all = f.2 ∙ ap all_of (same_by s.by a is);
         none_runs = g.0;
         as_many = g.1;
         whole = g.2;
@@ -114,19 +114,21 @@ module _ {E : Type 0} (e : DeviceModel E) where
         rests = l.1;
       }
 
-  pub armed_law : (o : Option (Session E)) (held : Option (Buffer Held)) (j : Journal) (c : Counts) (w : DeviceView) (a : Attached)
-      → Holds e o held j c w → attached_of o ≡ Some a → ArmsRightly (length j.begun.items) a w
-  armed_law o held j c w a h is t some =
+  pub armed_law : (p : Phase E) (j : Journal) (c : Counts) (w : DeviceView) (a : Attached) → Holds e p j c w → attached_of p ≡ Some a
+      → ArmsRightly (length j.begun.items) a w
+  armed_law phase.Unreserved j c w a h is t some = absurd h
+  armed_law (phase.Free b) j c w a h is t some = absurd h
+  armed_law (phase.Serving s) j c w a h is t some =
       let v = h.serves in
-      let s : Session E = h.is_session in
-      let f = arms s.stage (e.begun s.end) w.doing w.frame.features.in_order h.is_held.items (length j.begun.items)
+      let f = arms s.stage (e.begun s.end) w.doing w.frame.features.in_order s.held.items (length j.begun.items)
       (all_of s.by) t w.armed some v.armed v.stage in
-      let g = whole j.begun.items s.by h.is_held.items w.frame w.done f.0 v.held in
-      (g.0, subst (λ (b : Attached). length j.begun.items < all_of b) (same_by o s a h.at_session is) f.1)
+      let g = whole j.begun.items s.by s.held.items w.frame w.done f.0 v.held in
+      (g.0, subst (λ (b : Attached). length j.begun.items < all_of b) (same_by s.by a is) f.1)
 
-  pub pace_law : (o : Option (Session E)) (held : Option (Buffer Held)) (j : Journal) (c : Counts) (w : DeviceView) (a : Attached)
-      → Holds e o held j c w → attached_of o ≡ Some a
+  pub pace_law : (p : Phase E) (j : Journal) (c : Counts) (w : DeviceView) (a : Attached) → Holds e p j c w → attached_of p ≡ Some a
       → KeepsPace c.accesses c.heard (length j.begun.items + gave a w + c.heard + attaches j.events.items)
-  pace_law o held j c w a h is few fewer =
+  pace_law phase.Unreserved j c w a h is few fewer = absurd h
+  pace_law (phase.Free b) j c w a h is few fewer = absurd h
+  pace_law (phase.Serving s) j c w a h is few fewer =
       let paid = h.paid few fewer in
-      omega (arith, paid, ap (λ (b : Attached). gave b w) (same_by o h.is_session a h.at_session is))
+      omega (arith, paid, ap (λ (b : Attached). gave b w) (same_by s.by a is))

@@ -1,5 +1,5 @@
 -- What a model device holds while it is attached to a data queue's ring.
-use Rattle.std.specs.Prelude.{◌≡◌, ◌↔◌, ℕ, ◌+◌, ◌*◌, ◌<◌, ◌≤◌, Bool, true, false, Option, Some, None, List, [], ◌∷◌, length, IsTrue}
+use Rattle.std.specs.Prelude.{◌≡◌, ◌↔◌, ℕ, ◌+◌, ◌*◌, ◌<◌, ◌≤◌, Bool, true, false, Option, Some, None, List, ◌∷◌, length, IsTrue}
 use mathlib.Core.List.{IsPrefix}
 use Rattle.vd_model.specs.declared.record.Begun.{Begun}
 use Rattle.vd_words.specs.declared.access.Access.{Access}
@@ -24,6 +24,8 @@ use Rattle.circular_buffer.specs.Buffer.{Buffer}
 use Rattle.vd_models.specs.declared.counts.Counts.{Counts}
 use Rattle.vd_models.specs.declared.counts.Turn.{Turn}
 use Rattle.vd_models.specs.declared.counts.Turn.TheVariants.{Slept}
+use Rattle.vd_models.specs.declared.serving.Phase.{Phase}
+use Rattle.vd_models.specs.declared.serving.Phase.TheVariants as phase
 use Rattle.vd_models.specs.declared.serving.Session.{Session}
 use Rattle.vd_models.specs.declared.serving.Stage.{Stage}
 use Rattle.vd_models.specs.declared.window.Held.{Held}
@@ -39,8 +41,8 @@ pub record State (E : Type 0) : Type 0 where
   pub held : Buffer Held
   pub begun : Reserved Begun
 
-abbrev pub state : {E : Type 0} → Session E → Buffer Held → Reserved Begun → State E
-state s h b = record { end = s.end; by = s.by; stage = s.stage; held = h; begun = b }
+abbrev pub state : {E : Type 0} → Session E → Reserved Begun → State E
+state s b = record { end = s.end; by = s.by; stage = s.stage; held = s.held; begun = b }
 
 -- how many chains are begun since the journal's first, once the order is fulfilled
 abbrev pub all_of : Attached → ℕ
@@ -107,12 +109,12 @@ abbrev pub MakesTurn : {P E : Type 0} → PortModel P → DeviceModel E → P �
 MakesTurn port e p q x y t = (w : DeviceView) → Opens e x w → IsOwn port e.side p w → IsTurn port e p q w x y t
 
 -- a device that may begin its next operation, and what that leaves, for each journal and view
-abbrev pub CanBegin : {E : Type 0} → DeviceModel E → Session E → Buffer Held → Bool → Type 0
-CanBegin e s h more = (begun : Reserved Begun) × (w : DeviceView) × Opens e (state s h begun) w × HasMore more s.by begun.items
+abbrev pub CanBegin : {E : Type 0} → DeviceModel E → Session E → Bool → Type 0
+CanBegin e s more = (begun : Reserved Begun) × (w : DeviceView) × Opens e (state s begun) w × HasMore more s.by begun.items
 
-abbrev pub Begins : {E : Type 0} → DeviceModel E → Session E → Session E → Buffer Held → Bool → Type 0
-Begins e s s' h more = (begun : Reserved Begun) (w : DeviceView) → Opens e (state s h begun) w → HasMore more s.by begun.items
-    → BeginsNext e w (state s h begun) (state s' h begun)
+abbrev pub Begins : {E : Type 0} → DeviceModel E → Session E → Session E → Bool → Type 0
+Begins e s s' more = (begun : Reserved Begun) (w : DeviceView) → Opens e (state s begun) w → HasMore more s.by begun.items
+    → BeginsNext e w (state s begun) (state s' begun)
 
 -- ---- the device
 
@@ -121,25 +123,25 @@ abbrev pub IsPaid : Counts → ℕ → ℕ → Type 0
 IsPaid c owed did = c.accesses < last_count → c.heard < last_count → c.accesses + owed ≤ 64 * (did + c.heard)
 
 -- it is attached, and its end stands for the view
-pub record Holds {E : Type 0} (e : DeviceModel E) (session : Option (Session E)) (held : Option (Buffer Held)) (journal : Journal)
-    (counts : Counts) (w : DeviceView) : Type 0 where
-  pub is_session : Session E
-  pub is_held : Buffer Held
-  pub at_session : session ≡ Some is_session
-  pub at_held : held ≡ Some is_held
-  pub serves : Serves e (state is_session is_held journal.begun) w
-  pub paid : IsPaid counts (owes_at e (state is_session is_held journal.begun) w)
-      (length journal.begun.items + gave is_session.by w + attaches journal.events.items)
+pub record IsAttached {E : Type 0} (e : DeviceModel E) (s : Session E) (journal : Journal) (counts : Counts) (w : DeviceView)
+    : Type 0 where
+  pub serves : Serves e (state s journal.begun) w
+  pub paid : IsPaid counts (owes_at e (state s journal.begun) w)
+      (length journal.begun.items + gave s.by w + attaches journal.events.items)
   pub event : 0 < journal.events.room
 
-abbrev pub attached_of : {E : Type 0} → Option (Session E) → Option Attached
-attached_of None = None
-attached_of (Some s) = Some s.by
+abbrev pub Holds : {E : Type 0} → DeviceModel E → Phase E → Journal → Counts → DeviceView → Type 0
+Holds e (phase.Serving s) journal counts w = IsAttached e s journal counts w
+Holds e _ journal counts w = ⊥
 
-abbrev pub is_done_of : {E : Type 0} → Option (Session E) → Bool
-is_done_of None = false
-is_done_of (Some s) = is_done s.stage
+abbrev pub attached_of : {E : Type 0} → Phase E → Option Attached
+attached_of (phase.Serving s) = Some s.by
+attached_of _ = None
+
+abbrev pub is_done_of : {E : Type 0} → Phase E → Bool
+is_done_of (phase.Serving s) = is_done s.stage
+is_done_of _ = false
 
 -- while it isn't attached it keeps the pace: all that it began it gave
-abbrev pub PacesFree : {E : Type 0} → Option (Session E) → Counts → List Begun → List Event → Type 0
-PacesFree o c bs es = attached_of o ≡ None → KeepsPace c.accesses c.heard (length bs + length bs + c.heard + attaches es)
+abbrev pub PacesFree : {E : Type 0} → Phase E → Counts → List Begun → List Event → Type 0
+PacesFree p c bs es = attached_of p ≡ None → KeepsPace c.accesses c.heard (length bs + length bs + c.heard + attaches es)

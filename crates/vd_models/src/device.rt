@@ -7,10 +7,10 @@ ghost use Rattle.vd_models.specs.Serving.{Holds, PacesFree, attached_of, is_done
 ghost use Rattle.vd_models.specs.Laws.{held_law, serves_law, done_law, armed_law, pace_law};
 
 use crate::counts::{Counts, move_of};
-use crate::serving::{Session, Stage, serve};
-use crate::window::Held;
+use crate::serving::{Phase, Session, Stage, serve};
 use circular_buffer::HeapCircularBuffer;
 use std::alloc::{AllocError, Global};
+use std::mem::replace;
 use vd_bus::{Attached, Device, Event, Journal, Order, Refused};
 use vd_control::Settings;
 use vd_layout::{DeviceEnd, Layout, Move};
@@ -24,8 +24,7 @@ const MOST_WINDOW: u32 = 64;
 /// and none is held it arms its end, and hears its bell until it wakes. It writes as many bytes as it may read and write.
 #[derive(Drop)]
 pub struct ModelDevice<L: Layout> {
-    session: Option<Session<L::Device>>,
-    held: Option<HeapCircularBuffer<Held>>,
+    phase: Phase<L::Device>,
     window: u32,
     // the most chains that it holds, whatever its window
     most: u32,
@@ -33,9 +32,9 @@ pub struct ModelDevice<L: Layout> {
     journal: Journal,
     counts: Counts,
     ghost some: { 1 ≤ most },
-    ghost sized: { capacity_of held ≤ min window most },
+    ghost sized: { capacity_of phase ≤ min window most },
     ghost lens: { HaveLens journal.begun.items },
-    ghost paced: { PacesFree session counts journal.begun.items journal.events.items },
+    ghost paced: { PacesFree phase counts journal.begun.items journal.events.items },
 }
 
 impl<L: Layout> ModelDevice<L> {
@@ -68,8 +67,7 @@ impl<L: Layout> ModelDevice<L> {
         ensures most { result.most ≡ most }
     {
         ModelDevice {
-            session: None,
-            held: None,
+            phase: Phase::Unreserved,
             window,
             most,
             settings: Settings::new(),
@@ -98,25 +96,25 @@ impl<L: Layout> Device<L> for ModelDevice<L> {
     ghost party = { record {
       events = λ m. m.journal.events.items;
       begun = λ m. m.journal.begun.items;
-      event_room = λ m. journal_room m.held m.journal.events.room;
+      event_room = λ m. journal_room m.phase m.journal.events.room;
       chain_room = λ m. m.journal.begun.room;
       settings = λ m. m.settings;
       faults = λ m. 0;
       window = λ m. m.window;
       carried = λ m. m.most;
-      attached = λ m. attached_of m.session;
-      holds = λ m w. Holds L.Device.device m.session m.held m.journal m.counts w;
-      is_done = λ m. is_done_of m.session ≡ true;
+      attached = λ m. attached_of m.phase;
+      holds = λ m w. Holds L.Device.device m.phase m.journal m.counts w;
+      is_done = λ m. is_done_of m.phase ≡ true;
       accesses = λ m. m.counts.accesses;
       heard = λ m. m.counts.heard;
     } };
 
     ghost lawful = { record {
-      held = λ x w h. held_law L.Device.device x.session x.held x.journal x.counts w h;
-      serves = λ x w a h is d. serves_law L.Device.device x.session x.held x.journal x.counts w a h is;
-      done = λ x w a h is d. done_law L.Device.device L.Device.device_lawful x.session x.held x.journal x.counts w a h is d;
-      armed = λ x w a h is. armed_law L.Device.device x.session x.held x.journal x.counts w a h is;
-      pace = λ x w a h is. pace_law L.Device.device x.session x.held x.journal x.counts w a h is;
+      held = λ x w h. held_law L.Device.device x.phase x.journal x.counts w h;
+      serves = λ x w a h is d. serves_law L.Device.device x.phase x.journal x.counts w a h is;
+      done = λ x w a h is d. done_law L.Device.device L.Device.device_lawful x.phase x.journal x.counts w a h is d;
+      armed = λ x w a h is. armed_law L.Device.device x.phase x.journal x.counts w a h is;
+      pace = λ x w a h is. pace_law L.Device.device x.phase x.journal x.counts w a h is;
       pace_free = λ x is. x.paced is;
     } };
 
@@ -131,7 +129,7 @@ impl<L: Layout> Device<L> for ModelDevice<L> {
         let held = HeapCircularBuffer::with_capacity(alloc, most as usize)?;
         self.journal.events.reserve(events as usize)?;
         self.journal.begun.reserve(chains as usize)?;
-        self.held = Some(held);
+        self.phase = Phase::Free(held);
         self.window = window;
         Ok(())
     }
@@ -159,7 +157,7 @@ impl<L: Layout> Device<L> for ModelDevice<L> {
             settings,
             map: order.map().copy(),
         });
-        let Some(held) = &mut self.held else {
+        let Phase::Free(mut held) = replace(&mut self.phase, Phase::Unreserved) else {
             unreachable!()
         };
         held.clear();
@@ -169,42 +167,42 @@ impl<L: Layout> Device<L> for ModelDevice<L> {
             at,
             from: end.taken(),
         };
-        self.session = Some(Session {
+        self.phase = Phase::Serving(Session {
             end,
             by,
             stage: Stage::Taking,
+            held,
         });
         Ok(())
     }
 
     fn step<P: Port>(&mut self, port: &mut P) -> Move {
-        let Some(session) = &mut self.session else {
+        let Phase::Serving(session) = &mut self.phase else {
             unreachable!()
         };
-        let Some(held) = &mut self.held else {
-            unreachable!()
-        };
-        let turn = serve::<L, P>(session, held, &mut self.journal.begun, port);
+        let turn = serve::<L, P>(session, &mut self.journal.begun, port);
         let done = session.stage.is_done();
         self.counts.note(turn);
         move_of(turn, done)
     }
 
     fn done(&self) -> bool {
-        match &self.session {
-            Some(session) => session.stage.is_done(),
-            None => false,
+        match &self.phase {
+            Phase::Serving(session) => session.stage.is_done(),
+            _ => false,
         }
     }
 
     fn suspend(&mut self) -> L::Device {
-        let Some(session) = self.session.take() else {
+        let Phase::Serving(session) = replace(&mut self.phase, Phase::Unreserved) else {
             unreachable!()
         };
+        let Session { end, held, .. } = session;
+        self.phase = Phase::Free(held);
         let at = self.journal.begun.len() as u32;
-        let base = session.end.base();
+        let base = end.base();
         self.journal.events.push(Event::Suspend { at, base });
-        session.end
+        end
     }
 
     fn reset(&mut self) {

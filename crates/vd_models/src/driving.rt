@@ -1,10 +1,11 @@
 //! What a model guest does with the end that it holds.
 ghost use Rattle.std.specs.Prelude.{◌≡◌, ◌<◌, ◌≤◌, ◌++◌, ◌∷◌, [], vec_len, vec_capacity};
+ghost use Rattle.std.specs.Option.{option_copied};
 ghost use Rattle.vd_model.specs.declared.record.Return.{Return};
 ghost use Rattle.vd_ring.specs.declared.driver.DriverView.{DriverView};
 ghost use Rattle.vd_layout.specs.Begun.{DriverOp};
 ghost use Rattle.vd_models.specs.GuestStages.{is_done, offered_stage, woken_stage, none_stage, waking_turn};
-ghost use Rattle.vd_models.specs.Driving.{DriveOpens, Begins, CanDrive, MakesDriveTurn, IsKept, IsPlan, drive};
+ghost use Rattle.vd_models.specs.Driving.{DriveOpens, Begins, CanDrive, MakesDriveTurn, IsKept, IsPlan, drive, loaded_of};
 
 use crate::counts::Turn;
 use crate::cursor::{Cursor, next_chain, settle};
@@ -42,8 +43,35 @@ pub struct Loaded {
     pub offered: u32,
     pub returned: Vec<Return>,
     pub stage: GuestStage,
-    /// Whether it was booted: that is once.
-    pub booted: bool,
+}
+
+/// From its boot to its halt: the end that the guest holds, and its script.
+#[derive(Drop)]
+pub struct Booted<D> {
+    pub end: D,
+    pub loaded: Loaded,
+}
+
+/// What a guest holds: its script once it is loaded, and from its boot to its halt the end too. It is booted once.
+#[derive(Drop)]
+pub enum GuestPhase<D> {
+    Unloaded,
+    Loaded(Loaded),
+    Booted(Booted<D>),
+    Halted(Loaded),
+}
+
+impl<D> GuestPhase<D> {
+    /// The script, from its load on.
+    pub fn loaded(&self) -> Option<&Loaded>
+        ensures { option_copied result ≡ loaded_of self.now }
+    {
+        match self {
+            GuestPhase::Unloaded => None,
+            GuestPhase::Loaded(loaded) | GuestPhase::Halted(loaded) => Some(loaded),
+            GuestPhase::Booted(booted) => Some(&booted.loaded),
+        }
+    }
 }
 
 /// Appends what came back, into the room that is there.
@@ -120,16 +148,23 @@ fn begin_drive<L: Layout>(end: &mut L::Driver, loaded: &Loaded)
 
 /// Makes one access. With `turns` an offer is followed by a turn to collect, until nothing is shown.
 pub(crate) fn drive<L: Layout, P: Port>(
-    end: &mut L::Driver,
-    loaded: &mut Loaded,
+    booted: &mut Booted<L::Driver>,
     turns: bool,
     port: &mut P,
 ) -> Turn
-    requires plan { IsPlan loaded.old }
-    requires own { CanDrive P.port L.Driver.driver port.old (drive end.old loaded.old) }
-    ensures kept { IsKept loaded.old loaded.new }
-    ensures turn { MakesDriveTurn P.port L.Driver.driver port.old port.new (drive end.old loaded.old) (drive end.new loaded.new) result }
+    requires plan { IsPlan booted.old.loaded }
+    requires own { CanDrive P.port L.Driver.driver port.old (drive booted.old.end booted.old.loaded) }
+    ensures kept { IsKept booted.old.loaded booted.new.loaded }
+    ensures turn { MakesDriveTurn
+        P.port
+        L.Driver.driver
+        port.old
+        port.new
+        (drive booted.old.end booted.old.loaded)
+        (drive booted.new.end booted.new.loaded)
+        result }
 {
+    let Booted { end, loaded } = booted;
     begin_drive::<L>(end, loaded);
     match end.step(port) {
         DriverAct::Offered(_) => {

@@ -54,26 +54,25 @@ impl<L: Layout> Device<L> for FaultyDevice<L> {
     ghost party = { record {
       events = λ m. m.inner.journal.events.items;
       begun = λ m. m.inner.journal.begun.items;
-      event_room = λ m. journal_room m.inner.held m.inner.journal.events.room;
+      event_room = λ m. journal_room m.inner.phase m.inner.journal.events.room;
       chain_room = λ m. m.inner.journal.begun.room;
       settings = λ m. m.inner.settings;
       faults = λ m. was_refused m.refusal.number m.left;
       window = λ m. m.inner.window;
       carried = λ m. m.refusal;
-      attached = λ m. attached_of m.inner.session;
-      holds = λ m w. Holds L.Device.device m.inner.session m.inner.held m.inner.journal m.inner.counts w;
-      is_done = λ m. is_done_of m.inner.session ≡ true;
+      attached = λ m. attached_of m.inner.phase;
+      holds = λ m w. Holds L.Device.device m.inner.phase m.inner.journal m.inner.counts w;
+      is_done = λ m. is_done_of m.inner.phase ≡ true;
       accesses = λ m. m.inner.counts.accesses;
       heard = λ m. m.inner.counts.heard;
     } };
 
     ghost lawful = { record {
-      held = λ x w h. held_law L.Device.device x.inner.session x.inner.held x.inner.journal x.inner.counts w h;
-      serves = λ x w a h is d. serves_law L.Device.device x.inner.session x.inner.held x.inner.journal x.inner.counts w a h is;
-      done = λ x w a h is d. done_law L.Device.device L.Device.device_lawful x.inner.session x.inner.held x.inner.journal x.inner.counts
-          w a h is d;
-      armed = λ x w a h is. armed_law L.Device.device x.inner.session x.inner.held x.inner.journal x.inner.counts w a h is;
-      pace = λ x w a h is. pace_law L.Device.device x.inner.session x.inner.held x.inner.journal x.inner.counts w a h is;
+      held = λ x w h. held_law L.Device.device x.inner.phase x.inner.journal x.inner.counts w h;
+      serves = λ x w a h is d. serves_law L.Device.device x.inner.phase x.inner.journal x.inner.counts w a h is;
+      done = λ x w a h is d. done_law L.Device.device L.Device.device_lawful x.inner.phase x.inner.journal x.inner.counts w a h is d;
+      armed = λ x w a h is. armed_law L.Device.device x.inner.phase x.inner.journal x.inner.counts w a h is;
+      pace = λ x w a h is. pace_law L.Device.device x.inner.phase x.inner.journal x.inner.counts w a h is;
       pace_free = λ x is. x.inner.paced is;
     } };
 

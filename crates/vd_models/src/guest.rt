@@ -2,14 +2,15 @@
 ghost use Rattle.std.specs.Prelude.{◌≡◌, Option, None, true, false};
 ghost use Rattle.vd_models.specs.Unused.{IsUnloaded};
 ghost use Rattle.vd_models.specs.GuestStages.{first_stage};
-ghost use Rattle.vd_models.specs.Driving.{GuestHolds, IsLoaded, IsFresh, Paces, script_of, offered_of, returned_of, is_done_of};
+ghost use Rattle.vd_models.specs.Driving.{GuestHolds, IsLoaded, IsFresh, Paces, loaded_of, script_of, offered_of, returned_of, is_done_of};
 ghost use Rattle.vd_models.specs.GuestLaws.{unloaded_law, held_law, offered_law, offers_law, returned_law, done_law, finishes_law, armed_law, pace_law};
 
 use crate::counts::{Counts, move_of};
 use crate::cursor::{Cursor, count, settle};
-use crate::driving::{GuestStage, Loaded, drive};
+use crate::driving::{Booted, GuestPhase, GuestStage, Loaded, drive};
 use crate::script::copy_script;
 use std::alloc::{AllocError, Global};
+use std::mem::replace;
 use vd_bus::Guest;
 use vd_layout::{Layout, Move};
 use vd_model::{Return, Script};
@@ -19,13 +20,12 @@ use vd_words::Port;
 /// is there it arms its end, and hears its bell until it wakes.
 #[derive(Drop)]
 pub struct ModelGuest<L: Layout> {
-    end: Option<L::Driver>,
-    loaded: Option<Loaded>,
+    phase: GuestPhase<L::Driver>,
     // whether an offer is followed by a turn to collect
     turns: bool,
     counts: Counts,
-    ghost fresh: { IsFresh loaded counts },
-    ghost paced: { Paces loaded counts },
+    ghost fresh: { IsFresh phase counts },
+    ghost paced: { Paces (loaded_of phase) counts },
 }
 
 impl<L: Layout> ModelGuest<L> {
@@ -52,8 +52,7 @@ impl<L: Layout> ModelGuest<L> {
         ensures turns { result.turns ≡ turns }
     {
         ModelGuest {
-            end: None,
-            loaded: None,
+            phase: GuestPhase::Unloaded,
             turns,
             counts: Counts::new(),
         }
@@ -73,26 +72,26 @@ fn first_stage(total: u32) -> GuestStage
 
 impl<L: Layout> Guest<L> for ModelGuest<L> {
     ghost party = { record {
-      script = λ m. script_of m.loaded;
-      is_loaded = λ m. IsLoaded m.loaded;
-      offered = λ m. offered_of m.loaded;
-      returned = λ m. returned_of m.loaded;
-      holds = λ m v. GuestHolds L.Driver.driver m.end m.loaded m.counts v;
-      is_done = λ m. is_done_of m.loaded ≡ true;
+      script = λ m. script_of (loaded_of m.phase);
+      is_loaded = λ m. IsLoaded m.phase;
+      offered = λ m. offered_of (loaded_of m.phase);
+      returned = λ m. returned_of (loaded_of m.phase);
+      holds = λ m v. GuestHolds L.Driver.driver m.phase m.counts v;
+      is_done = λ m. is_done_of (loaded_of m.phase) ≡ true;
       accesses = λ m. m.counts.accesses;
       heard = λ m. m.counts.heard;
     } };
 
     ghost lawful = { record {
-      unloaded = λ x h. unloaded_law x.loaded h;
-      held = λ x v h. held_law L.Driver.driver x.end x.loaded x.counts v h;
-      offered = λ x v h. offered_law L.Driver.driver x.end x.loaded x.counts v h;
-      offers = λ x v s h is d. offers_law L.Driver.driver x.end x.loaded x.counts v s h is;
-      returned = λ x v s h is d. returned_law L.Driver.driver x.end x.loaded x.counts v h;
-      done = λ x v s h is d e. done_law L.Driver.driver L.Driver.driver_lawful x.end x.loaded x.counts v s h is e;
-      finishes = λ x v s h is d e. finishes_law L.Driver.driver x.end x.loaded x.counts v s h is e;
-      armed = λ x v s t h is d a. armed_law L.Driver.driver x.end x.loaded x.counts v s t h is a;
-      pace = λ x. pace_law x.loaded x.counts x.paced;
+      unloaded = λ x h. unloaded_law (loaded_of x.phase) h;
+      held = λ x v h. held_law L.Driver.driver x.phase x.counts v h;
+      offered = λ x v h. offered_law L.Driver.driver x.phase x.counts v h;
+      offers = λ x v s h is d. offers_law L.Driver.driver x.phase x.counts v s h is;
+      returned = λ x v s h is d. returned_law L.Driver.driver x.phase x.counts v h;
+      done = λ x v s h is d e. done_law L.Driver.driver L.Driver.driver_lawful x.phase x.counts v s h is e;
+      finishes = λ x v s h is d e. finishes_law L.Driver.driver x.phase x.counts v s h is e;
+      armed = λ x v s t h is d a. armed_law L.Driver.driver x.phase x.counts v s t h is a;
+      pace = λ x. pace_law (loaded_of x.phase) x.counts x.paced;
     } };
 
     fn load(&mut self, alloc: Global, script: &Script) -> Result<(), AllocError> {
@@ -100,63 +99,59 @@ impl<L: Layout> Guest<L> for ModelGuest<L> {
         let total = count(script.runs.as_slice());
         let returned = Vec::with_capacity(alloc, total as usize)?;
         let at = settle(script.runs.as_slice(), Cursor { run: 0, used: 0 });
-        self.end = None;
-        self.loaded = Some(Loaded {
+        self.phase = GuestPhase::Loaded(Loaded {
             script,
             total,
             at,
             offered: 0,
             returned,
             stage: first_stage(total),
-            booted: false,
         });
         Ok(())
     }
 
     fn boot(&mut self, end: L::Driver) {
-        let Some(loaded) = self.loaded.take() else {
+        let GuestPhase::Loaded(loaded) = replace(&mut self.phase, GuestPhase::Unloaded) else {
             unreachable!()
         };
         let at = settle(loaded.script.runs.as_slice(), Cursor { run: 0, used: 0 });
         let stage = first_stage(loaded.total);
-        self.loaded = Some(Loaded {
+        let loaded = Loaded {
             at,
             stage,
-            booted: true,
             ..loaded
-        });
-        self.end = Some(end);
+        };
+        self.phase = GuestPhase::Booted(Booted { end, loaded });
     }
 
     fn step<P: Port>(&mut self, port: &mut P) -> Move {
-        let Some(end) = &mut self.end else {
+        let GuestPhase::Booted(booted) = &mut self.phase else {
             unreachable!()
         };
-        let Some(loaded) = &mut self.loaded else {
-            unreachable!()
-        };
-        let turn = drive::<L, P>(end, loaded, self.turns, port);
-        let done = loaded.stage.is_done();
+        let turn = drive::<L, P>(booted, self.turns, port);
+        let done = booted.loaded.stage.is_done();
         self.counts.note(turn);
         move_of(turn, done)
     }
 
     fn done(&self) -> bool {
-        match &self.loaded {
+        match self.phase.loaded() {
             Some(loaded) => loaded.stage.is_done(),
             None => false,
         }
     }
 
     fn halt(&mut self) -> L::Driver {
-        let Some(end) = self.end.take() else {
+        let GuestPhase::Booted(booted) = replace(&mut self.phase, GuestPhase::Unloaded) else {
             unreachable!()
         };
+        let Booted { end, loaded } = booted;
+        self.phase = GuestPhase::Halted(loaded);
         end
     }
 
     fn offered(&self) -> u32 {
-        match &self.loaded {
+        match self.phase.loaded() {
             Some(loaded) => loaded.offered,
             None => 0,
         }
@@ -171,7 +166,7 @@ impl<L: Layout> Guest<L> for ModelGuest<L> {
     }
 
     fn returned(&self) -> &[Return] {
-        match &self.loaded {
+        match self.phase.loaded() {
             Some(loaded) => loaded.returned.as_slice(),
             None => &[],
         }

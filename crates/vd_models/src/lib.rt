@@ -15,11 +15,11 @@ mod window;
 pub use counts::{Counts, Turn};
 pub use cursor::Cursor;
 pub use device::ModelDevice;
-pub use driving::{GuestStage, Loaded};
+pub use driving::{Booted, GuestPhase, GuestStage, Loaded};
 pub use faulty::FaultyDevice;
 pub use guest::ModelGuest;
 pub use refusal::Refusal;
-pub use serving::{Session, Stage};
+pub use serving::{Phase, Session, Stage};
 pub use window::Held;
 
 #[cfg(test)]

@@ -31,12 +31,22 @@ impl Stage {
     }
 }
 
-/// From its attach to its suspension: the end that the device holds, by what it is attached, and what comes next.
+/// From its attach to its suspension: the end that the device holds, by what it is attached, what comes next, and the chains that
+/// are begun and not given.
 #[derive(Drop)]
 pub struct Session<E> {
     pub end: E,
     pub by: Attached,
     pub stage: Stage,
+    pub held: HeapCircularBuffer<Held>,
+}
+
+/// What a device holds: between sessions the room for one, which is taken once, and while it is attached its session.
+#[derive(Drop)]
+pub enum Phase<E> {
+    Unreserved,
+    Free(HeapCircularBuffer<Held>),
+    Serving(Session<E>),
 }
 
 /// What comes after a take: once the window is full, or all chains are begun, they are given.
@@ -78,16 +88,13 @@ fn waking(stage: Stage) -> Turn
 }
 
 /// Begins the next operation where none is in progress. `more` tells whether there are chains still to begin.
-fn begin_next<L: Layout>(
-    session: &mut Session<L::Device>,
-    held: &HeapCircularBuffer<Held>,
-    more: bool,
-)
-    requires { CanBegin L.Device.device session.old held.now more }
+fn begin_next<L: Layout>(session: &mut Session<L::Device>, more: bool)
+    requires { CanBegin L.Device.device session.old more }
     ensures busy { ¬ (L.Device.device.begun session.new.end ≡ DeviceOp.idle) }
     ensures by { session.new.by ≡ session.old.by }
     ensures stage { session.new.stage ≡ session.old.stage }
-    ensures next { Begins L.Device.device session.old session.new held.now more }
+    ensures held { session.new.held ≡ session.old.held }
+    ensures next { Begins L.Device.device session.old session.new more }
 {
     if session.end.idle() {
         match session.stage {
@@ -96,7 +103,7 @@ fn begin_next<L: Layout>(
             Stage::Arming => session.end.begin_arm(),
             Stage::Hearing => session.end.begin_hear(),
             _ => {
-                let next = next(held, session.end.features().in_order);
+                let next = next(&session.held, session.end.features().in_order);
                 session.end.begin_give(next.number, next.len);
             }
         }
@@ -106,34 +113,33 @@ fn begin_next<L: Layout>(
 /// Makes one access.
 pub(crate) fn serve<L: Layout, P: Port>(
     session: &mut Session<L::Device>,
-    held: &mut HeapCircularBuffer<Held>,
     begun: &mut Entries<Begun>,
     port: &mut P,
 ) -> Turn
-    requires own { CanServe P.port L.Device.device port.old (state session.old held.old begun.old) }
+    requires own { CanServe P.port L.Device.device port.old (state session.old begun.old) }
     ensures by { session.new.by ≡ session.old.by }
     ensures turn { MakesTurn
         P.port
         L.Device.device
         port.old
         port.new
-        (state session.old held.old begun.old)
-        (state session.new held.new begun.new)
+        (state session.old begun.old)
+        (state session.new begun.new)
         result }
 {
     let all = session.by.at as usize + session.by.count as usize;
     let in_order = session.end.features().in_order;
-    begin_next::<L>(session, held, begun.len() < all);
+    begin_next::<L>(session, begun.len() < all);
     match session.end.step(port) {
         DeviceAct::Taken(number, chain) => {
-            note(number, chain, held, begun);
-            session.stage = after_take(held.is_full() | (begun.len() == all));
+            note(number, chain, &mut session.held, begun);
+            session.stage = after_take(session.held.is_full() | (begun.len() == all));
         }
         DeviceAct::Given(_) => {
-            drop_next(held, in_order);
-            session.stage = after_give(held.is_empty());
+            drop_next(&mut session.held, in_order);
+            session.stage = after_give(session.held.is_empty());
         }
-        DeviceAct::Nothing => session.stage = after_nothing(held.is_empty()),
+        DeviceAct::Nothing => session.stage = after_nothing(session.held.is_empty()),
         DeviceAct::Armed => session.stage = Stage::Hearing,
         DeviceAct::Awake => {
             let turn = waking(session.stage);

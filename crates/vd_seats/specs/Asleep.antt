@@ -1,8 +1,6 @@
 -- What the holder of one seat knows by an answer of its end: how the other side stood at the load that told it. No view of the
 -- other side is handed out; there was one.
 use Rattle.std.specs.Prelude.{◌≡◌, ℕ, List}
-use Rattle.vd_ring.specs.declared.act.DriverAct.TheVariants as driver_act
-use Rattle.vd_ring.specs.declared.act.DeviceAct.TheVariants as device_act
 use Rattle.vd_ring.specs.declared.device.DeviceView.{DeviceView}
 use Rattle.vd_ring.specs.declared.driver.DriverView.{DriverView}
 use Rattle.vd_ring.specs.History.{offers, collects, takes, gives}

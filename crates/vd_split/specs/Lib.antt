@@ -1,7 +1,6 @@
 pub mod Parts
 pub mod DriverEnd
 pub mod DeviceEnd
-pub mod Rig
 pub mod Tracked
 pub mod Telling
 pub mod Kept

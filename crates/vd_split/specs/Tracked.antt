@@ -1,5 +1,5 @@
 -- A port onto words that tracks the driver's view through its first 64 accesses, and allows there what is next in that view alone.
-use Rattle.std.specs.Prelude.{◌≡◌, ◌+◌, ◌<◌, ℕ, false, List, [], ◌∷◌, ◌++◌, length, Option, Some, None}
+use Rattle.std.specs.Prelude.{◌≡◌, ◌<◌, ℕ, false, List, [], ◌∷◌, ◌++◌, length, Option, Some, None}
 use Rattle.vd_model.specs.declared.features.Features.{Features}
 use Rattle.vd_words.specs.declared.access.Access.{Access}
 use Rattle.vd_words.specs.declared.access.Op.{Op}

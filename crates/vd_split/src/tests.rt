@@ -2,7 +2,6 @@
 mod chains;
 mod format;
 mod operations;
-mod rig;
 mod rows;
 mod sleepers;
 mod spelled;

@@ -1,23 +1,21 @@
 -- What stays from one access of the device to the next: armed, asleep, shown.
-use Rattle.std.proofs.Common.{◌≡◌, ℕ, ◌+◌, ◌%◌, ◌==◌, Bool, true, false, not, None, List, [], ◌∷◌, ◌++◌, length, if◌then◌else◌, refl, ap}
+use Rattle.std.proofs.Common.{◌≡◌, ℕ, ◌==◌, Bool, true, false, not, None, List, [], ◌∷◌, ◌++◌, length, if◌then◌else◌, refl, ap}
 use Rattle.vd_words.specs.declared.access.Access.{Access}
 use Rattle.vd_words.specs.declared.access.Access.TheVariants.{Load, Store}
 use Rattle.vd_words.specs.declared.access.Op.{Op}
 use Rattle.vd_words.specs.declared.access.Op.TheVariants as op
-use Rattle.vd_bits.specs.Lanes.{lane32}
-use Rattle.vd_ring.specs.declared.frame.Put.{Put}
 use Rattle.vd_ring.specs.declared.act.DeviceAct.{DeviceAct}
 use Rattle.vd_ring.specs.declared.act.DeviceAct.TheVariants as act
 use Rattle.vd_ring.specs.declared.device.DeviceNow.{DeviceNow}
 use Rattle.vd_ring.specs.declared.device.DeviceNow.TheVariants as now
 use Rattle.vd_ring.specs.declared.device.DeviceView.{DeviceView}
-use Rattle.vd_ring.specs.History.{offers, collects, takes}
+use Rattle.vd_ring.specs.History.{takes}
 use Rattle.vd_ring.specs.Looks.{DeviceStays}
-use Rattle.vd_ring.proofs.Looking.{Told, idle, arming, disarming, busy, awake, asleep, other}
-use Rattle.vd_ring.proofs.Staying.{Kept, quiet, finds_none, finds_some, second_none, second_some, arms_at, hears_same, calm}
+use Rattle.vd_ring.proofs.Looking.{idle, disarming, busy, awake, other}
+use Rattle.vd_ring.proofs.Staying.{Kept, quiet, finds_none, finds_some, second_none, second_some, arms_at, hears_same}
 use Rattle.vd_ring.proofs.DeviceLooking.{told, stage, goes, device_stays_by}
 use Rattle.vd_split_ring.specs.SplitWords.{shows, shown_from, chain_of, is_whole}
-use Rattle.vd_split_ring.specs.SplitDevice.{device_shows, DeviceNextAt, DeviceTells, device_after_at, device_after, device_act_at, device_act, device_side, device_takes}
+use Rattle.vd_split_ring.specs.SplitDevice.{device_shows, DeviceNextAt, DeviceTells, device_after_at, device_act_at, device_act, device_side, device_takes}
 
 -- what is claimed of an access that is answered `x` and leaves the view `w`
 abbrev Claim : DeviceNow → DeviceView → Op → Type 0 → Bool → DeviceAct → DeviceView → Type 0

@@ -1,23 +1,21 @@
 -- What stays from one access of the driver to the next: armed, asleep, shown.
-use Rattle.std.proofs.Common.{◌≡◌, ℕ, ◌+◌, ◌%◌, ◌==◌, Bool, true, false, not, None, List, [], ◌∷◌, ◌++◌, length, if◌then◌else◌, refl, ap}
+use Rattle.std.proofs.Common.{◌≡◌, ℕ, ◌==◌, Bool, true, false, not, None, [], ◌∷◌, length, if◌then◌else◌, refl, ap}
 use Rattle.vd_words.specs.declared.access.Access.{Access}
 use Rattle.vd_words.specs.declared.access.Access.TheVariants.{Load, Store}
 use Rattle.vd_words.specs.declared.access.Op.{Op}
 use Rattle.vd_words.specs.declared.access.Op.TheVariants as op
-use Rattle.vd_bits.specs.Lanes.{lane32}
-use Rattle.vd_ring.specs.declared.frame.Put.{Put}
 use Rattle.vd_ring.specs.declared.act.DriverAct.{DriverAct}
 use Rattle.vd_ring.specs.declared.act.DriverAct.TheVariants as act
 use Rattle.vd_ring.specs.declared.driver.DriverNow.{DriverNow}
 use Rattle.vd_ring.specs.declared.driver.DriverNow.TheVariants as now
 use Rattle.vd_ring.specs.declared.driver.DriverView.{DriverView}
-use Rattle.vd_ring.specs.History.{offers, collects, takes}
+use Rattle.vd_ring.specs.History.{collects}
 use Rattle.vd_ring.specs.Looks.{DriverStays}
-use Rattle.vd_ring.proofs.Looking.{Told, idle, arming, disarming, busy, awake, asleep, other}
-use Rattle.vd_ring.proofs.Staying.{Kept, quiet, finds_none, finds_some, second_none, second_some, arms_at, hears_same, calm}
+use Rattle.vd_ring.proofs.Looking.{idle, disarming, busy, awake, other}
+use Rattle.vd_ring.proofs.Staying.{Kept, quiet, finds_none, finds_some, second_none, second_some, arms_at, hears_same}
 use Rattle.vd_ring.proofs.DriverLooking.{told, stage, goes, driver_stays_by}
 use Rattle.vd_split_ring.specs.SplitWords.{shows, shown_from}
-use Rattle.vd_split_ring.specs.SplitDriver.{driver_shows, DriverNextAt, DriverTells, driver_after_at, driver_after, driver_act_at, driver_act, driver_side}
+use Rattle.vd_split_ring.specs.SplitDriver.{driver_shows, DriverNextAt, DriverTells, driver_after_at, driver_act_at, driver_act, driver_side}
 
 -- what is claimed of an access that is answered `x` and leaves the view `w`
 abbrev Claim : DriverNow → DriverView → Op → Type 0 → Bool → DriverAct → DriverView → Type 0

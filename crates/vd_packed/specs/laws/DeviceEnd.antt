@@ -1,12 +1,9 @@
 -- Lemmas: for which views the device's end of a packed ring stands, and what it has begun.
-use Rattle.std.specs.Prelude.{◌≡◌, ◌-◌, not, Bool, true, false, None, Some, if◌then◌else◌}
+use Rattle.std.specs.Prelude.{◌≡◌, Bool, true, false, None, Some, if◌then◌else◌}
 use Rattle.std.proofs.Common.{ap, ◌∙◌}
-use Rattle.vd_words.specs.declared.access.Op.TheVariants as op
-use Rattle.vd_ring.specs.declared.device.DeviceNow.TheVariants as now
 use Rattle.vd_ring.specs.declared.device.DeviceView.{DeviceView}
 use Rattle.vd_packed_ring.specs.PackedPositions.{take_position}
 use Rattle.vd_packed.specs.declared.device.PackedDevice.{PackedDevice}
-use Rattle.vd_packed.specs.declared.device.DeviceStep.TheVariants as step
 use Rattle.vd_packed.specs.DeviceEnd.{DeviceStands}
 
 -- an end that is not armed stands for views that are not

@@ -1,10 +1,9 @@
 -- The loads of a chain's table: each is next in a view that the end stands for, and the end stands for the view after it.
-use Rattle.std.proofs.Common.{◌≡◌, ℕ, ◌+◌, ◌-◌, ◌*◌, ◌/◌, ◌<◌, ◌≤◌, ◌==◌, ◌&&◌, Bool, true, false, List, [], ◌∷◌, ◌++◌, length, drop, if◌then◌else◌, slice_index, refl, sym, ap, ◌∙◌, subst, arith, inl, inr}
+use Rattle.std.proofs.Common.{◌≡◌, ℕ, ◌+◌, ◌-◌, ◌*◌, ◌/◌, ◌<◌, ◌≤◌, ◌==◌, ◌&&◌, Bool, true, false, List, [], ◌∷◌, ◌++◌, length, if◌then◌else◌, refl, sym, ap, ◌∙◌, subst, arith, inl, inr}
 use Rattle.std.proofs.lemmas.Bool.{cases_lt, eq-eqb, ne_eqb, eqb-true}
 use Rattle.std.proofs.lemmas.List.{length_push, length-append, append-nil, append_assoc}
 use Rattle.vd_model.specs.declared.chain.Piece.{Piece}
-use Rattle.vd_model.specs.declared.features.Features.{Features}
-use Rattle.vd_model.specs.Chains.{IsChain, needs}
+use Rattle.vd_model.specs.Chains.{IsChain}
 use Rattle.vd_words.specs.declared.access.Access.TheVariants.{Load}
 use Rattle.vd_words.specs.declared.access.Op.TheVariants as op
 use Rattle.vd_ring.specs.declared.act.DeviceAct.TheVariants as act
@@ -16,7 +15,7 @@ use Rattle.vd_ring.specs.declared.device.DeviceView.{DeviceView}
 use Rattle.vd_ring.specs.Frames.{limit}
 use Rattle.vd_ring.specs.History.{takes}
 use Rattle.vd_packed_ring.specs.PackedWords.{tables_from, commands_from, table_of, id_of, len_of, names_table}
-use Rattle.vd_packed_ring.specs.PackedChains.{piece_of, pieces_of, pieces_in, ends, following, named_words, first_id, last_id, is_tabled, is_whole, chain_of, cursor, loaded_head}
+use Rattle.vd_packed_ring.specs.PackedChains.{piece_of, pieces_of, pieces_in, ends, following, named_words, is_tabled, is_whole, chain_of, cursor}
 use Rattle.vd_packed_ring.specs.PackedPositions.{take_position}
 use Rattle.vd_packed_ring.specs.PackedDevice.{LoadsChain, DeviceNextAt, DeviceNext, DeviceTells, DeviceTellsAt, BeginsChain, device_after, device_after_at, device_act_at}
 use Rattle.vd_layout.specs.Begun.{DeviceOp, IsDeviceOp}
@@ -28,7 +27,7 @@ use Rattle.vd_packed.specs.declared.ring_position.RingPosition.{RingPosition}
 use Rattle.vd_packed.specs.declared.device.Told.TheVariants as told
 use Rattle.vd_packed.specs.Telling.{act_of}
 use Rattle.vd_packed.specs.DriverEnd.{packed_words}
-use Rattle.vd_packed.specs.DeviceEnd.{IsTaking, IsTabling, DeviceStands, DeviceStepStands, device_begun, device_left}
+use Rattle.vd_packed.specs.DeviceEnd.{IsTaking, IsTabling, DeviceStands, device_begun, device_left}
 use Rattle.vd_packed.specs.laws.DeviceGiving.{Goes, at_step}
 use Rattle.vd_packed.specs.laws.DeviceTaken.{takes_last, may_count}
 use Rattle.vd_packed.specs.laws.DeviceTaking.{loads_on, acts_on, names_in, address_next}

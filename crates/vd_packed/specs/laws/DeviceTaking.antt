@@ -7,12 +7,11 @@ use Rattle.vd_words.specs.declared.access.Access.TheVariants.{Load}
 use Rattle.vd_words.specs.declared.access.Op.TheVariants as op
 use Rattle.vd_ring.specs.declared.act.DeviceAct.TheVariants as act
 use Rattle.vd_ring.specs.declared.frame.Frame.{Frame}
-use Rattle.vd_ring.specs.declared.frame.Put.{Put}
 use Rattle.vd_ring.specs.declared.device.DeviceDone.{DeviceDone}
 use Rattle.vd_ring.specs.declared.device.DeviceNow.TheVariants as now
 use Rattle.vd_ring.specs.declared.device.DeviceView.{DeviceView}
 use Rattle.vd_ring.specs.History.{takes}
-use Rattle.vd_packed_ring.specs.PackedWords.{table_of, addr_word, second_word, id_of, goes_on, names_table}
+use Rattle.vd_packed_ring.specs.PackedWords.{table_of, addr_word, second_word, goes_on, names_table}
 use Rattle.vd_packed_ring.specs.PackedChains.{reading, piece_of, pieces_of, pieces_in, ends, following, has_table, named_words, first_id, last_id, is_tabled, is_whole, chain_of, cursor, loaded_head}
 use Rattle.vd_packed_ring.specs.PackedPositions.{take_position}
 use Rattle.vd_packed_ring.specs.PackedDevice.{DeviceNextAt, DeviceNext, DeviceTells, DeviceTellsAt, BeginsChain, device_after, device_after_at, device_takes, device_act_at}

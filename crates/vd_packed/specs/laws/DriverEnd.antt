@@ -1,12 +1,9 @@
 -- Lemmas: for which views the driver's end of a packed ring stands, and what it has begun.
-use Rattle.std.specs.Prelude.{◌≡◌, ◌-◌, Bool, true, false, if◌then◌else◌, Some, None}
+use Rattle.std.specs.Prelude.{◌≡◌, Bool, true, false, if◌then◌else◌, Some, None}
 use Rattle.std.proofs.Common.{ap, ◌∙◌}
-use Rattle.vd_words.specs.declared.access.Op.TheVariants as op
-use Rattle.vd_ring.specs.declared.driver.DriverNow.TheVariants as now
 use Rattle.vd_ring.specs.declared.driver.DriverView.{DriverView}
 use Rattle.vd_packed_ring.specs.PackedPositions.{collect_position}
 use Rattle.vd_packed.specs.declared.driver.PackedDriver.{PackedDriver}
-use Rattle.vd_packed.specs.declared.driver.DriverStep.TheVariants as step
 use Rattle.vd_packed.specs.DriverEnd.{DriverStands}
 
 -- an end that is not armed stands for views that are not

@@ -1,5 +1,5 @@
 -- The stores of an offer in order.
-use Rattle.std.proofs.Common.{◌≡◌, ◌≢◌, ℕ, zero, suc, ◌+◌, ◌*◌, ◌/◌, ◌%◌, ◌<◌, ◌≤◌, ◌⊎◌, Bool, not, List, [], ◌∷◌, ◌++◌, length, take, if◌then◌else◌, nat_lt, slice_index_or, refl, sym, ap, ◌∙◌, subst, arith, inl, inr}
+use Rattle.std.proofs.Common.{◌≡◌, ℕ, zero, suc, ◌+◌, ◌*◌, ◌/◌, ◌%◌, ◌<◌, ◌≤◌, ◌⊎◌, Bool, not, List, [], ◌∷◌, ◌++◌, length, take, if◌then◌else◌, nat_lt, slice_index_or, refl, sym, ap, ◌∙◌, subst, arith, inl, inr}
 use Rattle.std.proofs.lemmas.Bool.{cases_eq, lt-ltb, le-ltb}
 use Rattle.std.proofs.lemmas.List.{length-take-le, take_more}
 use Rattle.vd_model.specs.declared.chain.Piece.{Piece}
@@ -7,11 +7,9 @@ use Rattle.vd_model.specs.Chains.{blank}
 use Rattle.vd_ring.specs.declared.frame.Frame.{Frame}
 use Rattle.vd_ring.specs.declared.frame.Put.{Put}
 use Rattle.vd_ring.specs.declared.driver.DriverDone.{DriverDone}
-use Rattle.vd_ring.specs.History.{next_head}
 use Rattle.vd_packed_ring.specs.PackedWords.{wrap_bit, addr_word, second_word, packed_word, put}
 use Rattle.vd_packed_ring.specs.PackedChains.{Descriptor, avail_word, direct, described, staged}
 use Rattle.vd_packed_ring.specs.PackedDriver.{CanOffer, Begins, plan}
-use Rattle.vd_packed_ring.specs.PackedPositions.{offer_position}
 use Rattle.vd_packed_ring.proofs.Spelled.{length_direct}
 use Rattle.vd_packed.specs.declared.ring_position.RingPosition.{RingPosition}
 use Rattle.vd_packed.specs.RingPositions.{IsAt, bit}

@@ -23,7 +23,7 @@ use Rattle.vd_layout.specs.Driver.{DriverSays}
 use Rattle.vd_packed.specs.declared.driver.PackedDriver.{PackedDriver}
 use Rattle.vd_packed.specs.declared.driver.DriverStep.TheVariants as step
 use Rattle.vd_packed.specs.declared.ring_position.RingPosition.{RingPosition}
-use Rattle.vd_packed.specs.DriverEnd.{DriverStands, DriverStepStands, DriverStepArmed, driver_owes, offering, driver_begun, driver_left}
+use Rattle.vd_packed.specs.DriverEnd.{DriverStands, DriverStepStands, DriverStepArmed, driver_owes, driver_begun, driver_left}
 use Rattle.vd_packed.specs.laws.DriverEnd.{not_armed}
 use Rattle.vd_packed.specs.laws.DriverSteps.{Goes, size_facts, next_id_facts, none_yet, next_at, after_at, act_at, offering_some}
 use Rattle.vd_packed.specs.laws.Offers.{begins_at}

@@ -9,8 +9,8 @@ use Rattle.vd_ring.specs.declared.frame.Frame.{Frame}
 use Rattle.vd_ring.specs.declared.frame.Put.{Put}
 use Rattle.vd_ring.specs.declared.driver.DriverDone.{DriverDone}
 use Rattle.vd_ring.specs.History.{next_head}
-use Rattle.vd_packed_ring.specs.PackedWords.{IsLawful, table_of, second_word, packed_word, wrap_bit, put}
-use Rattle.vd_packed_ring.specs.PackedChains.{Descriptor, direct, descriptors, pointer, standing, is_tabled, staged, publishing, avail_word}
+use Rattle.vd_packed_ring.specs.PackedWords.{IsLawful, second_word, packed_word, wrap_bit, put}
+use Rattle.vd_packed_ring.specs.PackedChains.{Descriptor, direct, descriptors, standing, is_tabled, staged, publishing}
 use Rattle.vd_packed_ring.specs.PackedPositions.{offer_position}
 use Rattle.vd_packed_ring.specs.PackedDriver.{CanOffer, plan}
 use Rattle.vd_packed_ring.proofs.Clear.{spelling_clear}

@@ -1,13 +1,13 @@
 -- What the words loaded of a chain tell of its table.
-use Rattle.std.proofs.Common.{◌≡◌, ℕ, zero, suc, ◌+◌, ◌*◌, ◌/◌, ◌<◌, ◌≤◌, ◌==◌, ◌&&◌, Bool, true, false, List, [], ◌∷◌, ◌++◌, length, take, slice_index, if◌then◌else◌, refl, sym, ap, ap₂, ◌∙◌, subst, arith}
+use Rattle.std.proofs.Common.{◌≡◌, ℕ, ◌*◌, ◌/◌, ◌<◌, ◌≤◌, ◌==◌, ◌&&◌, Bool, true, false, List, [], ◌∷◌, ◌++◌, length, take, slice_index, refl, sym, ap, ap₂, ◌∙◌, arith}
 use Rattle.std.proofs.lemmas.Bool.{eq-eqb}
-use Rattle.std.proofs.lemmas.List.{append-nil, length-append}
+use Rattle.std.proofs.lemmas.List.{append-nil}
 use Rattle.vd_model.specs.declared.chain.Piece.{Piece}
 use Rattle.vd_ring.specs.declared.frame.Frame.{Frame}
 use Rattle.vd_ring.specs.declared.frame.Put.{Put}
 use Rattle.vd_ring.specs.declared.device.DeviceDone.{DeviceDone}
 use Rattle.vd_packed_ring.specs.PackedWords.{IsLawful, id_of, len_of, names_table, words_of}
-use Rattle.vd_packed_ring.specs.PackedChains.{Descriptor, avail_word, direct, descriptors, pointer, is_tabled, has_table, loaded, reading}
+use Rattle.vd_packed_ring.specs.PackedChains.{Descriptor, avail_word, direct, pointer, is_tabled, has_table, loaded, reading}
 use Rattle.vd_packed_ring.specs.PackedPositions.{take_position}
 use Rattle.vd_packed_ring.specs.PackedDevice.{BeginsChain}
 use Rattle.vd_packed_ring.proofs.Spelled.{length_direct, length_loaded}

@@ -1,12 +1,9 @@
 -- Lemmas: for which views the device's end of a split ring stands, and what it has begun.
-use Rattle.std.specs.Prelude.{◌≡◌, ◌-◌, Bool, true, false, length, None, Some, if◌then◌else◌, not}
+use Rattle.std.specs.Prelude.{◌≡◌, Bool, true, false, length, None, Some, if◌then◌else◌}
 use Rattle.std.proofs.Common.{ap, ◌∙◌}
-use Rattle.vd_words.specs.declared.access.Op.TheVariants as op
-use Rattle.vd_ring.specs.declared.device.DeviceNow.TheVariants as now
 use Rattle.vd_ring.specs.declared.device.DeviceView.{DeviceView}
 use Rattle.vd_ring.specs.History.{takes}
 use Rattle.vd_split.specs.declared.device.SplitDevice.{SplitDevice}
-use Rattle.vd_split.specs.declared.device.DeviceStep.TheVariants as step
 use Rattle.vd_split.specs.DeviceEnd.{DeviceStands}
 
 -- an end that is not armed stands for views that are not

@@ -1,6 +1,5 @@
 //! Whole operations by their names, with what they answer: a test is a table of them.
-use super::rig::Rig;
-use vd_layout::{BadBase, DeviceAct, DriverAct, Layout};
+use vd_layout::{BadBase, DeviceAct, DriverAct, Layout, PlainRing};
 use vd_model::{Base, Chain};
 
 /// A whole operation of an end, or a question to it.
@@ -89,35 +88,35 @@ fn of_resume(answer: Option<Result<(), BadBase>>, given: Base) -> Answer {
 }
 
 /// Makes an operation. An offer is of this chain, and a give writes 10 bytes.
-pub fn answer_of<L: Layout>(rig: &mut Rig<L>, c: &Chain, operation: Operation) -> Answer {
+pub fn answer_of<L: Layout>(ring: &mut PlainRing<L>, c: &Chain, operation: Operation) -> Answer {
     match operation {
-        Operation::Offer => of_driver(rig.offer(c)),
-        Operation::Collect => of_driver(rig.collect()),
-        Operation::ArmDriver => of_driver(rig.arm_driver()),
-        Operation::HearDriver => of_driver(rig.hear_driver()),
-        Operation::DisarmDriver => of_driver(rig.disarm_driver()),
-        Operation::Take => of_device(rig.take(), c),
-        Operation::Give(number) => of_device(rig.give(number, 10), c),
-        Operation::ArmDevice => of_device(rig.arm_device(), c),
-        Operation::HearDevice => of_device(rig.hear_device(), c),
-        Operation::DisarmDevice => of_device(rig.disarm_device(), c),
-        Operation::Rest => of_device(rig.rest(), c),
-        Operation::Base => match rig.base() {
+        Operation::Offer => of_driver(ring.offer(c)),
+        Operation::Collect => of_driver(ring.collect()),
+        Operation::ArmDriver => of_driver(ring.arm_driver()),
+        Operation::HearDriver => of_driver(ring.hear_driver()),
+        Operation::DisarmDriver => of_driver(ring.disarm_driver()),
+        Operation::Take => of_device(ring.take(), c),
+        Operation::Give(number) => of_device(ring.give(number, 10), c),
+        Operation::ArmDevice => of_device(ring.arm_device(), c),
+        Operation::HearDevice => of_device(ring.hear_device(), c),
+        Operation::DisarmDevice => of_device(ring.disarm_device(), c),
+        Operation::Rest => of_device(ring.rest(), c),
+        Operation::Base => match ring.base() {
             None => Answer::Refused,
             Some(base) => Answer::Base(base.0),
         },
-        Operation::Resume(base) => of_resume(rig.resume(Base(base)), Base(base)),
+        Operation::Resume(base) => of_resume(ring.resume(Base(base)), Base(base)),
     }
 }
 
 /// The first row of a table whose operation answers otherwise.
 pub fn first_other<L: Layout>(
-    rig: &mut Rig<L>,
+    ring: &mut PlainRing<L>,
     c: &Chain,
     rows: &[(Operation, Answer)],
 ) -> Option<usize> {
     for (i, row) in rows.iter().enumerate() {
-        if answer_of(rig, c, row.0) != row.1 {
+        if answer_of(ring, c, row.0) != row.1 {
             return Some(i);
         }
     }
@@ -126,14 +125,14 @@ pub fn first_other<L: Layout>(
 
 /// The words by which the driver and the device say when they want a signal, on a ring of 4 places with EVENT_IDX or without, and the
 /// bells that they stored.
-pub fn signals<L: Layout>(rig: &Rig<L>, event_idx: bool) -> (u64, u64, u64, u64) {
-    let bells = (rig.word(15), rig.word(16));
+pub fn signals<L: Layout>(ring: &PlainRing<L>, event_idx: bool) -> (u64, u64, u64, u64) {
+    let bells = (ring.word(15), ring.word(16));
     if event_idx {
-        (rig.word(9) >> 32, rig.word(14) >> 32, bells.0, bells.1)
+        (ring.word(9) >> 32, ring.word(14) >> 32, bells.0, bells.1)
     } else {
         (
-            rig.word(8) & 0xffff,
-            rig.word(10) & 0xffff,
+            ring.word(8) & 0xffff,
+            ring.word(10) & 0xffff,
             bells.0,
             bells.1,
         )
@@ -142,16 +141,16 @@ pub fn signals<L: Layout>(rig: &Rig<L>, event_idx: bool) -> (u64, u64, u64, u64)
 
 /// The first row of a table whose operation answers otherwise, or after which other words stand.
 pub fn first_other_signal<L: Layout>(
-    rig: &mut Rig<L>,
+    ring: &mut PlainRing<L>,
     c: &Chain,
     event_idx: bool,
     rows: &[(Operation, Answer, (u64, u64, u64, u64))],
 ) -> Option<usize> {
     for (i, row) in rows.iter().enumerate() {
-        if answer_of(rig, c, row.0) != row.1 {
+        if answer_of(ring, c, row.0) != row.1 {
             return Some(i);
         }
-        if signals(rig, event_idx) != row.2 {
+        if signals(ring, event_idx) != row.2 {
             return Some(i);
         }
     }

@@ -8,10 +8,9 @@ use super::operations::Operation::{
     HearDriver, Offer, Rest, Resume, Take,
 };
 use super::operations::{answer_of, first_other, first_other_signal};
-use super::rig::Rig;
 use crate::Split;
 use std::test::*;
-use vd_layout::Layout;
+use vd_layout::{DeviceEnd, DriverEnd, Layout, PlainRing};
 use vd_model::{Base, Chain, Features, Piece};
 
 const PLAIN: Features = Features {
@@ -32,12 +31,12 @@ pub(super) const OUT: Piece = Piece {
     write: true,
 };
 
-pub(super) fn words_are<L: Layout>(rig: &Rig<L>, expected: &[u64]) -> bool {
+pub(super) fn words_are<L: Layout>(ring: &PlainRing<L>, expected: &[u64]) -> bool {
     for (i, w) in expected.iter().enumerate() {
         if i >= 64 {
             return false;
         }
-        if rig.word(i as u32) != *w {
+        if ring.word(i as u32) != *w {
             return false;
         }
     }
@@ -118,12 +117,12 @@ fn a_chain_stands_in_the_words(rt: HostRuntime) -> Result<(), Fail> {
     ] {
         let c = chain(both);
         assert_eq!(rt; c.pieces().len(), pieces);
-        let mut rig = Rig::<Split>::new(rt.alloc(), 0, 4, PLAIN)?;
-        let first = first_other(&mut rig, &c, &[(Offer, Offered(0)), (Take, Taken(0))]);
+        let mut ring = PlainRing::<Split>::make(rt.alloc(), 0, 4, PLAIN)?;
+        let first = first_other(&mut ring, &c, &[(Offer, Offered(0)), (Take, Taken(0))]);
         assert_eq!(rt; first, None);
-        assert!(rt; words_are(&rig, offered.as_slice()));
-        assert_eq!(rt; answer_of(&mut rig, &c, Give(0)), Given(0));
-        assert!(rt; words_are(&rig, given.as_slice()));
+        assert!(rt; words_are(&ring, offered.as_slice()));
+        assert_eq!(rt; answer_of(&mut ring, &c, Give(0)), Given(0));
+        assert!(rt; words_are(&ring, given.as_slice()));
     }
     Ok(())
 }
@@ -131,7 +130,7 @@ fn a_chain_stands_in_the_words(rt: HostRuntime) -> Result<(), Fail> {
 /// A chain goes through a ring that rests then. A give is refused where the chain doesn't run.
 #[test]
 fn a_chain_goes_through_a_ring(rt: HostRuntime) -> Result<(), Fail> {
-    let mut rig = Rig::<Split>::new(rt.alloc(), 0, 4, PLAIN)?;
+    let mut ring = PlainRing::<Split>::make(rt.alloc(), 0, 4, PLAIN)?;
     let rows = [
         (Take, Nothing),
         (Collect, Nothing),
@@ -146,18 +145,15 @@ fn a_chain_goes_through_a_ring(rt: HostRuntime) -> Result<(), Fail> {
         (Resume(0), Keeps(1)),
         (Resume(1), Resumed),
     ];
-    assert_eq!(rt; first_other(&mut rig, &chain(true), rows.as_slice()), None);
-    assert!(rt; rig.counts() == (1, 1, 1, 1, 0));
-    assert!(rt; rig.idle() == (true, true));
-    assert!(rt; rig.size() == (4, 4));
-    assert!(rt; rig.features() == (PLAIN, PLAIN));
+    assert_eq!(rt; first_other(&mut ring, &chain(true), rows.as_slice()), None);
+    assert!(rt; ring.counts() == (1, 1, 1, 1));
     Ok(())
 }
 
 /// A ring rests where the chains given are all those below their count, and those taken and not given are offered still.
 #[test]
 fn a_rest_takes_chains_back(rt: HostRuntime) -> Result<(), Fail> {
-    let mut rig = Rig::<Split>::new(rt.alloc(), 0, 4, PLAIN)?;
+    let mut ring = PlainRing::<Split>::make(rt.alloc(), 0, 4, PLAIN)?;
     let rows = [
         (Rest, Rested),
         (BaseOf, Kept(0)),
@@ -179,8 +175,11 @@ fn a_rest_takes_chains_back(rt: HostRuntime) -> Result<(), Fail> {
         (Give(2), Refused),
         (Take, Taken(2)),
     ];
-    assert_eq!(rt; first_other(&mut rig, &chain(false), rows.as_slice()), None);
-    assert!(rt; rig.counts() == (3, 0, 3, 2, 1));
+    assert_eq!(rt;
+        first_other(&mut ring, &chain(false), rows.as_slice()),
+        None
+    );
+    assert!(rt; ring.counts() == (3, 0, 3, 2));
     Ok(())
 }
 
@@ -188,7 +187,7 @@ fn a_rest_takes_chains_back(rt: HostRuntime) -> Result<(), Fail> {
 /// both flags and both bells.
 #[test]
 fn a_flag_asks_for_no_signal(rt: HostRuntime) -> Result<(), Fail> {
-    let mut rig = Rig::<Split>::new(rt.alloc(), 0, 4, PLAIN)?;
+    let mut ring = PlainRing::<Split>::make(rt.alloc(), 0, 4, PLAIN)?;
     let rows = [
         (Offer, Offered(0), (0, 0, 1, 0)),
         (Take, Taken(0), (0, 0, 1, 0)),
@@ -208,9 +207,9 @@ fn a_flag_asks_for_no_signal(rt: HostRuntime) -> Result<(), Fail> {
         (Rest, Rested, (1, 1, 3, 2)),
         (Offer, Offered(3), (1, 1, 3, 2)),
     ];
-    let first = first_other_signal(&mut rig, &chain(false), false, rows.as_slice());
+    let first = first_other_signal(&mut ring, &chain(false), false, rows.as_slice());
     assert_eq!(rt; first, None);
-    assert!(rt; rig.armed() == (false, false));
+    assert!(rt; ring.armed() == (false, false));
     Ok(())
 }
 
@@ -218,7 +217,7 @@ fn a_flag_asks_for_no_signal(rt: HostRuntime) -> Result<(), Fail> {
 /// with both event words and both bells.
 #[test]
 fn an_event_word_names_one_entry(rt: HostRuntime) -> Result<(), Fail> {
-    let mut rig = Rig::<Split>::new(rt.alloc(), 0, 4, INDEXED)?;
+    let mut ring = PlainRing::<Split>::make(rt.alloc(), 0, 4, INDEXED)?;
     let rows = [
         (Offer, Offered(0), (0, 0, 1, 0)),
         (Take, Taken(0), (0, 0, 1, 0)),
@@ -246,30 +245,30 @@ fn an_event_word_names_one_entry(rt: HostRuntime) -> Result<(), Fail> {
         (Take, Taken(3), (2, 2, 2, 2)),
         (Give(3), Given(3), (2, 2, 2, 2)),
     ];
-    let first = first_other_signal(&mut rig, &chain(false), true, rows.as_slice());
+    let first = first_other_signal(&mut ring, &chain(false), true, rows.as_slice());
     assert_eq!(rt; first, None);
     Ok(())
 }
 
 /// One chain is offered, taken, given and collected. Whether its offer and its give rang.
-fn rings<L: Layout>(rig: &mut Rig<L>, c: &Chain) -> Option<(bool, bool)> {
-    let before = (rig.word(15), rig.word(16));
-    let _ = answer_of(rig, c, Offer);
-    let _ = answer_of(rig, c, Take);
-    let number = rig.counts().3;
-    let Given(_) = answer_of(rig, c, Give(number)) else {
+fn rings<L: Layout>(ring: &mut PlainRing<L>, c: &Chain) -> Option<(bool, bool)> {
+    let before = (ring.word(15), ring.word(16));
+    let _ = answer_of(ring, c, Offer);
+    let _ = answer_of(ring, c, Take);
+    let number = ring.counts().3;
+    let Given(_) = answer_of(ring, c, Give(number)) else {
         return None;
     };
-    let Collected(_, _, _) = answer_of(rig, c, Collect) else {
+    let Collected(_, _, _) = answer_of(ring, c, Collect) else {
         return None;
     };
-    Some((rig.word(15) != before.0, rig.word(16) != before.1))
+    Some((ring.word(15) != before.0, ring.word(16) != before.1))
 }
 
-/// Both sides arm where entry `event` is next, and are disarmed, which leaves their event words. The first entry, of so many, for which one of them is rung though its
-/// event word doesn't name it, or isn't though the word does. Indices go round at 65,536.
+/// Both sides arm where entry `event` is next, and are disarmed, which leaves their event words. The first entry, of so many, for which
+/// one of them is rung though its event word doesn't name it, or isn't though the word does. Indices go round at 65,536.
 fn first_other_bell<L: Layout>(
-    rig: &mut Rig<L>,
+    ring: &mut PlainRing<L>,
     c: &Chain,
     event: u32,
     entries: u32,
@@ -278,13 +277,13 @@ fn first_other_bell<L: Layout>(
     for k in 0..entries {
         if k == event {
             named = event;
-            let _ = answer_of(rig, c, ArmDevice);
-            let _ = answer_of(rig, c, DisarmDevice);
-            let _ = answer_of(rig, c, ArmDriver);
-            let _ = answer_of(rig, c, DisarmDriver);
+            let _ = answer_of(ring, c, ArmDevice);
+            let _ = answer_of(ring, c, DisarmDevice);
+            let _ = answer_of(ring, c, ArmDriver);
+            let _ = answer_of(ring, c, DisarmDriver);
         }
         let is_named = k & 0xffff == named;
-        if rings(rig, c) != Some((is_named, is_named)) {
+        if rings(ring, c) != Some((is_named, is_named)) {
             return Some(k);
         }
     }
@@ -297,10 +296,20 @@ fn first_other_bell<L: Layout>(
 #[test]
 fn an_event_word_asks_at_its_entry_alone(rt: HostRuntime) -> Result<(), Fail> {
     for event in [0, 3, 4, 5, 65535] {
-        let mut rig = Rig::<Split>::new(rt.alloc(), 0, 4, INDEXED)?;
-        let first = first_other_bell(&mut rig, &chain(false), event, 65_546);
+        let mut ring = PlainRing::<Split>::make(rt.alloc(), 0, 4, INDEXED)?;
+        let first = first_other_bell(&mut ring, &chain(false), event, 65_546);
         assert_eq!(rt; first, None, "{event}");
     }
+    Ok(())
+}
+
+#[test]
+fn ends_of_a_fresh_ring(rt: HostRuntime) -> Result<(), Fail> {
+    let (driver, device) = Split::make(rt.alloc(), 4, PLAIN, false)?;
+    assert!(rt; (driver.idle(), device.idle()) == (true, true));
+    assert!(rt; (driver.size(), device.size()) == (4, 4));
+    assert!(rt; (driver.features(), device.features()) == (PLAIN, PLAIN));
+    assert!(rt; (device.base(), device.outstanding()) == (Base(0), 0));
     Ok(())
 }
 

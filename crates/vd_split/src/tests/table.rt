@@ -1,10 +1,9 @@
 //! Both ends against the format, over many operations.
 use super::chains::{chain_of, mixed, piece_of, pieces_of};
 use super::format::Format;
-use super::rig::Rig;
 use crate::Split;
 use std::test::*;
-use vd_layout::{BadBase, DeviceAct, DriverAct, Layout};
+use vd_layout::{BadBase, DeviceAct, DriverAct, Layout, PlainRing};
 use vd_model::{Base, Chain, Features};
 
 /// What one case does: how many eighths of the gives are out of order, and whether it rests.
@@ -15,9 +14,9 @@ pub(super) struct Case {
 }
 
 /// Whether every word of the ring is as the format has it.
-pub(super) fn words_agree<L: Layout>(rig: &Rig<L>, format: &Format) -> bool {
+pub(super) fn words_agree<L: Layout>(ring: &PlainRing<L>, format: &Format) -> bool {
     for i in 0..format.words() {
-        if rig.word(i) != format.word(i) {
+        if ring.word(i) != format.word(i) {
             return false;
         }
     }
@@ -38,10 +37,10 @@ fn is_chain(most: u32, k: u32, c: &Chain) -> bool {
     true
 }
 
-fn offer<L: Layout>(rig: &mut Rig<L>, format: &mut Format) -> bool {
+fn offer<L: Layout>(ring: &mut PlainRing<L>, format: &mut Format) -> bool {
     let k = format.offered;
     let may = format.room() && !format.armed().0;
-    match rig.offer(&chain_of(format.most, k)) {
+    match ring.offer(&chain_of(format.most, k)) {
         Some(answer) => {
             format.offer();
             may && answer == DriverAct::Offered(k)
@@ -50,10 +49,10 @@ fn offer<L: Layout>(rig: &mut Rig<L>, format: &mut Format) -> bool {
     }
 }
 
-fn take<L: Layout>(rig: &mut Rig<L>, format: &mut Format) -> bool {
+fn take<L: Layout>(ring: &mut PlainRing<L>, format: &mut Format) -> bool {
     let k = format.taken;
     let shown = k != format.offered;
-    match rig.take() {
+    match ring.take() {
         Some(DeviceAct::Taken(number, c)) => {
             format.take();
             shown && number == k && is_chain(format.most, k, &c)
@@ -64,13 +63,13 @@ fn take<L: Layout>(rig: &mut Rig<L>, format: &mut Format) -> bool {
     }
 }
 
-fn give<L: Layout>(rig: &mut Rig<L>, format: &mut Format, j: u32, len: u32) -> bool {
+fn give<L: Layout>(ring: &mut PlainRing<L>, format: &mut Format, j: u32, len: u32) -> bool {
     if format.runs() == 0 {
         return true;
     }
     let i = if j < format.runs() { j } else { 0 };
     let k = format.running(i);
-    match rig.give(k, len) {
+    match ring.give(k, len) {
         Some(DeviceAct::Given(number)) => {
             format.give(i, len);
             number == k
@@ -80,9 +79,9 @@ fn give<L: Layout>(rig: &mut Rig<L>, format: &mut Format, j: u32, len: u32) -> b
     }
 }
 
-fn collect<L: Layout>(rig: &mut Rig<L>, format: &mut Format) -> bool {
+fn collect<L: Layout>(ring: &mut PlainRing<L>, format: &mut Format) -> bool {
     let shown = format.collected != format.given;
-    match rig.collect() {
+    match ring.collect() {
         Some(DriverAct::Collected { number, len, head }) => {
             if shown {
                 format.collect() == (number, len, head)
@@ -96,27 +95,27 @@ fn collect<L: Layout>(rig: &mut Rig<L>, format: &mut Format) -> bool {
     }
 }
 
-fn rest<L: Layout>(rig: &mut Rig<L>, format: &mut Format) -> bool {
+fn rest<L: Layout>(ring: &mut PlainRing<L>, format: &mut Format) -> bool {
     if !format.whole() {
-        return rig.rest().is_none();
+        return ring.rest().is_none();
     }
-    if !matches!(rig.rest(), Some(DeviceAct::Rested)) {
+    if !matches!(ring.rest(), Some(DeviceAct::Rested)) {
         return false;
     }
     format.rest();
     let kept = Base(format.given & 0xffff);
     let other = Base(kept.0 ^ 1);
-    if rig.base() != Some(kept) {
+    if ring.base() != Some(kept) {
         return false;
     }
-    if rig.resume(other) != Some(Err(BadBase { kept, given: other })) {
+    if ring.resume(other) != Some(Err(BadBase { kept, given: other })) {
         return false;
     }
-    rig.resume(kept) == Some(Ok(()))
+    ring.resume(kept) == Some(Ok(()))
 }
 
 /// The driver arms where it isn't armed; else it hears the bell, or is disarmed.
-fn sleep_driver<L: Layout>(rig: &mut Rig<L>, format: &mut Format, disarms: bool) -> bool {
+fn sleep_driver<L: Layout>(ring: &mut PlainRing<L>, format: &mut Format, disarms: bool) -> bool {
     if !format.armed().0 {
         let armed = format.arm_driver();
         let answer = if armed {
@@ -124,11 +123,11 @@ fn sleep_driver<L: Layout>(rig: &mut Rig<L>, format: &mut Format, disarms: bool)
         } else {
             DriverAct::Awake
         };
-        return rig.arm_driver() == Some(answer);
+        return ring.arm_driver() == Some(answer);
     }
     if disarms {
         format.disarm_driver();
-        return rig.disarm_driver() == Some(DriverAct::Awake);
+        return ring.disarm_driver() == Some(DriverAct::Awake);
     }
     let woken = format.hear_driver();
     let answer = if woken {
@@ -136,56 +135,56 @@ fn sleep_driver<L: Layout>(rig: &mut Rig<L>, format: &mut Format, disarms: bool)
     } else {
         DriverAct::Asleep
     };
-    rig.hear_driver() == Some(answer)
+    ring.hear_driver() == Some(answer)
 }
 
 /// The device does.
-fn sleep_device<L: Layout>(rig: &mut Rig<L>, format: &mut Format, disarms: bool) -> bool {
+fn sleep_device<L: Layout>(ring: &mut PlainRing<L>, format: &mut Format, disarms: bool) -> bool {
     if !format.armed().1 {
         return if format.arm_device() {
-            matches!(rig.arm_device(), Some(DeviceAct::Armed))
+            matches!(ring.arm_device(), Some(DeviceAct::Armed))
         } else {
-            matches!(rig.arm_device(), Some(DeviceAct::Awake))
+            matches!(ring.arm_device(), Some(DeviceAct::Awake))
         };
     }
     if disarms {
         format.disarm_device();
-        return matches!(rig.disarm_device(), Some(DeviceAct::Awake));
+        return matches!(ring.disarm_device(), Some(DeviceAct::Awake));
     }
     if format.hear_device() {
-        matches!(rig.hear_device(), Some(DeviceAct::Awake))
+        matches!(ring.hear_device(), Some(DeviceAct::Awake))
     } else {
-        matches!(rig.hear_device(), Some(DeviceAct::Asleep))
+        matches!(ring.hear_device(), Some(DeviceAct::Asleep))
     }
 }
 
 /// One operation, chosen by a number.
 pub(super) fn operate<L: Layout>(
-    rig: &mut Rig<L>,
+    ring: &mut PlainRing<L>,
     format: &mut Format,
     case: &Case,
     x: u32,
 ) -> bool {
     let which = x & 31;
     if which < 8 {
-        offer(rig, format)
+        offer(ring, format)
     } else if which < 14 {
-        take(rig, format)
+        take(ring, format)
     } else if which < 20 {
         let j = if x >> 5 & 7 < case.disorder {
             x >> 8 & 7
         } else {
             0
         };
-        give(rig, format, j, x >> 11)
+        give(ring, format, j, x >> 11)
     } else if which < 23 {
-        sleep_driver(rig, format, x >> 5 & 3 == 0)
+        sleep_driver(ring, format, x >> 5 & 3 == 0)
     } else if which < 26 {
-        sleep_device(rig, format, x >> 5 & 3 == 0)
+        sleep_device(ring, format, x >> 5 & 3 == 0)
     } else if which < 31 || !case.rests {
-        collect(rig, format)
+        collect(ring, format)
     } else {
-        rest(rig, format)
+        rest(ring, format)
     }
 }
 
@@ -204,23 +203,16 @@ fn words_are_as_the_format_has_them(rt: HostRuntime) -> Result<(), Fail> {
                 in_order,
             };
             let case = Case { disorder, rests };
-            let mut rig = Rig::<Split>::new(rt.alloc(), 0, size, f)?;
+            let mut ring = PlainRing::<Split>::make(rt.alloc(), 0, size, f)?;
             let mut format = Format::new(size, false, event_idx);
             for i in 0..6000u32 {
-                assert!(rt; operate(&mut rig, &mut format, &case, mixed(i)));
-                assert!(rt; words_agree(&rig, &format));
-                assert!(rt; rig.whole() == format.whole());
-                assert!(rt; rig.armed() == format.armed());
+                assert!(rt; operate(&mut ring, &mut format, &case, mixed(i)));
+                assert!(rt; words_agree(&ring, &format));
+                assert!(rt; ring.whole() == format.whole());
+                assert!(rt; ring.armed() == format.armed());
             }
             assert!(rt;
-                rig.counts()
-                    == (
-                        format.offered,
-                        format.collected,
-                        format.taken,
-                        format.given,
-                        format.runs()
-                    )
+                ring.counts() == (format.offered, format.collected, format.taken, format.given)
             );
             assert!(rt; format.collected > 50);
             let (kicks, calls) = format.rung();
@@ -240,23 +232,23 @@ fn counts_wrap(rt: HostRuntime) -> Result<(), Fail> {
             event_idx,
             in_order: false,
         };
-        let mut rig = Rig::<Split>::new(rt.alloc(), 0, 4, f)?;
+        let mut ring = PlainRing::<Split>::make(rt.alloc(), 0, 4, f)?;
         let mut format = Format::new(4, false, event_idx);
         for _ in 0..66_000u32 {
-            assert!(rt; sleep_device(&mut rig, &mut format, false));
-            assert!(rt; offer(&mut rig, &mut format));
-            assert!(rt; sleep_device(&mut rig, &mut format, false));
-            assert!(rt; take(&mut rig, &mut format));
-            assert!(rt; sleep_driver(&mut rig, &mut format, false));
+            assert!(rt; sleep_device(&mut ring, &mut format, false));
+            assert!(rt; offer(&mut ring, &mut format));
+            assert!(rt; sleep_device(&mut ring, &mut format, false));
+            assert!(rt; take(&mut ring, &mut format));
+            assert!(rt; sleep_driver(&mut ring, &mut format, false));
             let len = format.given;
-            assert!(rt; give(&mut rig, &mut format, 0, len));
-            assert!(rt; sleep_driver(&mut rig, &mut format, false));
-            assert!(rt; collect(&mut rig, &mut format));
-            assert!(rt; words_agree(&rig, &format));
+            assert!(rt; give(&mut ring, &mut format, 0, len));
+            assert!(rt; sleep_driver(&mut ring, &mut format, false));
+            assert!(rt; collect(&mut ring, &mut format));
+            assert!(rt; words_agree(&ring, &format));
         }
         assert_eq!(rt; format.collected, 66_000);
         assert!(rt; format.rung() == (66_000, 66_000));
-        assert!(rt; rest(&mut rig, &mut format));
+        assert!(rt; rest(&mut ring, &mut format));
     }
     Ok(())
 }

@@ -1,11 +1,11 @@
 //! Both ends with tables: a worked row, and many operations against the format.
 use super::chains::mixed;
 use super::format::Format;
-use super::rig::Rig;
 use super::rows::{IN, OUT, words_are};
 use super::table::{Case, operate, words_agree};
+use crate::Split;
 use std::test::*;
-use vd_layout::{DeviceAct, DriverAct};
+use vd_layout::{DeviceAct, DriverAct, PlainRing};
 use vd_model::{Chain, Features, Piece};
 
 /// Whole operations, with a place for any chain.
@@ -24,13 +24,13 @@ fn words_are_as_the_format_has_them_with_tables(rt: HostRuntime) -> Result<(), F
                 in_order,
             };
             let case = Case { disorder, rests };
-            let mut rig = Rig::tabled(rt.alloc(), size, f)?;
+            let mut ring = PlainRing::<Split>::make(rt.alloc(), 0, size, f)?;
             let mut format = Format::new(size, true, event_idx);
             for i in 0..2000u32 {
-                assert!(rt; operate(&mut rig, &mut format, &case, mixed(i)));
-                assert!(rt; words_agree(&rig, &format));
-                assert!(rt; rig.whole() == format.whole());
-                assert!(rt; rig.armed() == format.armed());
+                assert!(rt; operate(&mut ring, &mut format, &case, mixed(i)));
+                assert!(rt; words_agree(&ring, &format));
+                assert!(rt; ring.whole() == format.whole());
+                assert!(rt; ring.armed() == format.armed());
             }
             assert!(rt; format.collected > 20);
         }
@@ -61,32 +61,32 @@ fn a_table_stands_in_the_words(rt: HostRuntime) -> Result<(), Fail> {
         event_idx: false,
         in_order: false,
     };
-    let mut rig = Rig::tabled(rt.alloc(), 2, indirect)?;
+    let mut ring = PlainRing::<Split>::make(rt.alloc(), 0, 2, indirect)?;
     let long = longest_chain();
     assert_eq!(rt; long.pieces().len(), 16);
-    assert!(rt; rig.offer(&long) == Some(DriverAct::Offered(0)));
-    assert!(rt; rig.offer(&Chain::new(IN)) == Some(DriverAct::Offered(1)));
-    assert!(rt; rig.offer(&Chain::new(IN)).is_none());
+    assert!(rt; ring.offer(&long) == Some(DriverAct::Offered(0)));
+    assert!(rt; ring.offer(&Chain::new(IN)) == Some(DriverAct::Offered(1)));
+    assert!(rt; ring.offer(&Chain::new(IN)).is_none());
     // the table of place 0 begins with word 9; place 1 has a descriptor of its own
-    assert!(rt; words_are(&rig, &[0x48, 0x4_0000_0100, 0x1000, 0xa]));
+    assert!(rt; words_are(&ring, &[0x48, 0x4_0000_0100, 0x1000, 0xa]));
     for i in 0..15u64 {
         let place = 9 + 2 * i as u32;
-        assert_eq!(rt; rig.word(place), 0x1000);
-        assert_eq!(rt; rig.word(place + 1), i + 1 << 48 | 0x1_0000_0001);
+        assert_eq!(rt; ring.word(place), 0x1000);
+        assert_eq!(rt; ring.word(place + 1), i + 1 << 48 | 0x1_0000_0001);
     }
-    assert_eq!(rt; rig.word(39), 0x2000);
-    assert_eq!(rt; rig.word(40), 0x2_0000_0040);
+    assert_eq!(rt; ring.word(39), 0x2000);
+    assert_eq!(rt; ring.word(40), 0x2_0000_0040);
     for place in 41..73u32 {
-        assert_eq!(rt; rig.word(place), 0);
+        assert_eq!(rt; ring.word(place), 0);
     }
-    match rig.take() {
+    match ring.take() {
         Some(DeviceAct::Taken(0, c)) => assert!(rt; c.pieces() == long.pieces()),
         _ => assert!(rt; false),
     }
-    assert!(rt; matches!(rig.take(), Some(DeviceAct::Taken(1, _))));
-    assert!(rt; matches!(rig.give(0, 15), Some(DeviceAct::Given(0))));
+    assert!(rt; matches!(ring.take(), Some(DeviceAct::Taken(1, _))));
+    assert!(rt; matches!(ring.give(0, 15), Some(DeviceAct::Given(0))));
     assert!(rt;
-        rig.collect()
+        ring.collect()
             == Some(DriverAct::Collected {
                 number: 0,
                 len: 15,
@@ -96,14 +96,14 @@ fn a_table_stands_in_the_words(rt: HostRuntime) -> Result<(), Fail> {
     // the next chain has place 0 and its table, and leaves the rest of the one before there
     let mut two = Chain::new(IN);
     assert!(rt; two.push(OUT).is_ok());
-    assert!(rt; rig.offer(&two) == Some(DriverAct::Offered(2)));
-    assert!(rt; words_are(&rig, &[0x48, 0x4_0000_0020, 0x1000, 0xa]));
-    assert_eq!(rt; rig.word(9), 0x1000);
-    assert_eq!(rt; rig.word(10), 0x1_0001_0000_000a);
-    assert_eq!(rt; rig.word(11), 0x2000);
-    assert_eq!(rt; rig.word(12), 0x2_0000_0040);
-    assert_eq!(rt; rig.word(14), 0x3_0001_0000_0001);
-    match rig.take() {
+    assert!(rt; ring.offer(&two) == Some(DriverAct::Offered(2)));
+    assert!(rt; words_are(&ring, &[0x48, 0x4_0000_0020, 0x1000, 0xa]));
+    assert_eq!(rt; ring.word(9), 0x1000);
+    assert_eq!(rt; ring.word(10), 0x1_0001_0000_000a);
+    assert_eq!(rt; ring.word(11), 0x2000);
+    assert_eq!(rt; ring.word(12), 0x2_0000_0040);
+    assert_eq!(rt; ring.word(14), 0x3_0001_0000_0001);
+    match ring.take() {
         Some(DeviceAct::Taken(2, c)) => assert!(rt; c.pieces() == two.pieces()),
         _ => assert!(rt; false),
     }

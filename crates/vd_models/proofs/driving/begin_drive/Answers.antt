@@ -2,7 +2,7 @@ use Rattle.std.proofs.Common.{◌≡◌, sym, ap, ◌∙◌, Some, List}
 use Rattle.vd_model.specs.declared.record.Run.{Run}
 use Rattle.vd_models.specs.Cursors.{next_at}
 use Rattle.vd_models.specs.Driving.{drive}
-use Rattle.vd_models.proofs.Drives.{may_offer, begins_offer}
+use Rattle.vd_models.proofs.Offering.{may_offer, begins_offer}
 use Rattle.vd_models.proofs.driving.begin_drive.Goals as goal
 
 pub returns-in-Some-clause-next : goal.returns-in-Some-clause-next

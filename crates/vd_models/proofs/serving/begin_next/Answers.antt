@@ -11,6 +11,6 @@ begin_give-requires-clause-may g c =
     let same = c.features.ensures ∙ (law.sized c.args.session.now.end r.1 v.stands).1 in (
       r.1,
       v.stands,
-      may_give r.0.items c.args.session.now.by c.args.held.now.items r.1.frame r.1.done c.features.result.in_order
+      may_give r.0.items c.args.session.now.by c.args.session.now.held.items r.1.frame r.1.done c.features.result.in_order
           c.next-next.result (sym (ap (λ (f : Features). f.in_order) same)) v.held c.next-next.ensures,
     )

@@ -1,4 +1,4 @@
-use Rattle.std.proofs.Common.{◌≡◌, ℕ, ◌+◌, ◌*◌, sym, ap, ◌∙◌, arith}
+use Rattle.std.proofs.Common.{◌+◌, ◌*◌, sym, ap, ◌∙◌}
 use Rattle.vd_ring.specs.declared.frame.Put.{Put}
 use Rattle.vd_packed.specs.laws.Tabling.{tabled_at, tabled_last}
 use Rattle.vd_packed.specs.Tabled.{table_place}

@@ -1,4 +1,4 @@
-use Rattle.std.proofs.Common.{◌≡◌, ◌≤◌, false, drop}
+use Rattle.std.proofs.Common.{◌≡◌, false, drop}
 use Rattle.vd_play.specs.Epochs.{epochs_from}
 use Rattle.vd_runner.specs.Report.{epoch_lines}
 use Rattle.vd_runner.proofs.Midway.{Midway}

@@ -1,4 +1,4 @@
-use Rattle.std.proofs.Common.{arith, ◌∙◌, refl}
+use Rattle.std.proofs.Common.{◌∙◌}
 use Rattle.vd_runner.proofs.Midway.{go_on, broken_off}
 use Rattle.vd_runner.proofs.Lines.{chain_at}
 use Rattle.vd_runner.proofs.writing.put_chains.Goals as goal

@@ -1,4 +1,4 @@
-use Rattle.std.proofs.Common.{◌≡◌, ◌≤◌, drop}
+use Rattle.std.proofs.Common.{◌≡◌, drop}
 use Rattle.vd_bus.specs.Device.{lens_of}
 use Rattle.vd_runner.specs.Report.{chain_lines}
 use Rattle.vd_runner.proofs.Midway.{Midway}

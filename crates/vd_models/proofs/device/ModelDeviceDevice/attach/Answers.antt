@@ -1,12 +1,15 @@
-use Rattle.std.proofs.Common.{arith, rules, ◌≡◌, ◌<◌, false, is_err, refl, sym, ap, ◌∙◌}
+use Rattle.std.proofs.Common.{arith, rules, ◌≡◌, ◌<◌, false, is_err, refl, sym, ap, ◌∙◌, subst}
 use Rattle.circular_buffer.specs.Buffer.{Buffer}
 use Rattle.std.specs.Option.{option_copied}
 use Rattle.vd_bus.specs.Device.{control_settings}
 use Rattle.vd_bus.specs.Pace.{attaches}
 use Rattle.vd_models.specs.declared.device.ModelDevice.{ModelDevice}
+use Rattle.vd_models.specs.declared.serving.Phase.{Phase}
+use Rattle.vd_models.specs.declared.serving.Phase.TheVariants as phase
 use Rattle.vd_models.specs.declared.serving.Session.{Session}
 use Rattle.vd_models.specs.declared.serving.Stage.TheVariants as stage
 use Rattle.vd_models.specs.declared.window.Held.{Held}
+use Rattle.vd_models.specs.Holding.{capacity_of}
 use Rattle.vd_models.proofs.Parties.{starts, begins_paid, attaches_more, ok_of, room_most, room_some, room_all}
 use Rattle.vd_models.proofs.device.ModelDeviceDevice.attach.Goals.{in-Some, in-None}
 use Rattle.vd_models.proofs.device.ModelDeviceDevice.attach.Goals as goal
@@ -20,9 +23,10 @@ returns g c =
     let stands = ok_of c.resume.result _ ok c.resume.ensures.stands in
     let idle = ok_of c.resume.result _ ok c.resume.ensures.begun in
     let events = c.requires.events in
-    let full : 0 < c.in-Some-held.held.capacity = room_some m.held c.in-Some-held.held m.journal.events.room c.in-Some-held.is
-    (omega arith) in
-    let cleared : c.clear.new.self.capacity ≡ c.in-Some-held.held.capacity = ap (λ (z : Buffer Held). z.capacity) c.clear.ensures in
+    let is : m.phase ≡ phase.Free c.in-Free.held = sym c.replace.ensures.value ∙ c.in-Free.is in
+    let full : 0 < c.in-Free.held.capacity = subst (λ (p : Phase _). 0 < capacity_of p) is (room_some m.phase m.journal.events.room
+    (omega arith)) in
+    let cleared : c.clear.new.self.capacity ≡ c.in-Free.held.capacity = ap (λ (z : Buffer Held). z.capacity) c.clear.ensures in
     let session : Session g.row.L-Device.Denot =
     record {
       end = c.resume.new.self;
@@ -34,6 +38,7 @@ returns g c =
             c.taken.result;
       };
       stage = stage.Taking;
+      held = c.clear.new.self;
     } in
     let settings : c.match-control.settings ≡ control_settings (λ
     (z : ModelDevice g.row.L.Denot g.row.L-Driver.Denot g.row.L-Device.Denot g.L.Layout g.L.Driver.DriverEnd g.L.Device.DeviceEnd).
@@ -53,19 +58,15 @@ returns g c =
       attached = cc (c.queue.ensures, c.count.ensures, c.len-at.ensures.value);
       taken = λ w st. c.taken.ensures w (stands w st);
       holds = λ w st fits. record {
-        is_session = session;
-        is_held = c.clear.new.self;
-        at_session = refl;
-        at_held = refl;
-        serves = starts e law c.args.end session c.clear.new.self m.journal.begun w refl st c.requires.still (stands w st) idle
+        serves = starts e law c.args.end session m.journal.begun w refl st c.requires.still (stands w st) idle
             (ok_of c.resume.result _ ok c.resume.ensures.awake) c.len-at.ensures.value
             (c.taken.ensures w (stands w st)) (ap (λ (z : Buffer Held). z.items) c.clear.ensures) (omega arith) (omega
             (arith, c.count.ensures, c.requires.chains)) (omega
             (arith, c.count.ensures, c.requires.few, c.len-at.ensures.value)) m.lens;
-        paid = begins_paid e law c.args.end session c.clear.new.self m.journal.begun w m.counts (attaches m.journal.events.items)
+        paid = begins_paid e law c.args.end session m.journal.begun w m.counts (attaches m.journal.events.items)
             (attaches c.push.new.self.items) st c.requires.still idle c.len-at.ensures.value (c.taken.ensures w (stands w st)) more
             (m.paced c.requires.free);
-        event = omega (arith, events, room_most m.held m.journal.events.room, c.push.ensures.room);
+        event = omega (arith, events, room_most m.phase m.journal.events.room, c.push.ensures.room);
       };
       live = λ d. cc;
       noted = record {
@@ -86,9 +87,9 @@ returns g c =
         room = (
           omega (
             arith,
-            room_most m.held m.journal.events.room,
+            room_most m.phase m.journal.events.room,
             c.push.ensures.room,
-            room_all c.clear.new.self c.push.new.self.room (omega arith),
+            room_all (phase.Serving session) c.push.new.self.room (omega arith),
           ),
           omega arith,
         );

@@ -1,5 +1,6 @@
-use Rattle.std.proofs.Common.{arith, refl, sym, ap, ◌∙◌, Some, length}
+use Rattle.std.proofs.Common.{arith, refl, sym, ap, ◌∙◌, Some}
 use Rattle.vd_bus.specs.Pace.{raised, attaches}
+use Rattle.vd_models.specs.declared.serving.Phase.TheVariants as phase
 use Rattle.vd_models.specs.Serving.{attached_of, state}
 use Rattle.vd_models.proofs.Parties.{opened, not_done, finished_at, looked_at, counted_at, pays, room_most, room_all}
 use Rattle.vd_models.proofs.Stages.{window_some}
@@ -9,14 +10,14 @@ pub returns : goal.returns
 returns g c = λ w holds own.
     let e = g.L.Device.DeviceEnd.device in
     let m = c.args.self.now in
-    let s = c.in-Some.session in
-    let h = c.serve-turn.new.held in
-    let o = opened e m.session m.held m.journal m.counts w s c.in-Some-held.held holds c.in-Some.is c.in-Some-held.is in
-    let t = c.serve-turn.ensures.turn w (record { serves = o.serves; live = not_done m.session s c.in-Some.is c.requires.live }) own in
-    let room = room_all h m.journal.events.room (window_some c.serve-turn.new.session.stage _ h.capacity t.serves.window) in
-    let same = ap Some c.serve-turn.ensures.by ∙ sym (ap attached_of c.in-Some.is) in
-    let paid = pays g.P.Port.port e c.args.port.now c.serve-turn.new.port w (state s c.in-Some-held.held m.journal.begun)
-    (state c.serve-turn.new.session h c.serve-turn.new.begun) c.serve-turn.result s.by c.serve-turn.new.session.by
+    let s = c.in-Serving.session in
+    let s' = c.serve-turn.new.session in
+    let o = opened e m.phase s m.journal m.counts w holds c.in-Serving.is in
+    let t = c.serve-turn.ensures.turn w (record { serves = o.serves; live = not_done m.phase s c.in-Serving.is c.requires.live }) own in
+    let room = room_all (phase.Serving s') m.journal.events.room (window_some s'.stage _ s'.held.capacity t.serves.window) in
+    let same = ap Some c.serve-turn.ensures.by ∙ sym (ap attached_of c.in-Serving.is) in
+    let paid = pays g.P.Port.port e c.args.port.now c.serve-turn.new.port w (state s m.journal.begun)
+    (state s' c.serve-turn.new.begun) c.serve-turn.result s.by s'.by
     (attaches m.journal.events.items) m.counts c.note.new.self c.serve-turn.ensures.by t c.note.ensures.accesses c.note.ensures.heard
     o.serves.serving.before t.serves.serving.before o.paid in
     record {
@@ -25,16 +26,7 @@ returns g c = λ w holds own.
       got = t.got;
       was_next = t.was_next;
       moved = t.moved;
-      holds = record {
-        is_session = c.serve-turn.new.session;
-        is_held = h;
-        at_session = refl;
-        at_held = refl;
-        serves = t.serves;
-        paid =
-            paid;
-        event = holds.event;
-      };
+      holds = record { serves = t.serves; paid = paid; event = o.event };
       served = record {
         events = refl;
         grows = t.begun;
@@ -43,7 +35,7 @@ returns g c = λ w holds own.
         window = refl;
         carried = refl;
         attached = same;
-        room = (omega (arith, room, room_most m.held m.journal.events.room), t.room);
+        room = (omega (arith, room, room_most m.phase m.journal.events.room), t.room);
       };
       grows = t.grows;
       acts = t.acts;

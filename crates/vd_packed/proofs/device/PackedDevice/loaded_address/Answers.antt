@@ -7,7 +7,6 @@ use Rattle.vd_packed_ring.specs.PackedChains.{piece_of}
 use Rattle.vd_packed.specs.declared.device.PackedDevice.{PackedDevice}
 use Rattle.vd_packed.specs.declared.device.DeviceStep.TheVariants as step
 use Rattle.vd_packed.specs.declared.ring_position.RingPosition.{RingPosition}
-use Rattle.vd_packed.specs.Loaded.{MayTake}
 use Rattle.vd_packed.specs.RingPositions.{forward}
 use Rattle.vd_packed.proofs.device.PackedDevice.loaded_address.Goals as goal
 
