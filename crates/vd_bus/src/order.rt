@@ -1,11 +1,11 @@
 //! By what a device is attached to a ring.
 ghost use Rattle.std.specs.Prelude.{◌≡◌};
-ghost use Rattle.vd_bus.specs.Orders.{Terms, mode_of};
+ghost use Rattle.vd_bus.specs.Orders.{mode_of};
 
 use std::marker::Model;
 use vd_model::{Base, Features, Map, Mode};
 
-/// By what a device is attached to a ring. Contracts see what it says.
+/// By what a device is attached to a ring. `Bus::order` alone makes it. Contracts see what it says.
 #[derive(Drop)]
 pub struct Order {
     pub(crate) queue: u32,
@@ -34,30 +34,6 @@ impl Model for Order {
 }
 
 impl Order {
-    /// The order to serve ring `ring` of queue `queue` from `base` on, and to begin `count` chains. The ring has `size`
-    /// places and was made with these features; the map is the one in force.
-    pub fn first(
-        queue: u32,
-        ring: u32,
-        base: Base,
-        count: u32,
-        size: u32,
-        features: Features,
-        map: Map,
-    ) -> Order
-        ensures { result ≡ record { queue = queue; ring = ring; base = base; count = count; size = size; features = features; map = map } }
-    {
-        Order {
-            queue,
-            ring,
-            base,
-            count,
-            size,
-            features,
-            map,
-        }
-    }
-
     /// The queue's number: a data queue's is below 8, the control queue's is 15.
     pub fn queue(&self) -> u32
         ensures { result ≡ self.now.queue }

@@ -1,4 +1,5 @@
 //! The parties over rings of plain words, by single steps.
+mod orders;
 mod pair;
 mod played;
 mod rows;

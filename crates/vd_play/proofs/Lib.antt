@@ -17,3 +17,6 @@ pub mod Lasting
 pub mod Untouched
 pub mod Making
 pub mod Passed
+pub mod Buses
+pub mod Maps
+pub mod Setups

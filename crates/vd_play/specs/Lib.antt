@@ -10,3 +10,4 @@ pub mod Played
 pub mod Orders
 pub mod Prepared
 pub mod Rounds
+pub mod Setup

@@ -2,6 +2,7 @@
 use Rattle.std.specs.Prelude.{◌≡◌, ℕ, true, List, [], length, slice_get, Some, None}
 use Rattle.std.specs.List.{All}
 use Rattle.vd_layout.specs.Layout.{LayoutModel}
+use Rattle.vd_bus.specs.Bus.{is_lawful_base}
 use Rattle.vd_bus.specs.Device.{DeviceParty, IsUnchanged}
 use Rattle.vd_bus.specs.Guest.{GuestParty}
 use Rattle.vd_machine.specs.File.{Plan}
@@ -11,10 +12,11 @@ use Rattle.vd_play.specs.Each.{HasLanes}
 use Rattle.vd_play.specs.Progress.{AllStopped}
 use Rattle.vd_play.specs.Setting.{Setting}
 
--- the layout can make the machine's rings
+-- the layout can make the machine's rings, and the bus takes their bases
 pub record IsOfLayout (l : LayoutModel) (plan : Plan) : Type 0 where
   pub packed : l.packed ≡ plan.packed
   pub lawful : l.lawful_size plan.size ≡ true
+  pub based : (b : ℕ) → l.lawful_base plan.size b ≡ is_lawful_base plan.packed plan.size b
 
 -- it isn't attached, its journal is empty, and it has made no step
 pub record IsEmptyDevice {X C : Type 0} (m : DeviceParty X C) (x : X) : Type 0 where
@@ -52,6 +54,7 @@ pub record IsIdle {D E G X C : Type 0} (s : Setting D E G X C) (bench : Bench G 
 -- each queue of the machine has a ring without chains; its guest holds the driver's end and has loaded the queue's script, its
 -- device's end rests in the lane, and its device's journal is empty and has room for all that the machine orders
 pub record IsPrepared {D E G X C : Type 0} (s : Setting D E G X C) (plan : Plan) (lanes : List (Lane E)) (bench : Bench G X) : Type 0 where
+  pub layout : IsOfLayout s.layout plan
   pub many : length lanes ≡ length plan.queues
   pub parties : HasLanes (length plan.queues) bench
   pub each : AllStopped s plan 0 lanes bench

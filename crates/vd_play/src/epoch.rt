@@ -1,19 +1,24 @@
 //! An epoch's begin: each lane's device is attached to its ring.
 ghost use Rattle.std.specs.Prelude.{◌≡◌, ◌<◌, ◌+◌, true, None, Some, IfErr, IfOk, OnOk, length};
+ghost use Rattle.vd_bus.specs.Bus.{vring_of};
+ghost use Rattle.vd_bus.specs.BusRings.{enable_fault, order_fault, terms};
 ghost use Rattle.vd_bus.specs.Device.{IsAttach, IsRefused};
 ghost use Rattle.vd_machine.specs.File.{view};
 ghost use Rattle.vd_play.specs.Each.{EachLane, HasLanes};
-ghost use Rattle.vd_play.specs.Orders.{pass_order, CanAttach};
+ghost use Rattle.vd_play.specs.Orders.{CanAttach};
 ghost use Rattle.vd_play.specs.Played.{IsCut, KeepsBench, HasNoFault, IsFaultOf, faulty};
 ghost use Rattle.vd_play.specs.Progress.{AllStopped, AllInEpoch, all_steps};
 ghost use Rattle.vd_play.specs.Setting.{setting_of};
+ghost use Rattle.vd_play.specs.Setup.{on, serving, HasBase, IsReady, IsUp, HasRings};
 
 use crate::bench::Bench;
+use crate::calls::{enable, order};
 use crate::floor::{Floor, Lane};
-use crate::order::{chain_count, pass_map, stop_of};
-use vd_bus::{Device, Guest, Order};
-use vd_layout::{DeviceEnd, Layout};
+use crate::order::{chain_count, stop_of};
+use vd_bus::{Bus, Device, Guest};
+use vd_layout::Layout;
 use vd_machine::Machine;
+use vd_uapi::VringState;
 
 /// How a play is cut off.
 #[derive(Copy, Clone, Debug, PartialEq, Eq)]
@@ -22,19 +27,23 @@ pub enum PlayFault {
     Device(u32),
 }
 
-/// Attaches a lane's device to its ring, to begin `count` chains more. A refusal leaves the end in the lane.
+/// Attaches a lane's device to its ring, by an order of the bus to begin `count` chains more. A refusal leaves the end in the
+/// lane.
 fn attach<'a, L: Layout, V: Device<L>>(
-    m: &Machine,
+    bus: &mut Bus,
     queue: u32,
     count: u32,
     lane: &mut Lane<L::Device>,
     device: &'a mut V,
 ) -> Result<(), PlayFault>
     requires can { CanAttach L.Device.device V.party queue count lane.old.still device.old }
+    requires enabled { enable_fault bus.old (on queue) ≡ None }
+    requires ordered { order_fault (serving bus.old queue) queue ≡ None }
+    requires base { HasBase L.Device.device lane.old.still (vring_of (serving bus.old queue) queue) }
+    ensures bus { bus.new ≡ serving bus.old queue }
     ensures words { lane.new.words ≡ lane.old.words }
     ensures ok { IfOk result (λ _. (lane.new.still ≡ None) × ((end : _) → lane.old.still ≡ Some end
-        → IsAttach L.Device.device V.party (pass_order L.Device.device (view m.now) queue count end) None
-        end device.old device.new)) }
+        → IsAttach L.Device.device V.party (terms (serving bus.old queue) queue count) None end device.old device.new)) }
     ensures carried { V.party.carried device.new ≡ V.party.carried device.old }
     ensures faults { OnOk result (V.party.faults device.new ≡ V.party.faults device.old) }
     ensures err { IfErr result (λ f. (f ≡ PlayFault.Device queue) × (lane.new.still ≡ lane.old.still)
@@ -43,8 +52,14 @@ fn attach<'a, L: Layout, V: Device<L>>(
     let Some(end) = lane.still.take() else {
         unreachable!()
     };
-    let map = pass_map(m.regions.as_slice());
-    let order = Order::first(queue, queue, end.base(), count, m.size, m.features, map);
+    enable(
+        bus,
+        &VringState {
+            index: queue,
+            num: 1,
+        },
+    );
+    let order = order(bus, queue, count);
     // A lifetime of its own would have to be shown to be outlived by V.
     let control: Option<&'a V> = None;
     match device.attach(&order, end, control) {
@@ -60,15 +75,18 @@ fn attach<'a, L: Layout, V: Device<L>>(
 pub(crate) fn attach_all<L: Layout, G: Guest<L>, V: Device<L>>(
     m: &Machine,
     epoch: usize,
+    bus: &mut Bus,
     floor: &mut Floor<L>,
     bench: &mut Bench<G, V>,
 ) -> Result<(), PlayFault>
     requires many { length floor.old.lanes.items ≡ length m.now.queues }
     requires parties { HasLanes (length m.now.queues) bench.old }
     requires epoch { epoch < length m.now.switches + 2 }
+    requires ready { IsReady L.Device.device (view m.now) floor.old.lanes.items bus.old }
     requires lanes { AllStopped (setting_of L.Driver.driver L.Device.device L.layout G.party V.party) (view m.now) epoch
         floor.old.lanes.items bench.old }
     ensures many { length floor.new.lanes.items ≡ length floor.old.lanes.items }
+    ensures up { OnOk result (IsUp (view m.now) bus.new × HasRings (view m.now) bus.new) }
     ensures keeps { KeepsBench V.party (length m.now.queues) bench.old bench.new }
     ensures lanes { IfOk result (λ _. AllInEpoch (setting_of L.Driver.driver L.Device.device L.layout G.party V.party) (view m.now)
         true epoch 0 floor.new.lanes.items bench.new) }
@@ -85,7 +103,7 @@ pub(crate) fn attach_all<L: Layout, G: Guest<L>, V: Device<L>>(
         let stop = stop_of(m.switches.as_slice(), epoch, chain_count(runs));
         let device = &mut bench.devices[i];
         let count = stop - device.journal().begun.len() as u32;
-        attach::<L, V>(m, i as u32, count, &mut floor.lanes[i], device)?;
+        attach::<L, V>(bus, i as u32, count, &mut floor.lanes[i], device)?;
     }
     Ok(())
 }

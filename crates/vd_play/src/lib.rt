@@ -2,14 +2,18 @@
 #![tactic(auto)]
 
 mod bench;
+mod calls;
 mod draws;
 mod epoch;
 mod floor;
 mod lane;
+mod messages;
 mod order;
 mod playing;
 mod preparing;
+mod ring_addr;
 mod rounds;
+mod setup;
 mod turn;
 
 pub use bench::Bench;

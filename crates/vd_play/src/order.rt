@@ -1,27 +1,10 @@
-//! By what a lane's device is attached, and to how many chains.
-ghost use Rattle.std.specs.Prelude.{◌≡◌, ◌≤◌, ◌<◌, length, map, min, min};
+//! How many chains a device is attached to begin.
+ghost use Rattle.std.specs.Prelude.{◌≡◌, ◌≤◌, min};
 ghost use Rattle.vd_bus.specs.Scripts.{run_count};
-ghost use Rattle.vd_play.specs.Journal.{own_address};
 ghost use Rattle.vd_play.specs.Orders.{stop_of};
 
-use vd_machine::{Region, Switch};
-use vd_model::{Map, Mapping, Run};
-
-/// The map of the mode pass: each region at its own address, in file order.
-pub(crate) fn pass_map(regions: &[Region]) -> Map
-    requires { length regions.now ≤ Map.MOST }
-    ensures { result ≡ map own_address regions.now }
-{
-    let mut map = Map::new();
-    for region in regions {
-        map.push(Mapping {
-            iova: region.addr,
-            size: region.size,
-            guest: region.addr,
-        });
-    }
-    map
-}
+use vd_machine::Switch;
+use vd_model::Run;
 
 /// How many chains the runs have.
 pub(crate) fn chain_count(runs: &[Run]) -> u32

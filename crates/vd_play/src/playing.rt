@@ -13,6 +13,7 @@ use crate::draws::Draws;
 use crate::epoch::{PlayFault, attach_all};
 use crate::floor::Floor;
 use crate::rounds::{drain, run_epoch};
+use crate::setup::{bring_up, set_up};
 use vd_bus::{Device, Guest};
 use vd_layout::Layout;
 use vd_machine::Machine;
@@ -54,9 +55,11 @@ pub fn play_machine<L: Layout, G: Guest<L>, V: Device<L>>(
 {
     let mut floor = floor;
     let mut draws = Draws::new(seed);
+    let mut bus = bring_up(m);
     let mut made = 0;
     for epoch in 0..m.switches.len() + 2 {
-        attach_all::<L, G, V>(m, epoch, &mut floor, bench)?;
+        set_up(m, epoch, &mut bus, floor.lanes.as_slice());
+        attach_all::<L, G, V>(m, epoch, &mut bus, &mut floor, bench)?;
         made += run_epoch::<L, G, V>(&mut floor, bench, &mut draws);
     }
     made += drain::<L, G, V>(&mut floor, bench, &mut draws);

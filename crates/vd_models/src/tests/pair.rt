@@ -2,13 +2,14 @@
 ghost use Rattle.std.specs.Prelude.{◌≡◌, ◌≤◌, None};
 ghost use Rattle.vd_layout.specs.Layout.{CanMake};
 
+use super::orders::order_of;
 use super::scripts::{fits, script_of};
 use super::steps::{step_device, step_guest};
 use std::alloc::{AllocError, Global};
 use std::marker::Model;
-use vd_bus::{Device, Guest, Journal, Order};
+use vd_bus::{Device, Guest, Journal};
 use vd_layout::{DeviceEnd, Layout, Move};
-use vd_model::{Base, Chain, Features, Map, Return};
+use vd_model::{Base, Chain, Features, Return};
 use vd_words::PlainWords;
 
 /// The guest holds the driver's end. The device holds the other end while it is attached; else it lies beside it.
@@ -99,8 +100,12 @@ impl<L: Layout, G: Guest<L>, V: Device<L>> Pair<L, G, V> {
         let Some(end) = self.end.take() else {
             return None;
         };
-        let base = end.base();
-        let order = Order::first(0, ring, base, count, end.size(), end.features(), Map::new());
+        let base = end.base().0;
+        let packed = L::fresh_base().0 != 0;
+        let Ok(order) = order_of(packed, end.size(), end.features(), ring, base, count) else {
+            self.end = Some(end);
+            return None;
+        };
         let control: Option<&'a V> = None;
         match self.device.attach(&order, end, control) {
             Ok(()) => {

@@ -4,6 +4,7 @@ use Rattle.vd_play.specs.Each.{EachLane, Stage, HasLanes}
 use Rattle.vd_play.specs.Played.{KeepsBench, HasNoFault}
 use Rattle.vd_play.specs.Progress.{InEpoch, Stopped, all_steps}
 use Rattle.vd_play.specs.Setting.{setting_of}
+use Rattle.vd_play.specs.Setup.{IsReady}
 use Rattle.vd_play.proofs.epoch.attach_all.Given as goal
 
 abbrev pub invariant-loop-i : goal.invariant-loop-i
@@ -17,6 +18,7 @@ invariant-loop-i g l = record {
       (view l.m) q true l.epoch 0 a b x)
       (λ q a b x. Stopped (setting_of g.L.Driver.DriverEnd.driver g.L.Device.DeviceEnd.device g.L.Layout.layout g.G.Guest.party
       g.V.Device.party) (view l.m) q l.epoch a b x)) l.floor.lanes.items l.bench.guests.items l.bench.devices.items;
+  ready : IsReady g.L.Device.DeviceEnd.device (view l.m) l.floor.lanes.items l.bus;
   counted : all_steps (setting_of g.L.Driver.DriverEnd.driver g.L.Device.DeviceEnd.device g.L.Layout.layout g.G.Guest.party
       g.V.Device.party) l.bench ≡ all_steps
       (setting_of g.L.Driver.DriverEnd.driver g.L.Device.DeviceEnd.device g.L.Layout.layout g.G.Guest.party g.V.Device.party)

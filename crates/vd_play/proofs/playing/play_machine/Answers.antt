@@ -1,4 +1,4 @@
-use Rattle.std.proofs.Common.{◌≡◌, ◌+◌, ◌≤◌, ℕ, false, length, map, arith, sym, ap, refl, subst, ◌∙◌}
+use Rattle.std.proofs.Common.{◌≡◌, ◌+◌, ◌≤◌, ℕ, false, List, length, map, arith, sym, ap, refl, subst, ◌∙◌}
 use Rattle.vd_machine.specs.File.{view, Plan}
 use Rattle.vd_machine.proofs.Facts.{one_queue}
 use Rattle.vd_play.specs.declared.epoch.PlayFault.{PlayFault}
@@ -6,7 +6,10 @@ use Rattle.vd_play.specs.Each.{HasLanes}
 use Rattle.vd_play.specs.Played.{KeepsBench, IsFaultOf, IsPlayed, IsCut, AllCut, faulty}
 use Rattle.vd_play.specs.Progress.{AllStopped, all_steps, most_steps}
 use Rattle.vd_play.specs.Rounds.{AllDone}
+use Rattle.vd_play.specs.declared.floor.Lane.{Lane}
 use Rattle.vd_play.specs.Setting.{setting_of}
+use Rattle.vd_play.specs.Setup.{AllServe}
+use Rattle.vd_play.proofs.Setups.{still_serve}
 use Rattle.vd_play.proofs.Benches.{keeps_none, keeps_through, lanes_kept, fault_later, same_many}
 use Rattle.vd_play.proofs.Cut.{if_err_by, if_err_any}
 use Rattle.vd_play.proofs.Each.{each_queue}
@@ -26,8 +29,26 @@ loop-epoch-init g c = record {
     sum_none g.G.Guest.party.accesses c.args.bench.now.guests.items c.requires.idle.guests,
     sum_none g.V.Device.party.accesses c.args.bench.now.devices.items c.requires.idle.devices,
   );
+  before = record {
+    rings = c.bring_up-bus.ensures.rings;
+    first = λ e. c.bring_up-bus.ensures.brought;
+    later = λ below. absurd (omega (arith, below));
+  };
   each = c.requires.each;
 }
+
+pub set_up-requires-clause-ends : goal.set_up-requires-clause-ends
+set_up-requires-clause-ends g c =
+    subst (λ (lanes : List (Lane _)). AllServe g.L.Device.DeviceEnd.device (view c.args.m.now) lanes) (sym c.as_slice.ensures.value)
+    (still_serve (setting_of g.L.Driver.DriverEnd.driver g.L.Device.DeviceEnd.device g.L.Layout.layout g.G.Guest.party g.V.Device.party)
+    (record { layout = g.met.L.Layout.lawful; guest = g.met.G.Guest.lawful; party = g.met.V.Device.lawful })
+    (view c.args.m.now) c.loop-epoch.epoch (length c.args.m.now.queues) c.loop-epoch.floor.lanes.items c.loop-epoch.bench
+    c.requires.layout c.loop-epoch.invariant.many c.loop-epoch.invariant.parties c.loop-epoch.invariant.each)
+
+pub returns-in_err-attach_all-clause-keeps : goal.returns-in_err-attach_all-clause-keeps
+returns-in_err-attach_all-clause-keeps g c =
+    keeps_through g.V.Device.party (length c.args.m.now.queues) c.args.bench.now c.loop-epoch.bench c.attach_all.new.bench
+    c.loop-epoch.invariant.keeps c.attach_all.ensures.keeps
 
 pub returns-in_err-attach_all-clause-fault : goal.returns-in_err-attach_all-clause-fault
 returns-in_err-attach_all-clause-fault g c =
@@ -81,6 +102,11 @@ loop-epoch-preserved g c =
       keeps = keeps_through m n c.args.bench.now c.loop-epoch.bench c.run_epoch-made.new.bench c.loop-epoch.invariant.keeps both;
       faults = c.run_epoch-made.ensures.faults ∙ c.in_ok-attach_all.ensures.faults ∙ c.loop-epoch.invariant.faults;
       counted = omega (arith, ran.1, c.in_ok-attach_all.ensures.counted, c.loop-epoch.invariant.counted);
+      before = record {
+        rings = c.in_ok-attach_all.ensures.up.1;
+        first = λ e. absurd (omega (arith, e));
+        later = λ below. c.in_ok-attach_all.ensures.up.0;
+      };
       each = ran.0;
     }
 

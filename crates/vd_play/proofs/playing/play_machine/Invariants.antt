@@ -4,6 +4,7 @@ use Rattle.vd_play.specs.Each.{HasLanes}
 use Rattle.vd_play.specs.Played.{KeepsBench, HasNoFault}
 use Rattle.vd_play.specs.Progress.{AllStopped, all_steps}
 use Rattle.vd_play.specs.Setting.{setting_of}
+use Rattle.vd_play.specs.Setup.{IsBefore}
 use Rattle.vd_play.proofs.playing.play_machine.Given as goal
 
 abbrev pub invariant-loop-epoch : goal.invariant-loop-epoch
@@ -15,6 +16,7 @@ invariant-loop-epoch g l = record {
   faults : HasNoFault g.V.Device.party l.initial.bench l.bench;
   counted : all_steps (setting_of g.L.Driver.DriverEnd.driver g.L.Device.DeviceEnd.device g.L.Layout.layout g.G.Guest.party
       g.V.Device.party) l.bench ≡ l.made;
+  before : IsBefore (view l.m) l.epoch l.bus;
   each : AllStopped (setting_of g.L.Driver.DriverEnd.driver g.L.Device.DeviceEnd.device g.L.Layout.layout g.G.Guest.party
       g.V.Device.party) (view l.m) l.epoch l.floor.lanes.items l.bench;
 }

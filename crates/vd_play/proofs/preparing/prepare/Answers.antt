@@ -137,6 +137,7 @@ returns-clause-ok g c =
     let v = c.loop-i.invariant in
     let end : c.loop-i.i ≡ length c.args.m.now.queues = omega arith in
     record {
+      layout = c.requires.layout;
       many = v.many ∙ end;
       parties = v.parties;
       each = v.each;

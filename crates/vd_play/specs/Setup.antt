@@ -1,0 +1,129 @@
+-- How the bus of a machine stands.
+use Rattle.std.specs.Prelude.{◌≡◌, ℕ, zero, suc, ◌+◌, ◌-◌, ◌*◌, ◌/◌, ◌^◌, ◌<◌, Bool, true, false, if◌then◌else◌, List, [], length, slice_get, slice_index_or, Option, Some}
+use Rattle.vd_model.specs.declared.map.Mapping.{Mapping}
+use Rattle.vd_uapi.specs.declared.vring_addr.VringAddr.{VringAddr}
+use Rattle.vd_uapi.specs.declared.vring_state.VringState.{VringState}
+use Rattle.vd_uapi.specs.declared.message.Msg.{Msg}
+use Rattle.vd_layout.specs.Device.{DeviceModel, IsStill}
+use Rattle.vd_bus.specs.declared.bus.vring.Vring.{Vring}
+use Rattle.vd_bus.specs.Bus.{BusState, fresh_vring, is_lawful_base}
+use Rattle.vd_bus.specs.BusRings.{after_enable}
+use Rattle.vd_bus.specs.BusStatus.{feature_bits, is_running}
+use Rattle.vd_machine.specs.File.{Plan}
+use Rattle.vd_machine.specs.declared.regions.Region.{Region}
+use Rattle.vd_play.specs.declared.floor.Lane.{Lane}
+use Rattle.vd_play.specs.Journal.{pass_map}
+
+-- ---- where a ring lies
+
+-- the first word of the device's area of a ring with n places: the driver's area, after the 2n words of descriptors, has one word, or
+-- split the flags, the index, n entries and the event in four lanes a word (VIRTIO 1.2, 2.7.6 and 2.8.10)
+abbrev pub device_area : Bool → ℕ → ℕ
+device_area packed n = if packed then 2 * n + 1 else 2 * n + (n + 6) / 4
+
+-- ring r lies at r * 2^32, its areas in a row
+abbrev pub ring_addr : Bool → ℕ → ℕ → ℕ → VringAddr
+ring_addr packed n queue ring = record {
+  index = queue;
+  flags = 0;
+  desc = ring * 2 ^ 32;
+  used = ring * 2 ^ 32 + 8 * device_area packed n;
+  avail = ring * 2 ^ 32 + 8 * (2 * n);
+  log = 0;
+}
+
+-- ---- the bus
+
+-- the last iova: a region that lies outside the machine's own range of iovas is passed too
+abbrev pub last_iova : ℕ
+last_iova = 2 ^ 63 - 1
+
+-- the bus of the machine at a status, with all its features accepted
+abbrev pub set_up : Plan → ℕ → Bool → List Vring → List Mapping → BusState
+set_up plan status suspended vrings map = record {
+  packed = plan.packed;
+  size_max = plan.size;
+  offered = plan.features;
+  queues = length plan.queues;
+  control = false;
+  first = 0;
+  last = last_iova;
+  status = status;
+  accepted = Some (feature_bits plan.packed plan.features);
+  suspended = suspended;
+  vrings = vrings;
+  map = map;
+}
+
+abbrev pub with_vrings : BusState → List Vring → BusState
+with_vrings b vs = record b { vrings = vs }
+
+abbrev pub with_map : BusState → List Mapping → BusState
+with_map b ms = record b { map = ms }
+
+-- the machine's bus, whose rings and map may be set: the device doesn't run yet, or is suspended
+pub record Stands (plan : Plan) (b : BusState) : Type 0 where
+  pub is : b ≡ set_up plan b.status b.suspended b.vrings b.map
+  pub still : is_running b ≡ false
+
+-- at FEATURES_OK, before the messages
+abbrev pub IsBrought : Plan → BusState → Type 0
+IsBrought plan b = b ≡ set_up plan 11 false b.vrings []
+
+-- at DRIVER_OK, with the map of the mode pass
+abbrev pub IsUp : Plan → BusState → Type 0
+IsUp plan b = b ≡ set_up plan 15 false b.vrings (pass_map plan)
+
+abbrev pub vring_at : Plan → BusState → ℕ → Vring
+vring_at plan b q = slice_index_or b.vrings q (fresh_vring plan.packed)
+
+-- a queue's ring is the guest's, which has its number
+pub record IsRing (plan : Plan) (q : ℕ) (v : Vring) : Type 0 where
+  pub num : v.num ≡ plan.size
+  pub addr : v.addr ≡ Some (ring_addr plan.packed plan.size q q)
+
+pub record HasRings (plan : Plan) (b : BusState) : Type 0 where
+  pub many : length b.vrings ≡ length plan.queues
+  pub each : (q : ℕ) → q < length plan.queues → IsRing plan q (vring_at plan b q)
+
+-- the bus as it is before epoch k, and before it is set up for it
+pub record IsBefore (plan : Plan) (k : ℕ) (b : BusState) : Type 0 where
+  pub rings : HasRings plan b
+  pub first : k ≡ 0 → IsBrought plan b
+  pub later : 0 < k → IsUp plan b
+
+-- queue q is enabled
+abbrev pub on : ℕ → VringState
+on q = record { index = q; num = 1 }
+
+abbrev pub serving : BusState → ℕ → BusState
+serving b q = after_enable b (on q)
+
+-- ---- the map
+
+-- an address message on a region at its own address
+abbrev pub region_message : ℕ → Region → Msg
+region_message kind r = record { asid = 0; iova = r.addr; size = r.size; uaddr = r.addr; perm = 3; kind = kind }
+
+-- ---- the ends that lanes keep
+
+-- an end that rests or is fresh, whose base the bus takes
+pub record CanServe {E : Type 0} (e : DeviceModel E) (plan : Plan) (end : E) : Type 0 where
+  pub still : IsStill e end
+  pub lawful : is_lawful_base plan.packed plan.size (e.base end) ≡ true
+
+abbrev pub AllServe : {E : Type 0} → DeviceModel E → Plan → List (Lane E) → Type 0
+AllServe e plan lanes = (q : ℕ) (lane : Lane _) (end : _) → slice_get lanes q ≡ Some lane → lane.still ≡ Some end → CanServe e plan end
+
+-- the base of a queue is that of its lane's end
+abbrev pub HasBase : {E : Type 0} → DeviceModel E → Option E → Vring → Type 0
+HasBase e still v = (end : _) → still ≡ Some end → v.base ≡ e.base end
+
+abbrev pub HasBases : {E : Type 0} → DeviceModel E → Plan → List (Lane E) → BusState → Type 0
+HasBases e plan lanes b = (q : ℕ) (lane : Lane _) → slice_get lanes q ≡ Some lane → HasBase e lane.still (vring_at plan b q)
+
+-- the bus as it is set up for an epoch: each ring is served from where its end rests
+pub record IsReady {E : Type 0} (e : DeviceModel E) (plan : Plan) (lanes : List (Lane E)) (b : BusState) : Type 0 where
+  pub up : IsUp plan b
+  pub rings : HasRings plan b
+  pub bases : HasBases e plan lanes b

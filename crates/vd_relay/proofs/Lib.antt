@@ -1,0 +1,11 @@
+pub mod Translation
+pub mod Shifts
+pub mod Ties
+pub mod Calm
+pub mod Ops
+pub mod GuestGoing
+pub mod Guests
+pub mod ShadowGoing
+pub mod Shadows
+pub mod Steps
+pub mod Begins

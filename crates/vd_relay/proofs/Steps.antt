@@ -1,0 +1,216 @@
+-- One step of a relay, from the access that it makes and from how that is counted.
+use Rattle.std.proofs.Common.{◌≡◌, ◌≢◌, ◌⊎◌, ◌↔◌, ℕ, ◌+◌, ◌*◌, ◌<◌, ◌≤◌, Bool, true, false, IsTrue, refl, sym, ◌∙◌, ap, subst, arith, inl, inr}
+use Rattle.vd_words.specs.Model.{PortModel}
+use Rattle.vd_ring.specs.declared.driver.DriverView.{DriverView}
+use Rattle.vd_ring.specs.declared.device.DeviceView.{DeviceView}
+use Rattle.vd_layout.specs.Driver.{DriverModel}
+use Rattle.vd_layout.specs.Device.{DeviceModel}
+use Rattle.vd_layout.specs.declared.moves.Move.{Move}
+use Rattle.vd_layout.specs.declared.moves.Move.TheVariants as move
+use Rattle.vd_relay.specs.declared.counts.Counts.{Counts}
+use Rattle.vd_relay.specs.declared.counts.Turn.{Turn}
+use Rattle.vd_relay.specs.declared.counts.Turn.TheVariants.{Worked, Handled, Woke, Slept, Again}
+use Rattle.vd_relay.specs.declared.state.State.{State}
+use Rattle.vd_relay.specs.Pace.{last_count, raised, counted, handled, woke, move_of, guest_handled, shadow_handled, KeepsPace}
+use Rattle.vd_relay.specs.Tie.{Start}
+use Rattle.vd_relay.specs.Relay.{IsKept, IsFinished, GuestTurn, ShadowTurn, OnGuest, OnShadow, owes, unless}
+
+-- ---- from before the operation was begun
+
+module _ {P E D : Type 0} (port : PortModel P) (e : DeviceModel E) (d : DriverModel D) (z : Start) (p q : P) (r u r' : State E D)
+    (w : DeviceView) (v : DriverView) (t : Turn) where
+  pub guest_from : owes e d u w v ≤ owes e d r w v → GuestTurn port e d z p q u r' w v t → GuestTurn port e d z p q r r' w v t
+  guest_from less h = record {
+    op = h.op;
+    access = h.access;
+    got = h.got;
+    was_next = h.was_next;
+    moved = h.moved;
+    stands = h.stands;
+    bag = h.bag;
+    handled = h.handled;
+    woke = h.woke;
+    slept = h.slept;
+    once = h.once;
+    live = h.live;
+    paid = omega (arith, h.paid, less);
+  }
+
+  same_finished : IsKept r u → IsFinished u w v ↔ IsFinished r w v
+  same_finished k = ((λ f. (sym k.0 ∙ f.0, omega (arith, f.1, k.1), f.2)), λ f. (k.0 ∙ f.0, omega (arith, f.1, k.1), f.2))
+
+  pub shadow_from : owes e d u w v ≤ owes e d r w v → IsKept r u → ShadowTurn port e d z p q u r' w v t
+      → ShadowTurn port e d z p q r r' w v t
+  shadow_from less k h = record {
+    op = h.op;
+    access = h.access;
+    got = h.got;
+    was_next = h.was_next;
+    moved = h.moved;
+    stands = h.stands;
+    handled = h.handled;
+    woke = h.woke;
+    slept = h.slept;
+    again = (
+      (λ i. let x = h.again.0 i in (x.0, sym k.0 ∙ x.1, λ f. x.2 ((same_finished k).1 f))),
+      λ x. h.again.1 (x.0, k.0 ∙ x.1, λ f. x.2 ((same_finished k).0 f)),
+    );
+    live = h.live;
+    paid = omega (arith, h.paid, less);
+  }
+
+-- ---- counts
+
+raised_small : (k n : ℕ) → raised k n < last_count → raised k n ≡ n + k
+raised_small k n h = omega arith
+
+pub paces : (c c' : Counts) (t : Turn) (owed owed' : ℕ) → c'.accesses ≡ raised (counted t) c.accesses
+    → c'.handled ≡ raised (handled t) c.handled
+    → c'.heard ≡ raised (woke t) c.heard → owed' + counted t ≤ owed + 64 * (handled t + woke t) → KeepsPace c owed → KeepsPace c' owed'
+paces c c' t owed owed' more handles hears paid pace = λ few less quiet.
+    let a : c'.accesses ≡ c.accesses + counted t = more ∙ raised_small (counted t) c.accesses (omega (arith, more)) in
+    let b : c'.handled ≡ c.handled + handled t = handles ∙ raised_small (handled t) c.handled (omega (arith, handles)) in
+    let h : c'.heard ≡ c.heard + woke t = hears ∙ raised_small (woke t) c.heard (omega (arith, hears)) in
+    omega (arith, paid, a, b, h, pace (omega arith) (omega arith) (omega arith))
+
+pub pace_less : (c : Counts) (owed : ℕ) → KeepsPace c owed → KeepsPace c 0
+pace_less c owed pace = λ few less quiet. omega (arith, pace few less quiet)
+
+-- ---- what the step was
+
+abbrev is_slept : Turn → Bool
+is_slept Slept = true
+is_slept Worked = false
+is_slept Handled = false
+is_slept Woke = false
+is_slept Again = false
+
+abbrev is_left_out : Turn → Bool
+is_left_out Slept = true
+is_left_out Again = true
+is_left_out Worked = false
+is_left_out Handled = false
+is_left_out Woke = false
+
+slept_exact : (t : Turn) → IsTrue (is_slept t) ↔ (t ≡ Slept)
+slept_exact Slept = ((λ x. refl), λ x. refl)
+slept_exact Again = ((λ x. absurd (cc x)), λ x. absurd (cc x))
+slept_exact Worked = ((λ x. absurd (cc x)), λ x. absurd (cc x))
+slept_exact Handled = ((λ x. absurd (cc x)), λ x. absurd (cc x))
+slept_exact Woke = ((λ x. absurd (cc x)), λ x. absurd (cc x))
+
+slept_counts : (t : Turn) → t ≢ Again → counted t ≡ unless (is_slept t)
+slept_counts Slept n = refl
+slept_counts Again n = absurd (n refl)
+slept_counts Worked n = refl
+slept_counts Handled n = refl
+slept_counts Woke n = refl
+
+left_counts : (t : Turn) → counted t ≡ unless (is_left_out t)
+left_counts Slept = refl
+left_counts Again = refl
+left_counts Worked = refl
+left_counts Handled = refl
+left_counts Woke = refl
+
+left_exact : (t : Turn) → IsTrue (is_left_out t) ↔ ((t ≡ Slept) ⊎ (t ≡ Again))
+left_exact Slept = ((λ x. inl refl), λ x. refl)
+left_exact Again = ((λ x. inr refl), λ x. refl)
+left_exact Worked = ((λ x. absurd (cc x)), λ x. elim x [ inl y ↦ absurd (cc y) | inr y ↦ absurd (cc y) ])
+left_exact Handled = ((λ x. absurd (cc x)), λ x. elim x [ inl y ↦ absurd (cc y) | inr y ↦ absurd (cc y) ])
+left_exact Woke = ((λ x. absurd (cc x)), λ x. elim x [ inl y ↦ absurd (cc y) | inr y ↦ absurd (cc y) ])
+
+pub looked_is : (m : Move) (t : Turn) (b : Bool) → m ≡ move_of t b → (m ≡ move.Looked) ↔ (t ≡ Slept)
+looked_is m Slept b is = ((λ x. refl), λ x. is)
+looked_is m Again true is = ((λ x. absurd (cc (is, x))), λ x. absurd (cc x))
+looked_is m Again false is = ((λ x. absurd (cc (is, x))), λ x. absurd (cc x))
+looked_is m Worked true is = ((λ x. absurd (cc (is, x))), λ x. absurd (cc x))
+looked_is m Worked false is = ((λ x. absurd (cc (is, x))), λ x. absurd (cc x))
+looked_is m Handled true is = ((λ x. absurd (cc (is, x))), λ x. absurd (cc x))
+looked_is m Handled false is = ((λ x. absurd (cc (is, x))), λ x. absurd (cc x))
+looked_is m Woke true is = ((λ x. absurd (cc (is, x))), λ x. absurd (cc x))
+looked_is m Woke false is = ((λ x. absurd (cc (is, x))), λ x. absurd (cc x))
+
+pub finished_is : (m : Move) (t : Turn) (b : Bool) → m ≡ move_of t b → (t ≡ Slept → b ≡ false) → (m ≡ move.Finished) ↔ (b ≡ true)
+finished_is m Slept true is live = absurd (cc (live refl))
+finished_is m Slept false is live = ((λ x. absurd (cc (is, x))), λ x. absurd (cc x))
+finished_is m Again true is live = ((λ x. refl), λ x. is)
+finished_is m Again false is live = ((λ x. absurd (cc (is, x))), λ x. absurd (cc x))
+finished_is m Worked true is live = ((λ x. refl), λ x. is)
+finished_is m Worked false is live = ((λ x. absurd (cc (is, x))), λ x. absurd (cc x))
+finished_is m Handled true is live = ((λ x. refl), λ x. is)
+finished_is m Handled false is live = ((λ x. absurd (cc (is, x))), λ x. absurd (cc x))
+finished_is m Woke true is live = ((λ x. refl), λ x. is)
+finished_is m Woke false is live = ((λ x. absurd (cc (is, x))), λ x. absurd (cc x))
+
+pub finished_at : (m : Move) (t : Turn) (b c : Bool) → m ≡ move_of t b → b ≡ c → (t ≡ Slept → c ≡ false) → (m ≡ move.Finished) ↔ (c ≡ true)
+finished_at m t b c is same live = subst (λ x. (m ≡ move.Finished) ↔ (x ≡ true)) same (finished_is m t b is (λ s. same ∙ live s))
+
+both : {X Y Z : Type 0} → X ↔ Y → Y ↔ Z → X ↔ Z
+both f g = ((λ x. g.0 (f.0 x)), λ y. f.1 (g.1 y))
+
+back : {X Y : Type 0} → X ↔ Y → Y ↔ X
+back f = (f.1, f.0)
+
+-- how the counts went up
+pub record Noted (c c' : Counts) (t : Turn) : Type 0 where
+  pub accesses : c'.accesses ≡ raised (counted t) c.accesses
+  pub handled : c'.handled ≡ raised (Rattle.vd_relay.specs.Pace.handled t) c.handled
+  pub heard : c'.heard ≡ raised (woke t) c.heard
+
+module _ {P E D : Type 0} (port : PortModel P) (e : DeviceModel E) (d : DriverModel D) (z : Start) (p q : P) (r r' : State E D)
+    (c c' : Counts)
+    (w : DeviceView) (v : DriverView) (t : Turn) (said : Move) (b : Bool) where
+  pub on_guest : said ≡ move_of t b → Noted c c' t → KeepsPace c (owes e d r w v) → GuestTurn port e d z p q r r' w v t
+      → OnGuest port e d z p q r r' c c' w v said
+  on_guest is n pace h = record {
+    op = h.op;
+    access = h.access;
+    got = h.got;
+    was_next = h.was_next;
+    moved = h.moved;
+    holds = record {
+      stands = h.stands;
+      pace = paces c c' t (owes e d r w v) (owes e d r' (e.side.after w h.op h.access h.got) v) n.accesses n.handled n.heard h.paid pace;
+    };
+    bag = h.bag;
+    looked = both (looked_is said t b is) h.slept;
+    slept = is_slept t;
+    asleep = both (slept_exact t) (back (looked_is said t b is));
+    counts = record {
+      accesses = n.accesses ∙ ap (λ k. raised k c.accesses) (slept_counts t h.once);
+      handled = n.handled ∙ ap (λ k. raised k c.handled) h.handled;
+      heard = n.heard ∙ ap (λ k. raised k c.heard) h.woke;
+    };
+  }
+
+  pub on_shadow : said ≡ move_of t b → Noted c c' t → KeepsPace c (owes e d r w v) → ShadowTurn port e d z p q r r' w v t
+      → OnShadow port e d z p q r r' c c' w v said
+  on_shadow is n pace h = record {
+    op = h.op;
+    access = h.access;
+    got = h.got;
+    was_next = h.was_next;
+    moved = h.moved;
+    holds = record {
+      stands = h.stands;
+      pace = paces c c' t (owes e d r w v) (owes e d r' w (d.side.after v h.op h.access h.got)) n.accesses n.handled n.heard h.paid pace;
+    };
+    looked = both (looked_is said t b is) h.slept;
+    left_out = is_left_out t;
+    uncounted = (
+      (λ x. elim ((left_exact t).0 x) [
+        | inl y ↦ inl ((looked_is said t b is).1 y)
+        | inr y ↦ inr (h.again.0 y)
+      ]),
+      λ x. (left_exact t).1 (elim x [
+        | inl y ↦ inl ((looked_is said t b is).0 y)
+        | inr y ↦ inr (h.again.1 y)
+      ]),
+    );
+    counts = record {
+      accesses = n.accesses ∙ ap (λ k. raised k c.accesses) (left_counts t);
+      handled = n.handled ∙ ap (λ k. raised k c.handled) h.handled;
+      heard = n.heard ∙ ap (λ k. raised k c.heard) h.woke;
+    };
+  }

@@ -1,0 +1,41 @@
+use Rattle.std.proofs.Common.{inl, inr}
+use Rattle.vd_relay.proofs.Steps.{Noted, on_guest, on_shadow, finished_at, pace_less}
+use Rattle.vd_relay.proofs.relay.Relay.step.Goals as goal
+
+pub returns-clause-step : goal.returns-clause-step
+returns-clause-step g c = λ z w v h is own other.
+    let e = g.L.Device.DeviceEnd.device in
+    let d = g.L.Driver.DriverEnd.driver in
+    let m = c.make_turn-turn in
+    let t = m.result in
+    let said = c.move_of.ensures in
+    let b = c.is_rested.result in
+    let n : Noted c.args.self.now.counts c.note.new.self t = record {
+      accesses = c.note.ensures.accesses;
+      handled = c.note.ensures.handled;
+      heard = c.note.ensures.heard;
+    } in
+    elim (m.ensures.made z w v h.stands is own other) [
+      | inl x ↦ (
+          let o = on_guest g.P.Port.port e d z c.args.guest_port.now m.new.guest_port c.args.self.now.state m.new.state
+          c.args.self.now.counts c.note.new.self w v t c.move_of.result b said n h.pace x.1 in
+          record {
+            made = inl (x.0, o);
+            kept = m.ensures.kept;
+            quiet = m.ensures.quiet;
+            finished = finished_at c.move_of.result t b _ said c.is_rested.ensures x.1.live;
+            pace = pace_less c.note.new.self _ o.holds.pace;
+          }
+          )
+      | inr x ↦ (
+          let o = on_shadow g.Q.Port.port e d z c.args.shadow_port.now m.new.shadow_port c.args.self.now.state m.new.state
+          c.args.self.now.counts c.note.new.self w v t c.move_of.result b said n h.pace x.1 in
+          record {
+            made = inr (x.0, o);
+            kept = m.ensures.kept;
+            quiet = m.ensures.quiet;
+            finished = finished_at c.move_of.result t b _ said c.is_rested.ensures (λ i. x.1.live);
+            pace = pace_less c.note.new.self _ o.holds.pace;
+          }
+          )
+    ]

@@ -1,0 +1,5 @@
+pub mod Tie
+pub mod Pairing
+pub mod Stages
+pub mod Pace
+pub mod Relay

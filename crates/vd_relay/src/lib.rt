@@ -1,0 +1,17 @@
+//! A relay takes the chains that a guest offers, offers them with moved addresses on a second ring, and gives back on the
+//! guest's ring what comes back on the second. Where neither ring has anything for it, it sleeps on both.
+#![tactic(auto)]
+
+mod begin;
+mod counts;
+mod guest_side;
+mod relay;
+mod shadow_side;
+mod stage;
+mod state;
+mod translate;
+
+pub use counts::{Counts, Turn};
+pub use relay::Relay;
+pub use stage::Stage;
+pub use state::State;

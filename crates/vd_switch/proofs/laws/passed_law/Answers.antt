@@ -1,0 +1,7 @@
+use Rattle.vd_switch.proofs.PassingLanes.{leaves}
+use Rattle.vd_switch.proofs.laws.passed_law.Goals as goal
+
+pub returns : goal.returns
+returns g c = λ ts gs old begun by words v w end h stands rests all.
+    leaves g.L.Device.DeviceEnd.device g.L.Driver.DriverEnd.driver g.L.Layout.layout g.met.L.Layout.lawful ts gs old begun by words v w h
+    end stands rests all

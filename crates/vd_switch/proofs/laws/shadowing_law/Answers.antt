@@ -1,0 +1,6 @@
+use Rattle.vd_switch.proofs.ShadowingLanes.{keeps}
+use Rattle.vd_switch.proofs.laws.shadowing_law.Goals as goal
+
+pub returns : goal.returns
+returns g c = λ z old r begun by words shadow_words v w sv sw h. keeps g.L.Device.DeviceEnd.device g.L.Driver.DriverEnd.driver
+    g.L.Layout.layout g.met.L.Layout.lawful z old r begun by words shadow_words v w sv sw h

@@ -1,0 +1,7 @@
+pub mod Account
+pub mod Kits
+pub mod LaneBag
+pub mod PassingLanes
+pub mod ShadowingLanes
+pub mod Stills
+pub mod ShadowingSteps

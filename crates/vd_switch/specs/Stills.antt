@@ -1,0 +1,21 @@
+-- The end that a still lane owns.
+use Rattle.std.specs.Prelude.{◌≡◌, ◌||◌, Bool, List, [], Option}
+use Rattle.vd_model.specs.declared.map.Mapping.{Mapping}
+use Rattle.vd_ring.specs.declared.driver.DriverView.{DriverView}
+use Rattle.vd_ring.specs.declared.device.DeviceView.{DeviceView}
+use Rattle.vd_layout.specs.Driver.{DriverModel}
+use Rattle.vd_layout.specs.Device.{DeviceModel}
+use Rattle.vd_table.specs.declared.Origin.{Origin}
+use Rattle.vd_relay.specs.declared.counts.Counts.{Counts}
+use Rattle.vd_relay.specs.declared.state.State.{State}
+use Rattle.vd_relay.specs.Pairing.{ArePaired}
+use Rattle.vd_relay.specs.Relay.{Holds, start}
+
+-- it rests or is fresh
+abbrev pub is_still : {E : Type 0} → DeviceModel E → E → Bool
+is_still e end = e.resting end || e.fresh end
+
+-- a relay was made of the lane's end and the kit: for each map and views with which it may be, it holds both rings from there on
+abbrev pub Shadows : {E D : Type 0} → DeviceModel E → DriverModel D → E → D → List (Option Origin) → State E D → Counts → Type 0
+Shadows e d end shadow table r c = (ms : List Mapping) (w : DeviceView) (v : DriverView) → e.stands end w → d.stands shadow v
+    → ArePaired ms w.frame v.frame → v.done ≡ [] → Holds e d (start ms w) r c w v

@@ -1,0 +1,124 @@
+//! A lane in an epoch of the mode shadow.
+ghost use Rattle.std.specs.Prelude.{◌≡◌, false, true, length};
+ghost use Rattle.vd_words.specs.Own.{IsOwn};
+ghost use Rattle.vd_ring.specs.declared.device.DeviceView.{DeviceView};
+ghost use Rattle.vd_ring.specs.declared.driver.DriverView.{DriverView};
+ghost use Rattle.vd_ring.specs.History.{gives};
+ghost use Rattle.vd_bus.specs.Device.{IsSuspend};
+ghost use Rattle.vd_relay.specs.Stages.{is_rested};
+ghost use Rattle.vd_relay.specs.Tie.{Start};
+ghost use Rattle.vd_relay.specs.Relay.{Holds, CanStep, IsRelayStep, HandsBack};
+
+use crate::still::Still;
+use vd_bus::Device;
+use vd_iova::IovaTree;
+use vd_layout::{DeviceEnd, Layout, Move};
+use vd_relay::Relay;
+use vd_words::Port;
+
+/// A lane whose device works on a shadow ring: a relay takes the chains from the guest's ring, offers them there with moved addresses,
+/// and gives back what comes back. It owns the device's end of the guest's ring.
+#[derive(Drop)]
+pub struct Shadowing<L: Layout> {
+    pub(crate) relay: Relay<L>,
+}
+
+impl<L: Layout> Shadowing<L> {
+    pub(crate) fn new(relay: Relay<L>) -> Shadowing<L>
+        ensures { result.relay ≡ relay }
+    {
+        Shadowing { relay }
+    }
+
+    /// Makes exactly one access of the relay, on one of the two ports.
+    pub fn step<P: Port, Q: Port>(
+        &mut self,
+        tree: &IovaTree,
+        guest_port: &mut P,
+        shadow_port: &mut Q,
+    ) -> Move
+        requires live { is_rested self.old.relay.state.stage ≡ false }
+        requires own { CanStep P.port Q.port L.Device.device L.Driver.driver tree.now.mappings guest_port.old shadow_port.old
+            self.old.relay.state self.old.relay.counts }
+        ensures step { (z : Start) (w : DeviceView) (v : DriverView)
+            → Holds L.Device.device L.Driver.driver z self.old.relay.state self.old.relay.counts w v → tree.now.mappings ≡ z.map
+            → IsOwn P.port L.Device.device.side guest_port.old w → IsOwn Q.port L.Driver.driver.side shadow_port.old v
+            → IsRelayStep P.port Q.port L.Device.device L.Driver.driver z guest_port.old guest_port.new shadow_port.old shadow_port.new w v
+            self.old.relay.state self.new.relay.state self.old.relay.counts self.new.relay.counts result }
+        ensures settings { self.new.relay.settings ≡ self.old.relay.settings }
+    {
+        self.relay.step(tree, guest_port, shadow_port)
+    }
+
+    /// Whether every command of the replay list was acknowledged: there is none.
+    pub fn replayed(&self) -> bool
+        ensures { result ≡ true }
+    {
+        self.relay.replayed()
+    }
+
+    /// Suspends the shadow ring's device, which is done, and lets the relay wind up: it gives back what that device gave.
+    pub fn begin_wind_up<V: Device<L>>(&mut self, device: &mut V)
+        requires live { is_rested self.old.relay.state.stage ≡ false }
+        requires once { self.old.relay.state.winding ≡ false }
+        requires done { V.party.is_done device.old }
+        requires held { (w : DeviceView) × V.party.holds device.old w }
+        ensures suspended { (end : L.Device) × IsSuspend L.Device.device V.party device.old device.new end }
+        ensures holds { (z : Start) (w : DeviceView) (v : DriverView)
+            → Holds L.Device.device L.Driver.driver z self.old.relay.state self.old.relay.counts w v
+            → Holds L.Device.device L.Driver.driver z self.new.relay.state self.new.relay.counts w v }
+        ensures live { is_rested self.new.relay.state.stage ≡ false }
+        ensures winding { self.new.relay.state.winding ≡ true }
+        ensures target { (sw : DeviceView) → V.party.holds device.old sw → self.new.relay.state.target ≡ length (gives sw.done) }
+        ensures counts { self.new.relay.counts ≡ self.old.relay.counts }
+        ensures settings { self.new.relay.settings ≡ self.old.relay.settings }
+    {
+        let end = device.suspend();
+        self.relay.begin_wind_up(end.given());
+    }
+
+    /// Whether the guest's end rests.
+    pub fn rested(&self) -> bool
+        ensures { result ≡ is_rested self.now.relay.state.stage }
+    {
+        self.relay.rested()
+    }
+
+    /// The still lane after the wind-up.
+    pub fn stop(self) -> Still<L>
+        requires rested { is_rested self.relay.state.stage ≡ true }
+        requires held { (z : Start) × (w : DeviceView) × (v : DriverView)
+            × Holds L.Device.device L.Driver.driver z self.relay.state self.relay.counts w v }
+        ensures end { result.end ≡ self.relay.state.guest }
+        ensures control { result.control ≡ false }
+        ensures settings { result.settings ≡ self.relay.settings }
+    {
+        let (end, _, settings) = self.relay.hand_back();
+        Still {
+            end,
+            control: false,
+            settings,
+        }
+    }
+
+    /// How many of its steps did not answer Looked, a wind-up's repeated looks left out. It stays at the last u64.
+    pub fn accesses(&self) -> u64
+        ensures { result ≡ self.now.relay.counts.accesses }
+    {
+        self.relay.accesses()
+    }
+
+    /// How many of its steps took, offered, collected or gave a chain.
+    pub fn handled(&self) -> u64
+        ensures { result ≡ self.now.relay.counts.handled }
+    {
+        self.relay.handled()
+    }
+
+    /// How many of its steps ended a hearing with Awake.
+    pub fn heard(&self) -> u64
+        ensures { result ≡ self.now.relay.counts.heard }
+    {
+        self.relay.heard()
+    }
+}
