@@ -1,3 +1,4 @@
+pub mod Switches
 pub mod Lists
 pub mod Bounds
 pub mod Each
