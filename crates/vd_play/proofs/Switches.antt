@@ -1,5 +1,5 @@
 -- The bus between two epochs: suspended, set up again, and resumed.
-use Rattle.std.proofs.Common.{◌≡◌, ℕ, true, false, List, [], length, slice_index_or, sym, ap, ◌∙◌, subst}
+use Rattle.std.proofs.Common.{◌≡◌, true, false, List, [], length, slice_index_or, sym, ap, ◌∙◌, subst}
 use Rattle.vd_layout.specs.Device.{DeviceModel}
 use Rattle.vd_machine.specs.File.{Plan}
 use Rattle.vd_bus.specs.declared.bus.vring.Vring.{Vring}
