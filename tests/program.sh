@@ -25,11 +25,35 @@ chain 0 0 10
 epoch 0 0 pass 0 1
 drained 1
 '
+usage='vdpa: usage: vdpa play [--seed N] [--brief] | check'
 cp examples/one-chain.toml "$work/in"
 expect 'one chain' 0 '' "$one" play
-expect 'no word' 1 'vdpa: usage: vdpa play' '' 
-expect 'another word' 1 'vdpa: usage: vdpa play' '' run
-expect 'a word too many' 1 'vdpa: usage: vdpa play' '' play play
+expect 'a seed' 0 '' "$one" --seed 18446744073709551615 play
+expect 'a seed in one word, brief' 0 '' 'queue 0 chains 1 bytes 10
+epoch 0 0 pass 0 1
+drained 1
+' --brief play --seed=007
+expect 'the canonical text' 0 '' 'layout = "split"
+size = 4
+features = []
+window = 1
+iova_first = 4096
+iova_last = 281474976710655
+regions = [{ addr = 4096, size = 8192 }]
+queues = [["r4096+10 w8192+64"]]
+' check
+expect 'no word' 1 "$usage" '' 
+expect 'another word' 1 "$usage" '' run
+expect 'a word too many' 1 "$usage" '' play play
+expect 'two commands' 1 "$usage" '' play check
+expect 'a brief check' 1 "$usage" '' check --brief
+expect 'a check by a seed' 1 "$usage" '' check --seed 1
+expect 'brief twice' 1 "$usage" '' play --brief --brief
+expect 'two seeds' 1 "$usage" '' play --seed 1 --seed=1
+expect 'a seed without a number' 1 "$usage" '' play --seed
+expect 'a seed of 2^64' 1 "$usage" '' play --seed 18446744073709551616
+expect 'a seed of 21 digits' 1 "$usage" '' play --seed=000000000000000000001
+expect 'options alone' 1 "$usage" '' --seed 1 --brief
 cp examples/no-chains.toml "$work/in"
 expect 'no chains' 0 '' 'queue 0 chains 0 bytes 0
 epoch 0 0 pass 0 0

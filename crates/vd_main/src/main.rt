@@ -1,4 +1,4 @@
-//! The program `vdpa`: reads a machine file from standard input, plays it and writes its report to standard output.
+//! The program `vdpa`: reads a machine file from standard input, and writes its report or its canonical text to standard output.
 #![tactic(auto)]
 
 mod bench;
@@ -56,7 +56,7 @@ fn rule(fault: MachineFault) -> u32 {
 fn explain(rt: &HostRuntime, status: Status) -> io::Result<()> {
     match status {
         Status::Ok => Ok(()),
-        Status::Usage => eprintln!(rt; "vdpa: usage: vdpa play"),
+        Status::Usage => eprintln!(rt; "vdpa: usage: vdpa play [--seed N] [--brief] | check"),
         Status::Machine(fault) => eprintln!(rt; "vdpa: machine file breaks rule M{}", rule(fault)),
         Status::ReadFault => eprintln!(rt; "vdpa: read fault"),
         Status::WriteFault => eprintln!(rt; "vdpa: write fault"),

@@ -3,3 +3,4 @@ pub mod Midway
 pub mod Queues
 pub mod Prepared
 pub mod Outcome
+pub mod Twice

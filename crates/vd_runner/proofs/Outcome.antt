@@ -13,6 +13,7 @@ use Rattle.vd_play.specs.Setting.{Setting}
 use Rattle.vd_runner.specs.declared.status.Status.{Status}
 use Rattle.vd_runner.specs.declared.status.Status.TheVariants as status
 use Rattle.vd_runner.specs.Answers.{expected, verdict, need, IsOrMemory}
+use Rattle.vd_runner.specs.Checking.{ChecksTo}
 use Rattle.vd_runner.specs.Layouts.{orders_packed}
 use Rattle.vd_runner.specs.Outcome.{PlaysTo, IsCutOff, SomeRose}
 use Rattle.vd_runner.specs.Reading.{BreaksFirst, ReadsTooMuch, ReadsMachine, RefusesToRead}
@@ -79,6 +80,36 @@ too_few : (q n k : ℕ) → (n < q) ⊎ (k < q) → verdict None q n k ≡ statu
 too_few q n k (inl h) = ap (λ (b : Bool). if b && nat_le q k then status.Ok else status.TooFewParties q n k) (lt-leb q n h)
 too_few q n k (inr h) = ap (λ (b : Bool). if nat_le q n && b then status.Ok else status.TooFewParties q n k) (lt-leb q k h)
     ∙ ap (λ (b : Bool). if b then status.Ok else status.TooFewParties q n k) (no_other (nat_le q n))
+
+-- what writing the canonical text comes to is the expected answer, where no count rose
+need_is : (bytes : List ℕ) (rest : Option (List ℕ)) (plan : Plan) → ReadsMachine (Some bytes) rest plan → need bytes ≡ length plan.queues
+need_is bytes rest plan h =
+    ap need (whole_is bytes h.bytes rest h.read.taken h.read.end)
+    ∙ ap (λ (p : Option Plan). option_map_or (λ (m : Plan). length m.queues) p 0) h.means
+
+pub check_expected : (bytes : List ℕ) (rest : Option (List ℕ)) (before now : ℕ) (held given : Option (List ℕ)) (was is : ℕ) (s : Status)
+    → (Rose before now → ⊥) → (Rose was is → ⊥) → ChecksTo (Some bytes) rest before now held given was is s
+    → IsOrMemory (expected bytes (need bytes) (need bytes)) s
+check_expected bytes rest before now held given was is status.Ok calm quiet h =
+    let many = need_is bytes rest h.plan h.read in
+    let all : length h.plan.queues ≤ need bytes = omega (arith, many) in
+    inl (sym (expects_parties bytes (need bytes) (need bytes) rest h.plan h.read
+    ∙ enough (length h.plan.queues) (need bytes) (need bytes) all all))
+check_expected bytes rest before now held given was is status.WriteFault calm quiet h = absurd (quiet h.1)
+check_expected bytes rest before now held given was is status.Usage calm quiet h =
+    refusal_expected bytes (need bytes) (need bytes) rest before now status.Usage calm h.0
+check_expected bytes rest before now held given was is (status.Machine rule) calm quiet h =
+    refusal_expected bytes (need bytes) (need bytes) rest before now (status.Machine rule) calm h.0
+check_expected bytes rest before now held given was is status.ReadFault calm quiet h =
+    refusal_expected bytes (need bytes) (need bytes) rest before now status.ReadFault calm h.0
+check_expected bytes rest before now held given was is (status.DeviceFault q) calm quiet h =
+    refusal_expected bytes (need bytes) (need bytes) rest before now (status.DeviceFault q) calm h.0
+check_expected bytes rest before now held given was is (status.TooLarge n) calm quiet h =
+    refusal_expected bytes (need bytes) (need bytes) rest before now (status.TooLarge n) calm h.0
+check_expected bytes rest before now held given was is (status.TooFewParties a b c) calm quiet h =
+    refusal_expected bytes (need bytes) (need bytes) rest before now (status.TooFewParties a b c) calm h.0
+check_expected bytes rest before now held given was is status.Memory calm quiet h =
+    refusal_expected bytes (need bytes) (need bytes) rest before now status.Memory calm h.0
 
 -- a cut shows whose count rose
 cut_rose : {D E G X C : Type 0} (z : Setting D E G X C) (plan : Plan) (q : ℕ) (old new : Bench G X) → IsCutOff z plan q old new

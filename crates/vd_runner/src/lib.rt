@@ -1,7 +1,8 @@
 //! The whole of a command: words, a source, a sink and the parties of a bench.
 #![tactic(auto)]
 
-mod command;
+mod checking;
+mod chosen;
 mod epochs;
 #[cfg(test)]
 mod journal_tests;
@@ -9,6 +10,7 @@ mod line;
 #[cfg(test)]
 mod parties_tests;
 mod playing;
+mod playing_command;
 mod read;
 #[cfg(test)]
 mod recording;
@@ -19,9 +21,13 @@ mod status;
 #[cfg(test)]
 mod tests;
 mod top;
+mod words;
 mod writing;
 
+pub use chosen::{ModeWord, Options};
+pub use playing_command::play_command;
 pub use reporting::report;
 pub use status::Status;
 pub use top::vdpa;
 pub use vd_play::{Bench, Floor, PlayFault, play_machine, prepare};
+pub use words::options;

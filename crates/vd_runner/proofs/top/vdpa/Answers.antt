@@ -1,33 +1,26 @@
-use Rattle.std.proofs.Common.{List, ℕ, Option, true, false, length, subst, ◌∙◌}
-use Rattle.vd_machine.specs.File.{view}
-use Rattle.vd_packed.specs.DeviceEnd.{packed_device}
-use Rattle.vd_packed.specs.DriverEnd.{packed_driver}
-use Rattle.vd_packed.specs.laws.PackedLayout.{packed_layout}
-use Rattle.vd_split.specs.DeviceEnd.{split_device}
-use Rattle.vd_split.specs.DriverEnd.{split_driver}
-use Rattle.vd_split.specs.laws.SplitLayout.{split_layout}
-use Rattle.vd_play.specs.Setting.{setting_of}
-use Rattle.vd_runner.specs.Reading.{ReadsMachine}
-use Rattle.vd_runner.proofs.Outcome.{play_expected, layout_read, by_layout}
+use Rattle.std.proofs.Common.{List, ℕ, Option, subst, sym, ◌∙◌}
+use Rattle.vd_runner.specs.Checking.{ChecksTo}
+use Rattle.vd_runner.specs.declared.chosen.ModeWord.TheVariants.{Play}
+use Rattle.vd_runner.proofs.Outcome.{check_expected}
+use Rattle.vd_runner.proofs.Twice.{mode_is}
 use Rattle.vd_runner.proofs.top.vdpa.Goals as goal
 
-pub returns-then-machine-clause-complete : goal.returns-then-machine-clause-complete
-returns-then-machine-clause-complete g c bytes told word calm quiet still_split still =
-    let read = subst (λ (left : Option (List ℕ)). ReadsMachine left (g.S.Source.left c.read_machine.new.source) (view c.in-Ok.machine))
-    told c.in-Ok.ensures.ok in
-    let split = c.args.split.now in let packed = c.args.packed.now in
-    by_layout bytes true (length split.guests.items) (length split.devices.items) (length packed.guests.items)
-    (length packed.devices.items) c.play_on.result (layout_read bytes _ (view c.in-Ok.machine) read ∙ c.if-machine.true)
-    (play_expected (setting_of packed_driver packed_device packed_layout g.GP.Guest.party g.VP.Device.party) bytes _
-    (view c.in-Ok.machine) false packed c.play_on.new.bench _ _ _ _ c.play_on.result quiet still read c.play_on.ensures.answer)
+pub returns-in-Play-clause-few : goal.returns-in-Play-clause-few
+returns-in-Play-clause-few g c need guests devices is =
+    (mode_is _ c.in-Some.options Play (sym c.options.ensures ∙ c.in-Some.is) c.in-Play.is, c.play_command.ensures.few need guests devices is)
 
-pub returns-clause-complete : goal.returns-clause-complete
-returns-clause-complete g c bytes told word calm quiet still still_packed =
-    let read = subst (λ (left : Option (List ℕ)). ReadsMachine left (g.S.Source.left c.read_machine.new.source) (view c.in-Ok.machine))
-    told c.in-Ok.ensures.ok in
-    let split = c.args.split.now in let packed = c.args.packed.now in
-    by_layout bytes false (length split.guests.items) (length split.devices.items) (length packed.guests.items)
-    (length packed.devices.items) c.play_on-else-machine.result (layout_read bytes _ (view c.in-Ok.machine) read ∙ c.if-machine.false)
-    (play_expected (setting_of split_driver split_device split_layout g.GS.Guest.party g.VS.Device.party) bytes _
-    (view c.in-Ok.machine) false split c.play_on-else-machine.new.bench _ _ _ _ c.play_on-else-machine.result quiet still read
-    c.play_on-else-machine.ensures.answer)
+pub returns-in-Play-clause-device_fault : goal.returns-in-Play-clause-device_fault
+returns-in-Play-clause-device_fault g c q is =
+    (mode_is _ c.in-Some.options Play (sym c.options.ensures ∙ c.in-Some.is) c.in-Play.is, c.play_command.ensures.device_fault q is)
+
+pub returns-in-Check-clause-complete_check : goal.returns-in-Check-clause-complete_check
+returns-in-Check-clause-complete_check g c bytes told mode calm quiet =
+    let rest = g.S.Source.left c.check.new.source in
+    let before = g.S.Source.faults c.args.source.now in
+    let after = g.S.Source.faults c.check.new.source in
+    let held = g.K.Sink.held c.args.sink.now in
+    let given = g.K.Sink.held c.check.new.sink in
+    let was = g.K.Sink.faults c.args.sink.now in
+    let is = g.K.Sink.faults c.check.new.sink in
+    check_expected bytes rest before after held given was is c.check.result calm quiet
+    (subst (λ (left : Option (List ℕ)). ChecksTo left rest before after held given was is c.check.result) told c.check.ensures)
