@@ -1,24 +1,18 @@
 -- What the bus of a machine answers as it is set up.
-use Rattle.std.proofs.Common.{◌≡◌, ℕ, ◌+◌, ◌*◌, ◌/◌, ◌^◌, ◌<◌, ◌≤◌, ◌==◌, Bool, true, false, not, ◌&&◌, ◌||◌, nat_lt, nat_le, bit_and, if◌then◌else◌, List, [], ◌∷◌, length, slice_index_or, slice_set, Option, Some, None, is_some, refl, sym, ◌∙◌, ap, subst, inl, inr, arith}
-use Rattle.std.specs.List.{list_all}
+use Rattle.std.proofs.Common.{◌≡◌, ℕ, ◌<◌, ◌==◌, Bool, true, false, not, ◌&&◌, nat_le, bit_and, if◌then◌else◌, List, length, slice_index_or, slice_set, Some, None, refl, sym, ◌∙◌, ap, subst, inl, inr, arith}
 use Rattle.std.proofs.lemmas.Bool.{lt-ltb, le-leb, cases_eq}
-use Rattle.std.proofs.lemmas.List.{get_or-set_same, get_or-set_other, length-set}
+use Rattle.std.proofs.lemmas.List.{get_or-set_same, get_or-set_other}
 use Rattle.vd_model.specs.declared.features.Features.{Features}
 use Rattle.vd_model.specs.declared.map.Mapping.{Mapping}
-use Rattle.vd_uapi.specs.declared.vring_addr.VringAddr.{VringAddr}
-use Rattle.vd_uapi.specs.declared.vring_state.VringState.{VringState}
-use Rattle.vd_layout.specs.Device.{DeviceModel}
 use Rattle.vd_bus.specs.declared.fault.BusFault.{BusFault}
 use Rattle.vd_bus.specs.declared.fault.BusFault.TheVariants.{BadNum}
 use Rattle.vd_bus.specs.declared.bus.vring.Vring.{Vring}
 use Rattle.vd_bus.specs.Bus.{BusState, fresh_vring, is_queue, vring_of, with_vring, is_lawful_size, is_lawful_base}
-use Rattle.vd_bus.specs.BusRings.{still_fault, num_fault, base_fault, after_enable, enable_fault, order_fault, ring_at, terms}
-use Rattle.vd_bus.specs.BusStatus.{has, version_1, access_platform, ring_packed, feature_bits, features_of, are_acceptable, offered_bits, is_driver_ok, is_features_ok, is_running, is_ready, status_fault}
+use Rattle.vd_bus.specs.BusRings.{still_fault, num_fault, base_fault, enable_fault, order_fault}
+use Rattle.vd_bus.specs.BusStatus.{has, version_1, access_platform, ring_packed, feature_bits, features_of, are_acceptable, offered_bits, is_driver_ok, is_features_ok, is_running}
 use Rattle.vd_machine.specs.Rings as rings
 use Rattle.vd_machine.specs.File.{Plan}
-use Rattle.vd_play.specs.Journal.{pass_map}
-use Rattle.vd_play.specs.Orders.{pass_order}
-use Rattle.vd_play.specs.Setup.{set_up, on, serving, with_vrings, with_map, Stands, ring_addr, IsRing, HasRings, vring_at}
+use Rattle.vd_play.specs.Setup.{set_up, on, serving, with_vrings, with_map, Stands}
 
 -- ---- tests in their order
 

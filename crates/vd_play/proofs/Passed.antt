@@ -6,7 +6,6 @@ use Rattle.vd_model.specs.declared.base.Mode.TheVariants.{Pass}
 use Rattle.vd_model.specs.declared.chain.Piece.{Piece}
 use Rattle.vd_layout.specs.Device.{DeviceModel}
 use Rattle.vd_layout.specs.Layout.{LayoutModel}
-use Rattle.vd_bus.specs.declared.event.Event.{Event}
 use Rattle.vd_machine.specs.File.{Plan}
 use Rattle.vd_play.specs.Epochs.{Epoch, AreChained, ArePassing, begun_before}
 use Rattle.vd_play.specs.Journal.{queue_chains, queue_epochs, own_chains, epoch_chains, epoch_events, attach_event, suspend_event, journal_chains}

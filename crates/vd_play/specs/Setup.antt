@@ -1,5 +1,5 @@
 -- How the bus of a machine stands.
-use Rattle.std.specs.Prelude.{◌≡◌, ℕ, zero, suc, ◌+◌, ◌-◌, ◌*◌, ◌/◌, ◌^◌, ◌<◌, Bool, true, false, if◌then◌else◌, List, [], length, slice_get, slice_index_or, Option, Some}
+use Rattle.std.specs.Prelude.{◌≡◌, ℕ, ◌+◌, ◌-◌, ◌*◌, ◌/◌, ◌^◌, ◌<◌, Bool, true, false, if◌then◌else◌, List, [], length, slice_get, slice_index_or, Option, Some}
 use Rattle.vd_model.specs.declared.map.Mapping.{Mapping}
 use Rattle.vd_uapi.specs.declared.vring_addr.VringAddr.{VringAddr}
 use Rattle.vd_uapi.specs.declared.vring_state.VringState.{VringState}

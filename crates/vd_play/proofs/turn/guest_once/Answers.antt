@@ -1,4 +1,4 @@
-use Rattle.std.proofs.Common.{rules, ◌≡◌, arith}
+use Rattle.std.proofs.Common.{rules, arith}
 use Rattle.vd_play.proofs.Turning.{guest_starts, guest_goes, guest_looks, guest_over, guest_ends, guest_spent}
 use Rattle.vd_play.proofs.turn.guest_once.Goals as goal
 
