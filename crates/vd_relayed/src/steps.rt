@@ -1,0 +1,58 @@
+//! Single steps of a party over plain words.
+ghost use Rattle.std.specs.Prelude.{◌≡◌, ℕ, List, false};
+ghost use Rattle.vd_ring.specs.declared.device.DeviceView.{DeviceView};
+ghost use Rattle.vd_ring.specs.declared.driver.DriverView.{DriverView};
+ghost use Rattle.vd_models.specs.Pairs.{HasStepped};
+ghost use Rattle.vd_relay.specs.Relay.{Holds};
+ghost use Rattle.vd_relay.specs.Stages.{is_rested};
+ghost use Rattle.vd_relay.specs.Tie.{Start};
+ghost use Rattle.vd_relayed.specs.Bridges.{HasRelayed};
+
+use vd_bus::{Device, Guest};
+use vd_iova::IovaTree;
+use vd_layout::{Layout, Move};
+use vd_relay::Relay;
+use vd_words::Port;
+
+/// One access of the guest.
+pub fn step_guest<L: Layout, G: Guest<L>, P: Port>(guest: &mut G, port: &mut P) -> Move
+    requires live { ¬ (G.party.is_done guest.old) }
+    requires on { (ws : List ℕ) × (v : DriverView) ×
+        (w : DeviceView) × P.port.plain port.old ws × L.layout.ring ws v w × G.party.holds guest.old v }
+    ensures { (ws : List ℕ) (v : DriverView) (w : DeviceView) → P.port.plain port.old ws → L.layout.ring ws v w
+        → G.party.holds guest.old v → HasStepped P.port G.party.holds (λ us x. L.layout.ring us x w) port.old port.new guest.new }
+{
+    guest.step(port)
+}
+
+/// One access of the device.
+pub fn step_device<L: Layout, V: Device<L>, P: Port>(device: &mut V, port: &mut P) -> Move
+    requires live { ¬ (V.party.is_done device.old) }
+    requires on { (ws : List ℕ) × (v : DriverView) ×
+        (w : DeviceView) × P.port.plain port.old ws × L.layout.ring ws v w × V.party.holds device.old w }
+    ensures { (ws : List ℕ) (v : DriverView) (w : DeviceView) → P.port.plain port.old ws → L.layout.ring ws v w
+        → V.party.holds device.old w → HasStepped P.port V.party.holds (λ us x. L.layout.ring us v x) port.old port.new device.new }
+{
+    device.step(port)
+}
+
+/// One access of the relay, on one of the two rings.
+pub fn step_relay<L: Layout, P: Port, Q: Port>(
+    relay: &mut Relay<L>,
+    tree: &IovaTree,
+    port: &mut P,
+    other: &mut Q,
+) -> Move
+    requires live { is_rested relay.old.state.stage ≡ false }
+    requires on { (z : Start) × (ws : List ℕ) × (shadow_ws : List ℕ) × (v : DriverView) × (w : DeviceView) × (sv : DriverView)
+        × (sw : DeviceView) × P.port.plain port.old ws × Q.port.plain other.old shadow_ws × L.layout.ring ws v w
+        × L.layout.ring shadow_ws sv sw × Holds L.Device.device L.Driver.driver z relay.old.state relay.old.counts w sv
+        × (tree.now.mappings ≡ z.map) }
+    ensures { (z : Start) (ws : List ℕ) (shadow_ws : List ℕ) (v : DriverView) (w : DeviceView) (sv : DriverView) (sw : DeviceView)
+        → P.port.plain port.old ws → Q.port.plain other.old shadow_ws → L.layout.ring ws v w → L.layout.ring shadow_ws sv sw
+        → Holds L.Device.device L.Driver.driver z relay.old.state relay.old.counts w sv → tree.now.mappings ≡ z.map
+        → HasRelayed P.port Q.port L.Device.device L.Driver.driver L.layout z port.old port.new other.old other.new relay.new.state
+        relay.new.counts v sw }
+{
+    relay.step(tree, port, other)
+}
