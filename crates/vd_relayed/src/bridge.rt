@@ -3,16 +3,17 @@ ghost use Rattle.std.specs.Prelude.{◌≡◌, ◌≤◌, ◌∷◌, [], None, I
 ghost use Rattle.vd_ring.specs.declared.device.DeviceView.{DeviceView};
 ghost use Rattle.vd_layout.specs.Layout.{CanMake};
 
+use crate::orders::order_of;
 use crate::steps::{step_device, step_guest, step_relay};
 use crate::testing::{is_mapped, is_small};
 use sqlite_items::Items;
 use std::alloc::{AllocError, Global};
 use std::marker::Model;
-use vd_bus::{Device, Guest, Journal, Order};
+use vd_bus::{Device, Guest, Journal};
 use vd_control::Settings;
 use vd_iova::IovaTree;
 use vd_layout::{DeviceEnd, Layout, Move};
-use vd_model::{Chain, Features, Map, Return, Run, Script};
+use vd_model::{Chain, Features, Return, Run, Script};
 use vd_relay::Relay;
 use vd_table::ShadowTable;
 use vd_words::PlainWords;
@@ -64,15 +65,10 @@ fn attach<'a, L: Layout, V: Device<L>>(device: &'a mut V, end: L::Device, count:
     requires still { L.Device.device.fresh end ≡ true }
     ensures holds { result ≡ true → (w : DeviceView) → L.Device.device.stands end w → w.frame.control ≡ false → V.party.holds device.new w }
 {
-    let order = Order::first(
-        0,
-        16,
-        end.base(),
-        count,
-        end.size(),
-        end.features(),
-        Map::new(),
-    );
+    let packed = L::fresh_base().0 != 0;
+    let Ok(order) = order_of(packed, end.size(), end.features(), 16, end.base().0, count) else {
+        return false;
+    };
     let control: Option<&'a V> = None;
     device.attach(&order, end, control).is_ok()
 }

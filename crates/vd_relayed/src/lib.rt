@@ -2,6 +2,7 @@
 #![tactic(auto)]
 
 mod bridge;
+mod orders;
 mod steps;
 mod testing;
 

@@ -1,5 +1,5 @@
 use Rattle.vd_words.specs.Step.{written}
-use Rattle.vd_layout.specs.Plain.{plain_step, own_plain_driver}
+use Rattle.vd_layout.specs.laws.Plain.{plain_step, own_plain_driver}
 use Rattle.vd_relayed.proofs.steps.step_guest.Goals as goal
 
 pub step-requires-clause-own : goal.step-requires-clause-own

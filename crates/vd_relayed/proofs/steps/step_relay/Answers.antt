@@ -1,6 +1,6 @@
 use Rattle.std.proofs.Common.{sym, subst, inl, inr}
 use Rattle.vd_words.specs.Step.{written}
-use Rattle.vd_layout.specs.Plain.{plain_step, own_plain_device, own_plain_driver}
+use Rattle.vd_layout.specs.laws.Plain.{plain_step, own_plain_device, own_plain_driver}
 use Rattle.vd_relayed.proofs.steps.step_relay.Goals as goal
 
 pub step-requires-clause-own : goal.step-requires-clause-own
