@@ -1,6 +1,6 @@
 -- What can't be said twice, and one word more.
-use Rattle.std.proofs.Common.{◌≡◌, ℕ, zero, suc, Bool, true, false, List, [], ◌∷◌, Option, Some, None, option_map, option_and_then, refl, subst, sym}
-use Rattle.vd_runner.specs.Command.{modes, seeds, briefs, chosen, IsMode}
+use Rattle.std.proofs.Common.{◌≡◌, ℕ, suc, List, [], ◌∷◌, Option, Some, None, option_map, option_and_then, refl, subst, sym}
+use Rattle.vd_runner.specs.Command.{chosen, IsMode}
 use Rattle.vd_runner.specs.Given.{with_parts}
 use Rattle.vd_runner.specs.declared.words.Given.{Given}
 use Rattle.vd_runner.specs.declared.chosen.ModeWord.{ModeWord}

@@ -1,5 +1,5 @@
 -- What a command that writes the canonical text leaves.
-use Rattle.std.specs.Prelude.{◌≡◌, ℕ, ◌+◌, List, Option, ⊤}
+use Rattle.std.specs.Prelude.{◌≡◌, ℕ, List, Option}
 use Rattle.std.specs.Io.KnownBytes.{Appends}
 use Rattle.vd_stream.specs.Causes.{Rose}
 use Rattle.vd_stream.specs.Sinks.{AppendsFront}

@@ -63,14 +63,16 @@ pub fn vdpa<
     ensures large { (n : ℕ) → result ≡ Status.TooLarge n → (n ≡ MOST_BYTES + 1) × ReadsTooMuch (S.left source.old) (S.left source.new) }
     // The machine has more queues than the bench of its layout has guests or devices.
     ensures few { (need : ℕ) (guests : ℕ) (devices : ℕ) → result ≡ Status.TooFewParties need guests devices
-        → IsMode Play (command (map (λ w. w.now) words.now)) × OfMachine (S.left source.old) (S.left source.new) (λ plan. OfLayout plan.packed
+        → IsMode Play (command (map (λ w. w.now) words.now))
+        × OfMachine (S.left source.old) (S.left source.new) (λ plan. OfLayout plan.packed
         (HasTooFew plan need guests devices split.old)
         (HasTooFew plan need guests devices packed.old)) }
     // Faults come only where the count of the source, the sink or the device rose in this call.
     ensures read_fault { result ≡ Status.ReadFault → Rose (S.faults source.old) (S.faults source.new) }
     ensures write_fault { result ≡ Status.WriteFault → Rose (K.faults sink.old) (K.faults sink.new) }
     ensures device_fault { (q : ℕ) → result ≡ Status.DeviceFault q
-        → IsMode Play (command (map (λ w. w.now) words.now)) × OfMachine (S.left source.old) (S.left source.new) (λ plan. OfLayout plan.packed
+        → IsMode Play (command (map (λ w. w.now) words.now))
+        × OfMachine (S.left source.old) (S.left source.new) (λ plan. OfLayout plan.packed
         (IsCutOff (setting_of split_driver split_device split_layout GS.party VS.party) plan q split.old split.new
         × (packed.new ≡ packed.old))
         (IsCutOff (setting_of packed_driver packed_device packed_layout GP.party VP.party) plan q packed.old packed.new
@@ -84,7 +86,8 @@ pub fn vdpa<
         (IsWellPlayed (setting_of packed_driver packed_device packed_layout GP.party VP.party) plan packed.old packed.new
         × (split.new ≡ split.old)
         × Appends (K.held sink.old) (K.held sink.new) (report plan brief (all_lens VP.party plan packed.new)))) }
-    ensures part { (seed : Option ℕ) (brief : Bool) → command (map (λ w. w.now) words.now) ≡ Some (playing seed brief) → result ≡ Status.WriteFault
+    ensures part { (seed : Option ℕ) (brief : Bool) → command (map (λ w. w.now) words.now) ≡ Some (playing seed brief)
+        → result ≡ Status.WriteFault
         → OfMachine (S.left source.old) (S.left source.new) (λ plan. OfLayout plan.packed
         (IsWellPlayed (setting_of split_driver split_device split_layout GS.party VS.party) plan split.old split.new
         × (packed.new ≡ packed.old)

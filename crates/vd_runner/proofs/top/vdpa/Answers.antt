@@ -6,12 +6,16 @@ use Rattle.vd_runner.proofs.Twice.{mode_is}
 use Rattle.vd_runner.proofs.top.vdpa.Goals as goal
 
 pub returns-in-Play-clause-few : goal.returns-in-Play-clause-few
-returns-in-Play-clause-few g c need guests devices is =
-    (mode_is _ c.in-Some.options Play (sym c.options.ensures ∙ c.in-Some.is) c.in-Play.is, c.play_command.ensures.few need guests devices is)
+returns-in-Play-clause-few g c need guests devices is = (
+  mode_is _ c.in-Some.options Play (sym c.options.ensures ∙ c.in-Some.is) c.in-Play.is,
+  c.play_command.ensures.few need guests devices is,
+)
 
 pub returns-in-Play-clause-device_fault : goal.returns-in-Play-clause-device_fault
-returns-in-Play-clause-device_fault g c q is =
-    (mode_is _ c.in-Some.options Play (sym c.options.ensures ∙ c.in-Some.is) c.in-Play.is, c.play_command.ensures.device_fault q is)
+returns-in-Play-clause-device_fault g c q is = (
+  mode_is _ c.in-Some.options Play (sym c.options.ensures ∙ c.in-Some.is) c.in-Play.is,
+  c.play_command.ensures.device_fault q is,
+)
 
 pub returns-in-Check-clause-complete_check : goal.returns-in-Check-clause-complete_check
 returns-in-Check-clause-complete_check g c bytes told mode calm quiet =
