@@ -120,10 +120,6 @@ few_parts qs h =
 pub few_queues : (qs : List Script) → few qs ≡ true → length qs ≤ MOST_QUEUES
 few_queues qs h = leb-true (length qs) MOST_QUEUES (few_parts qs h).1
 
--- the same, for the proofs above
-pub one_queue : (qs : List Script) → few qs ≡ true → length qs ≤ MOST_QUEUES
-one_queue qs h = few_queues qs h
-
 pub queue_is_short : (qs : List Script) (d : Script) (k : ℕ) → few qs ≡ true → k < length qs → chains_of (get_or qs k d) ≤ MOST_CHAINS
 queue_is_short qs d k h below = leb-true (chains_of (get_or qs k d)) MOST_CHAINS (all_at is_short qs d k (few_parts qs h).2 below)
 

@@ -21,7 +21,7 @@ use Rattle.vd_machine.specs.File.{Plan}
 use Rattle.vd_machine.specs.Queues.{script, most_pieces, are_scripts, all_lie, few}
 use Rattle.vd_machine.specs.Rings.{is_lawful_size}
 use Rattle.vd_play.proofs.InMap.{chain_in_map}
-use Rattle.vd_machine.proofs.Facts.{size_bounds, one_queue, queue_is_short, queue_has_no_commands, run_at, needs_within}
+use Rattle.vd_machine.proofs.Facts.{size_bounds, few_queues, queue_is_short, queue_has_no_commands, run_at, needs_within}
 use Rattle.vd_play.specs.Journal.{queue_script, queue_chains, guest_frame}
 use Rattle.vd_play.specs.Lane.{IsQueue, Account, HasGiven}
 use Rattle.vd_play.specs.Prepared.{IsEmptyGuest, IsEmptyDevice}
@@ -54,7 +54,7 @@ pub queue_is : (l : LayoutModel) (plan : Plan) (q : ℕ) → Keeps plan → q < 
 queue_is l plan q k below are =
     let f : Frame = guest_frame l plan q in
     let d : Script = script [] in record {
-      low = omega (arith, one_queue plan.queues k.counted, below);
+      low = omega (arith, few_queues plan.queues k.counted, below);
       plain = no_items (queue_script plan q).commands
           (queue_has_no_commands (most_pieces plan.features plan.size) plan.queues d q k.fitted below);
       sized = (size_bounds plan.packed plan.size k.sized).0;

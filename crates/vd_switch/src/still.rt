@@ -131,7 +131,8 @@ impl<L: Layout> Still<L> {
         requires pairs { HasPairs self.settings }
         requires shadow { 16 ≤ order.now.ring }
         requires data { IsData order.now.queue }
-        requires kit { (size : ℕ) × (f : Features) × IsKit L.Driver.driver L.Device.device L.layout size f false kit.driver kit.device kit.table
+        requires kit { (size : ℕ) × (f : Features)
+            × IsKit L.Driver.driver L.Device.device L.layout size f false kit.driver kit.device kit.table
             × ((w : DeviceView) → L.Device.device.stands self.end w → (w.frame.size ≡ size) × (w.frame.features ≡ f)) }
         requires stands { (w : DeviceView) × L.Device.device.stands self.end w }
         requires base { L.Device.device.base kit.device ≡ order.now.base.0 }

@@ -1,6 +1,6 @@
 use Rattle.std.proofs.Common.{◌≡◌, ◌+◌, ◌≤◌, ℕ, false, List, length, map, arith, sym, ap, refl, subst, ◌∙◌}
 use Rattle.vd_machine.specs.File.{view, Plan}
-use Rattle.vd_machine.proofs.Facts.{one_queue}
+use Rattle.vd_machine.proofs.Facts.{few_queues}
 use Rattle.vd_play.specs.declared.epoch.PlayFault.{PlayFault}
 use Rattle.vd_play.specs.Each.{HasLanes}
 use Rattle.vd_play.specs.Played.{KeepsBench, IsFaultOf, IsPlayed, IsCut, AllCut, faulty}
@@ -81,7 +81,7 @@ pub run_epoch-made-requires-clause-few : goal.run_epoch-made-requires-clause-few
 run_epoch-made-requires-clause-few g c =
     let many : length c.attach_all.new.floor.lanes.items ≡ length c.args.m.now.queues =
     c.attach_all.ensures.many ∙ c.loop-epoch.invariant.many in
-    omega (arith, many, one_queue c.args.m.now.queues c.args.m.now.counted)
+    omega (arith, many, few_queues c.args.m.now.queues c.args.m.now.counted)
 
 pub run_epoch-made-requires-clause-lanes : goal.run_epoch-made-requires-clause-lanes
 run_epoch-made-requires-clause-lanes g c = (view c.args.m.now, c.loop-epoch.epoch, c.in_ok-attach_all.ensures.lanes)
@@ -115,7 +115,7 @@ drain-made-requires-clause-parties g c =
     subst (λ j. HasLanes j c.loop-epoch.bench) (sym c.loop-epoch.invariant.many) c.loop-epoch.invariant.parties
 
 pub drain-made-requires-clause-few : goal.drain-made-requires-clause-few
-drain-made-requires-clause-few g c = omega (arith, c.loop-epoch.invariant.many, one_queue c.args.m.now.queues c.args.m.now.counted)
+drain-made-requires-clause-few g c = omega (arith, c.loop-epoch.invariant.many, few_queues c.args.m.now.queues c.args.m.now.counted)
 
 pub drain-made-requires-clause-lanes : goal.drain-made-requires-clause-lanes
 drain-made-requires-clause-lanes g c =

@@ -19,4 +19,5 @@ returns-in-Worked-clause-turn g c = λ v w ring holds.
     let r = device_starts g.L.Layout.layout g.V.Device.party v _ w c.args.device.now ring holds in
     device_spent g.L.Layout.layout g.V.Device.party v _ w c.args.device.now c.device_step.new.device 1
     (device_goes g.L.Layout.layout g.V.Device.party v _ _ w c.args.device.now c.args.device.now c.device_step.new.device 0
-    c.device_step.result r (λ looked. cc (looked, c.in-Worked.is)) (c.device_step.ensures.step v r.run.view r.run.ring r.run.holds)) (omega arith)
+    c.device_step.result r (λ looked. cc (looked, c.in-Worked.is)) (c.device_step.ensures.step v r.run.view r.run.ring r.run.holds))
+    (omega arith)

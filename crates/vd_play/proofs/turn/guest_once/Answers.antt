@@ -27,4 +27,5 @@ returns-in-Worked-clause-turn g c = λ v w ring holds.
     let r = guest_starts g.L.Layout.layout g.G.Guest.party w _ v c.args.guest.now ring holds in
     guest_spent g.L.Layout.layout g.G.Guest.party w _ v c.args.guest.now c.guest_step.new.guest 1 live
     (guest_goes g.L.Layout.layout g.G.Guest.party w _ _ v c.args.guest.now c.args.guest.now c.guest_step.new.guest 0
-    c.guest_step.result r (λ looked. cc (looked, c.in-Worked.is)) (c.guest_step.ensures.step r.run.view w r.run.ring r.run.holds)) (omega arith)
+    c.guest_step.result r (λ looked. cc (looked, c.in-Worked.is)) (c.guest_step.ensures.step r.run.view w r.run.ring r.run.holds))
+    (omega arith)
