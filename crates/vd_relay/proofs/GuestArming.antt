@@ -55,7 +55,8 @@ module _ {P E D : Type 0} (port : PortModel P) (e : DeviceModel E) (d : DriverMo
       let f = awake_at port e d law ldr z p q r w v b stage.ArmingGuest refl refl h back s in
       let of : s.op ≡ op.Arm = subst (λ o. IsDeviceOp o s.op) is s.of_it in
       let shown : w'.shown ≡ true = shown_at s of (subst (λ o. GuestShown o w.doing w.shown (e.left r.guest)) is h.guest_shown) in
-      woke_to port e d law ldr z p q r w v b stage.ArmingGuest st' Worked refl refl h back s (stands_roused e d law ldr z (with_guest r b) w' v st' f a) refl (λ y. cc y)
+      woke_to port e d law ldr z p q r w v b stage.ArmingGuest st' Worked refl refl h back s
+      (stands_roused e d law ldr z (with_guest r b) w' v st' f a) refl (λ y. cc y)
       (λ y. cc y) (sym (ap (λ o. device_woken o act.Awake) of))
       (omega (
         arith,

@@ -65,7 +65,8 @@ module _ {P E D : Type 0} (port : PortModel P) (e : DeviceModel E) (d : DriverMo
       (subst (λ (cs : List (List Piece)). IsTied z r.table cs h.back h.acts v.frame v.done)
       (subst (λ o. TakesFrom o h.hand) s.says.1 h.takes) h.tied)
 
-  pub takes_at : (k : ℕ) (x : List Piece) → Stands e d z r w v → IsDeviceStep port e p q w r.guest b (act.Taken k x) → r.stage ≡ stage.Taking
+  pub takes_at : (k : ℕ) (x : List Piece) → Stands e d z r w v → IsDeviceStep port e p q w r.guest b (act.Taken k x)
+      → r.stage ≡ stage.Taking
   takes_at k x h s = at_take r.stage (subst (λ o. GuestIs r.stage o) s.says.1 h.guest)
 
   at_taking : (k : ℕ) (x : List Piece) → Stands e d z r w v → IsDeviceStep port e p q w r.guest b (act.Taken k x)

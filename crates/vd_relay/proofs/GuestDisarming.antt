@@ -62,7 +62,8 @@ module _ {P E D : Type 0} (port : PortModel P) (e : DeviceModel E) (d : DriverMo
       let w' : DeviceView = e.side.after w s.op s.access s.got in
       let back : h.back ≡ [] = subst (λ o. BackIs o h.back) is h.to_give in
       let f = awake_at port e d law ldr z p q r w v b stage.DisarmingGuest refl refl h back s in
-      woke_to port e d law ldr z p q r w v b stage.DisarmingGuest st' Worked refl refl h back s (stands_roused e d law ldr z (with_guest r b) w' v st' f a) refl
+      woke_to port e d law ldr z p q r w v b stage.DisarmingGuest st' Worked refl refl h back s
+      (stands_roused e d law ldr z (with_guest r b) w' v st' f a) refl
       (λ y. cc y) (λ y. cc y) (sym (ap (λ o. device_woken o act.Awake) (disarming_of s is)))
       (omega (
         arith,

@@ -52,7 +52,8 @@ module _ {P E D : Type 0} (port : PortModel P) (e : DeviceModel E) (d : DriverMo
       let back : h.back ≡ [] = subst (λ o. BackIs o h.back) is h.to_give in
       let f = awake_at port e d law ldr z p q r w v b stage.HearingGuest refl refl h back s in
       let of : s.op ≡ op.Hear = subst (λ o. IsDeviceOp o s.op) is s.of_it in
-      woke_to port e d law ldr z p q r w v b stage.HearingGuest st' Woke refl refl h back s (stands_roused e d law ldr z (with_guest r b) w' v st' f a) refl (λ y. cc y)
+      woke_to port e d law ldr z p q r w v b stage.HearingGuest st' Woke refl refl h back s
+      (stands_roused e d law ldr z (with_guest r b) w' v st' f a) refl (λ y. cc y)
       (λ y. cc y) (sym (ap (λ o. device_woken o act.Awake) of))
       (omega (
         arith,
@@ -84,7 +85,8 @@ module _ {P E D : Type 0} (port : PortModel P) (e : DeviceModel E) (d : DriverMo
       let some : IsSome w'.armed = (here.0, ap (λ (x : DeviceView). x.armed) (asleep_view s) ∙ here.1) in
       let at : (x : Bool) → d.armed r.shadow ≡ x → Stands e d z
       (next_at r b (heard_next stage.HearingGuest ga x)) w' v = λ x y. stands_to x y f some h.shadow_armed in
-      made_at port e d law ldr z p q r w v b act.Asleep s stage.HearingGuest (next_at r b (heard_next stage.HearingGuest ga sa)) Slept (at sa is)
+      made_at port e d law ldr z p q r w v b act.Asleep s stage.HearingGuest (next_at r b (heard_next stage.HearingGuest ga sa)) Slept
+      (at sa is)
       (bag_same port e d law ldr z p q r w v b act.Asleep s s.says.2) refl
       (not_woken s.op act.Asleep (λ y. cc y)) ((λ y. refl), λ y. refl) (λ y. cc y) (λ y. live_to sa)
       (omega (
@@ -117,4 +119,5 @@ module _ {P E D : Type 0} (port : PortModel P) (e : DeviceModel E) (d : DriverMo
   slept_at ga sa is h s =
       let at = at_guest_hear r.stage (subst (λ o. GuestIs r.stage o) s.says.0 h.guest) in
       subst (λ (x : Stage). GuestTurn port e d z p q r (next_at r b (heard_next x ga sa)) w v Slept) (sym at)
-      (to_stage port e d law ldr z p q r w v b stage.HearingGuest (next_at r b (heard_next stage.HearingGuest ga sa)) Slept at (λ x. sleeps ga sa is x s) h)
+      (to_stage port e d law ldr z p q r w v b stage.HearingGuest (next_at r b (heard_next stage.HearingGuest ga sa)) Slept at
+      (λ x. sleeps ga sa is x s) h)

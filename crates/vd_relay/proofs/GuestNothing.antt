@@ -47,7 +47,8 @@ module _ {P E D : Type 0} (port : PortModel P) (e : DeviceModel E) (d : DriverMo
       let unarmed : w'.armed ≡ None = law.stays_unarmed w s.op s.access s.got (λ y. cc (of, y)) h.guest_armed in
       made_at port e d law ldr z p q r w v b act.Nothing s stage.Taking (next_at r b (stage.Collecting true)) Worked
       (settled e d law ldr z (with_guest r b) w' v (stage.Collecting true) refl f tt unarmed h.shadow_armed)
-      (bag_same port e d law ldr z p q r w v b act.Nothing s s.says.2) refl (not_woken s.op act.Nothing (λ y. cc y)) (worked_only act.Nothing (λ y. cc y)) (λ y. cc y)
+      (bag_same port e d law ldr z p q r w v b act.Nothing s s.says.2) refl (not_woken s.op act.Nothing (λ y. cc y))
+      (worked_only act.Nothing (λ y. cc y)) (λ y. cc y)
       (λ y. absurd (cc y))
       (omega (
         arith,

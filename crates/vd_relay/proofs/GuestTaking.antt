@@ -99,7 +99,8 @@ module _ {P E D : Type 0} (port : PortModel P) (e : DeviceModel E) (d : DriverMo
   pub took : (k head : ℕ) (x y : List Piece) (c' : D) → Stands e d z r w v → IsDeviceStep port e p q w r.guest b (act.Taken k x)
       → y ≡ moved z.map x → d.stands c' v → d.begun c' ≡ DriverOp.offer y → d.left c' ≤ 38 → head ≡ next_head v.frame v.done
       → GuestTurn port e d z p q r (offering b c' k head) w v Handled
-  took k head x y c' h s same drives begun few is = to_stage port e d law ldr z p q r w v b stage.Taking (offering b c' k head) Handled (takes_at port e d law ldr z p q r w v b k x h s)
+  took k head x y c' h s same drives begun few is =
+      to_stage port e d law ldr z p q r w v b stage.Taking (offering b c' k head) Handled (takes_at port e d law ldr z p q r w v b k x h s)
       (λ u. took_now k head x c' u s drives (begun ∙ ap DriverOp.offer same) few is) h
 
   -- in the wind-up it stays in hand

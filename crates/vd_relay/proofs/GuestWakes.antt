@@ -25,7 +25,8 @@ module _ {P E D : Type 0} (port : PortModel P) (e : DeviceModel E) (d : DriverMo
   awake_at st calm side h back s = freed_at port e d law ldr z p q r w v b act.Awake s st calm side h back s.says.2 s.says.1 s.rests
 
   -- a turn that woke, at a stage that goes on
-  pub woke_to : (st st' : Stage) (t : Turn) → is_calm st ≡ true → is_shadow st ≡ false → (h : Stands e d z (at_stage r st) w v) → h.back ≡ []
+  pub woke_to : (st st' : Stage) (t : Turn) → is_calm st ≡ true → is_shadow st ≡ false → (h : Stands e d z (at_stage r st) w v)
+      → h.back ≡ []
       → (s : IsDeviceStep port e p q w r.guest b act.Awake) → Stands e d z (next_at r b st') (e.side.after w s.op s.access s.got) v
       → handled t ≡ 0 → t ≢ Slept → t ≢ Again → woke t ≡ device_woken s.op act.Awake
       → idle_owes r.winding st' (e.side.after w s.op s.access s.got).shown v.shown + counted t
@@ -34,9 +35,17 @@ module _ {P E D : Type 0} (port : PortModel P) (e : DeviceModel E) (d : DriverMo
   woke_to st st' t calm side h back s stands none ns na wakes paid =
       let f = awake_at st calm side h back s in
       let w' : DeviceView = e.side.after w s.op s.access s.got in
-      made_at port e d law ldr z p q r w v b act.Awake s st (next_at r b st') t stands (bag_same port e d law ldr z p q r w v b act.Awake s s.says.2) none wakes
+      made_at port e d law ldr z p q r w v b act.Awake s st (next_at r b st') t stands
+      (bag_same port e d law ldr z p q r w v b act.Awake s s.says.2) none wakes
       ((λ y. absurd (ns y)), λ y. absurd (cc y)) na (λ y. absurd (ns y))
-      (omega (arith, none, paid, owes_idle e d law ldr z (with_guest r b) w' v st' f, owes_here port e d law ldr z p q r w v b (at_stage r st) w side))
+      (omega (
+        arith,
+        none,
+        paid,
+        owes_idle e d law ldr z (with_guest r b) w' v st' f,
+        owes_here port e d law ldr z p q r w v b
+            (at_stage r st) w side,
+      ))
 
   -- by how much a rousing is paid for
   pub roused_by : (st : Stage) (g s : Bool) → (a : (finished : Bool) × (st ≡ roused (e.armed b) (d.armed r.shadow) r.winding finished))

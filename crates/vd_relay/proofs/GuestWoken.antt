@@ -34,15 +34,20 @@ module _ {P E D : Type 0} (port : PortModel P) (e : DeviceModel E) (d : DriverMo
       → GuestTurn port e d z p q r (next_at r b st') w v (waking r.stage)
   woken DeviceOp.arm st' is side h s (inl a) m g =
       let at = at_guest_arm r.stage g in
-      waking_at port e d law ldr z p q r w v b stage.ArmingGuest st' Worked at (to_stage port e d law ldr z p q r w v b stage.ArmingGuest (next_at r b st') Worked at (λ x. arming_woke port e d law ldr z p q r w v b st' is x s a.0) h)
+      waking_at port e d law ldr z p q r w v b stage.ArmingGuest st' Worked at
+      (to_stage port e d law ldr z p q r w v b stage.ArmingGuest (next_at r b st') Worked at
+      (λ x. arming_woke port e d law ldr z p q r w v b st' is x s a.0) h)
       refl
   woken DeviceOp.hear st' is side h s (inl a) m g =
       let at = at_guest_hear r.stage g in
-      waking_at port e d law ldr z p q r w v b stage.HearingGuest st' Woke at (to_stage port e d law ldr z p q r w v b stage.HearingGuest (next_at r b st') Woke at (λ x. hearing_woke port e d law ldr z p q r w v b st' is x s a.0) h) refl
+      waking_at port e d law ldr z p q r w v b stage.HearingGuest st' Woke at
+      (to_stage port e d law ldr z p q r w v b stage.HearingGuest (next_at r b st') Woke at
+      (λ x. hearing_woke port e d law ldr z p q r w v b st' is x s a.0) h) refl
   woken DeviceOp.disarm st' is side h s (inl a) m g =
       let at = at_guest_disarm r.stage g in
       waking_at port e d law ldr z p q r w v b stage.DisarmingGuest st' Worked at
-      (to_stage port e d law ldr z p q r w v b stage.DisarmingGuest (next_at r b st') Worked at (λ x. disarming_woke port e d law ldr z p q r w v b st' is x s a.0 (a.1 at)) h) refl
+      (to_stage port e d law ldr z p q r w v b stage.DisarmingGuest (next_at r b st') Worked at
+      (λ x. disarming_woke port e d law ldr z p q r w v b st' is x s a.0 (a.1 at)) h) refl
   woken DeviceOp.arm st' is side h s (inr (inl a)) m g = let x : stage.ArmingGuest ≡ stage.DisarmingGuest = sym (at_guest_arm r.stage g)
       ∙ a.0 in absurd (cc)
   woken DeviceOp.hear st' is side h s (inr (inl a)) m g = let x : stage.HearingGuest ≡ stage.DisarmingGuest = sym (at_guest_hear r.stage g)
@@ -50,7 +55,8 @@ module _ {P E D : Type 0} (port : PortModel P) (e : DeviceModel E) (d : DriverMo
   woken DeviceOp.disarm st' is side h s (inr (inl a)) m g = subst
       (λ (x : Stage). GuestTurn port e d z p q r (next_at r b x) w v (waking r.stage)) (sym a.2)
       (waking_at port e d law ldr z p q r w v b stage.DisarmingGuest stage.HearingGuest Worked a.0
-      (to_stage port e d law ldr z p q r w v b stage.DisarmingGuest (next_at r b stage.HearingGuest) Worked a.0 (λ x. stuck_woke port e d law ldr z p q r w v b is x s a.1) h) refl)
+      (to_stage port e d law ldr z p q r w v b stage.DisarmingGuest (next_at r b stage.HearingGuest) Worked a.0
+      (λ x. stuck_woke port e d law ldr z p q r w v b is x s a.1) h) refl)
   woken DeviceOp.arm st' is side h s (inr (inr a)) m g = absurd (not_shadow side a.0)
   woken DeviceOp.hear st' is side h s (inr (inr a)) m g = absurd (not_shadow side a.0)
   woken DeviceOp.disarm st' is side h s (inr (inr a)) m g = absurd (not_shadow side a.0)

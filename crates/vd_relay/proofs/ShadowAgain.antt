@@ -72,7 +72,8 @@ module _ {P E D : Type 0} (port : PortModel P) (e : DeviceModel E) (d : DriverMo
   again_now none st' on h own s a =
       let v' : DriverView = d.side.after v s.op s.access s.got in
       let f = freed_at port e d law ldr z p q r w v b act.Nothing s (stage.Collecting none) refl refl h s.says.2 s.says.1 in
-      let unarmed : v'.armed ≡ None = ldr.stays_unarmed v s.op s.access s.got (λ y. cc (collects_of port e d law ldr z p q r w v b s, y)) h.shadow_armed in
+      let unarmed : v'.armed ≡ None = ldr.stays_unarmed v s.op s.access s.got
+      (λ y. cc (collects_of port e d law ldr z p q r w v b s, y)) h.shadow_armed in
       let ga : e.armed r.guest ≡ false = device_unarmed e law r.guest w h.serves h.guest_armed in
       let sa : d.armed b ≡ false = driver_unarmed d ldr b v' s.now_stands unarmed in
       let is : st' ≡ roused false false true a.finished = a.is ∙ ap (λ x. roused x (d.armed b) r.winding a.finished) ga
@@ -88,4 +89,5 @@ module _ {P E D : Type 0} (port : PortModel P) (e : DeviceModel E) (d : DriverMo
       → ShadowTurn port e d z p q r (next_at r b st') w v (repeating st')
   again_collected st' on h own s a =
       let at = at_collect r.stage (subst (λ o. ShadowIs r.stage o) s.says.0 h.shadow) in
-      to_stage port e d law ldr z p q r w v b (stage.Collecting at.none) (next_at r b st') (repeating st') at.is (λ x. again_now at.none st' on x own s a) h
+      to_stage port e d law ldr z p q r w v b (stage.Collecting at.none) (next_at r b st') (repeating st') at.is
+      (λ x. again_now at.none st' on x own s a) h

@@ -54,7 +54,8 @@ module _ {P E D : Type 0} (port : PortModel P) (e : DeviceModel E) (d : DriverMo
       let f = awake_at port e d law ldr z p q r w v b stage.ArmingShadow refl refl h s in
       let of : s.op ≡ op.Arm = subst (λ o. IsDriverOp o s.op) is s.of_it in
       let shown : v'.shown ≡ true = shown_at s of (subst (λ o. ShadowShown o v.doing v.shown (d.left r.shadow)) is h.shadow_shown) in
-      woke_to port e d law ldr z p q r w v b stage.ArmingShadow st' Worked refl refl h s (stands_roused e d law ldr z (with_shadow r b) w v' st' f a) refl (λ y. cc y)
+      woke_to port e d law ldr z p q r w v b stage.ArmingShadow st' Worked refl refl h s
+      (stands_roused e d law ldr z (with_shadow r b) w v' st' f a) refl (λ y. cc y)
       (λ y. cc y) (sym (ap (λ o. driver_woken o act.Awake) of)) (roused_on port e d law ldr z p q r w v b st' (a.finished, a.is))
       (omega (
         arith,

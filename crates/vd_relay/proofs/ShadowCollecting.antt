@@ -69,7 +69,8 @@ module _ {P E D : Type 0} (port : PortModel P) (e : DeviceModel E) (d : DriverMo
           before = h.before;
           hand = h.hand;
           back = entry (since z + k) l ∷ [];
-          tied = tied_after port e d law ldr z p q r w v b (act.Collected k l m) s (slice_set r.table m None) h.hand (entry (since z + k) l ∷ []) h.acts
+          tied = tied_after port e d law ldr z p q r w v b (act.Collected k l m) s (slice_set r.table m None) h.hand
+              (entry (since z + k) l ∷ []) h.acts
               (Collect (entry k l ∷ []) ∷ v.done) said_at.done
               (subst (λ (y : ℕ). IsTied z (slice_set r.table y None) h.hand (entry (since z + k) l ∷ []) h.acts v.frame
               (Collect (entry k l ∷ []) ∷ v.done)) (sym said_at.is_head)

@@ -61,8 +61,10 @@ module _ {P E D : Type 0} (port : PortModel P) (e : DeviceModel E) (d : DriverMo
       let v' : DriverView = d.side.after v s.op s.access s.got in
       let f = awake_at port e d law ldr z p q r w v b stage.DisarmingShadow refl refl h s in
       let ga : e.armed r.guest ≡ false = device_unarmed e law r.guest w h.serves h.guest_armed in
-      woke_to port e d law ldr z p q r w v b stage.DisarmingShadow st' Worked refl refl h s (stands_roused e d law ldr z (with_shadow r b) w v' st' f a) refl
-      (λ y. cc y) (λ y. cc y) (sym (ap (λ o. driver_woken o act.Awake) (disarming_of s is))) (roused_on port e d law ldr z p q r w v b st' (a.finished, a.is))
+      woke_to port e d law ldr z p q r w v b stage.DisarmingShadow st' Worked refl refl h s
+      (stands_roused e d law ldr z (with_shadow r b) w v' st' f a) refl
+      (λ y. cc y) (λ y. cc y) (sym (ap (λ o. driver_woken o act.Awake) (disarming_of s is)))
+      (roused_on port e d law ldr z p q r w v b st' (a.finished, a.is))
       (omega (
         arith,
         ap (λ (x : Stage). idle_owes r.winding x w.shown v'.shown) a.is,

@@ -51,7 +51,8 @@ module _ {P E D : Type 0} (port : PortModel P) (e : DeviceModel E) (d : DriverMo
       let v' : DriverView = d.side.after v s.op s.access s.got in
       let f = awake_at port e d law ldr z p q r w v b stage.HearingShadow refl refl h s in
       let of : s.op ≡ op.Hear = subst (λ o. IsDriverOp o s.op) is s.of_it in
-      woke_to port e d law ldr z p q r w v b stage.HearingShadow st' Woke refl refl h s (stands_roused e d law ldr z (with_shadow r b) w v' st' f a) refl (λ y. cc y)
+      woke_to port e d law ldr z p q r w v b stage.HearingShadow st' Woke refl refl h s
+      (stands_roused e d law ldr z (with_shadow r b) w v' st' f a) refl (λ y. cc y)
       (λ y. cc y) (sym (ap (λ o. driver_woken o act.Awake) of)) (roused_on port e d law ldr z p q r w v b st' (a.finished, a.is))
       (omega (
         arith,
@@ -82,7 +83,8 @@ module _ {P E D : Type 0} (port : PortModel P) (e : DeviceModel E) (d : DriverMo
       let some : IsSome v'.armed = (here.0, ap (λ (x : DriverView). x.armed) (asleep_view s) ∙ here.1) in
       made_at port e d law ldr z p q r w v b act.Asleep s stage.HearingShadow (next_at r b (heard_next stage.HearingShadow ga sa)) Slept
       (stands_to ga is f some h.guest_armed) refl
-      (not_woken s.op act.Asleep (λ y. cc y)) ((λ y. refl), λ y. refl) (once port e d law ldr z p q r w v b act.Asleep Slept (λ y. cc y) (λ y. cc y)) (live_to ga)
+      (not_woken s.op act.Asleep (λ y. cc y)) ((λ y. refl), λ y. refl)
+      (once port e d law ldr z p q r w v b act.Asleep Slept (λ y. cc y) (λ y. cc y)) (live_to ga)
       (omega (
         arith,
         owes_idle e d law ldr z (with_shadow r b) w v' (heard_next stage.HearingShadow ga sa) f,
@@ -113,4 +115,5 @@ module _ {P E D : Type 0} (port : PortModel P) (e : DeviceModel E) (d : DriverMo
   slept_at ga sa is h s =
       let at = at_shadow_hear r.stage (subst (λ o. ShadowIs r.stage o) s.says.0 h.shadow) in
       subst (λ (x : Stage). ShadowTurn port e d z p q r (next_at r b (heard_next x ga sa)) w v Slept) (sym at)
-      (to_stage port e d law ldr z p q r w v b stage.HearingShadow (next_at r b (heard_next stage.HearingShadow ga sa)) Slept at (λ x. sleeps ga sa is x s) h)
+      (to_stage port e d law ldr z p q r w v b stage.HearingShadow (next_at r b (heard_next stage.HearingShadow ga sa)) Slept at
+      (λ x. sleeps ga sa is x s) h)

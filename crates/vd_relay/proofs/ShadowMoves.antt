@@ -97,5 +97,12 @@ module _ {P E D : Type 0} (port : PortModel P) (e : DeviceModel E) (d : DriverMo
         shadow_armed = g.armed;
         guest_shown = h.guest_shown;
         shadow_shown = g.shown;
-      }) refl (not_woken s.op act.Moved (λ y. cc y)) (worked_only act.Moved (λ y. cc y)) (once port e d law ldr z p q r w v b act.Moved Worked (λ y. cc y) (λ y. cc y))
-      (shadow_live r.stage side) (omega (arith, g.paid, owes_here port e d law ldr z p q r w v b r v side, owes_here port e d law ldr z p q r w v b (with_shadow r b) v' side))
+      }) refl (not_woken s.op act.Moved (λ y. cc y)) (worked_only act.Moved (λ y. cc y))
+      (once port e d law ldr z p q r w v b act.Moved Worked (λ y. cc y) (λ y. cc y))
+      (shadow_live r.stage side) (omega (
+        arith,
+        g.paid,
+        owes_here port e d law ldr z p q r w v b r v side,
+        owes_here port e d law ldr z p q r w v b
+            (with_shadow r b) v' side,
+      ))

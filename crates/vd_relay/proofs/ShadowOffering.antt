@@ -121,10 +121,12 @@ module _ {P E D : Type 0} (port : PortModel P) (e : DeviceModel E) (d : DriverMo
           before = h.before;
           hand = [];
           back = [];
-          tied = tied_after port e d law ldr z p q r w v b (act.Offered k) s (slice_set r.table head (Some (Guest number 0))) [] [] h.acts (Offer x ∷ v.done) s.says.4
+          tied = tied_after port e d law ldr z p q r w v b (act.Offered k) s (slice_set r.table head (Some (Guest number 0))) [] [] h.acts
+              (Offer x ∷ v.done) s.says.4
               (subst (λ (y : List (Option Origin)). IsTied z y [] [] h.acts v.frame (Offer x ∷ v.done)) table
               (tied_offered z r.table h.acts v.frame v.done x ok fits room tied_now));
-          guest = subst (λ o. GuestIs (stage.Collecting false) o) (sym (guest_free port e d law ldr z p q r w v b (stage.Offering number head) refl h)) tt;
+          guest = subst (λ o. GuestIs (stage.Collecting false) o)
+              (sym (guest_free port e d law ldr z p q r w v b (stage.Offering number head) refl h)) tt;
           shadow = at.0;
           takes = subst (λ o. TakesFrom o []) (sym (guest_free port e d law ldr z p q r w v b (stage.Offering number head) refl h)) tt;
           offers = at.1;

@@ -97,7 +97,8 @@ module _ {P E D : Type 0} (port : PortModel P) (e : DeviceModel E) (d : DriverMo
   framed_at answer s paired = subst (λ (f : Frame). ArePaired z.map w.frame f) (sym (ldr.framed v s.op s.access s.got)) paired
 
   -- the tie at the view after the step
-  pub tied_after : (answer : DriverAct) (s : IsDriverStep port d p q v r.shadow b answer) (t' : List (Option Origin)) (hand : List (List Piece))
+  pub tied_after : (answer : DriverAct) (s : IsDriverStep port d p q v r.shadow b answer) (t' : List (Option Origin))
+      (hand : List (List Piece))
       (back : List Used) (acts : List DeviceDone) (o' : List DriverDone) → (d.side.after v s.op s.access s.got).done ≡ o'
       → IsTied z t' hand back acts v.frame o'
       → IsTied z t' hand back acts (d.side.after v s.op s.access s.got).frame (d.side.after v s.op s.access s.got).done

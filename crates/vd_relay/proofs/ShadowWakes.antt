@@ -35,7 +35,14 @@ module _ {P E D : Type 0} (port : PortModel P) (e : DeviceModel E) (d : DriverMo
       let v' : DriverView = d.side.after v s.op s.access s.got in
       made_at port e d law ldr z p q r w v b act.Awake s st (next_at r b st') t stands none wakes ((λ y. absurd (ns y)), λ y. absurd (cc y))
       (once port e d law ldr z p q r w v b act.Awake t (λ y. cc y) na) live
-      (omega (arith, none, paid, owes_idle e d law ldr z (with_shadow r b) w v' st' f, owes_here port e d law ldr z p q r w v b (at_stage r st) v side))
+      (omega (
+        arith,
+        none,
+        paid,
+        owes_idle e d law ldr z (with_shadow r b) w v' st' f,
+        owes_here port e d law ldr z p q r w v b
+            (at_stage r st) v side,
+      ))
 
   -- by how much a rousing is paid for
   pub roused_by : (st : Stage) (g s : Bool) → (a : (finished : Bool) × (st ≡ roused (e.armed r.guest) (d.armed b) r.winding finished))
@@ -46,7 +53,8 @@ module _ {P E D : Type 0} (port : PortModel P) (e : DeviceModel E) (d : DriverMo
     roused_small (e.armed r.guest) (d.armed b) r.winding a.0 g s,
   )
 
-  pub roused_on : (st : Stage) → (a : (finished : Bool) × (st ≡ roused (e.armed r.guest) (d.armed b) r.winding finished)) → is_rested st ≡ false
+  pub roused_on : (st : Stage) → (a : (finished : Bool) × (st ≡ roused (e.armed r.guest) (d.armed b) r.winding finished))
+      → is_rested st ≡ false
   roused_on st a = ap is_rested a.1 ∙ roused_live (e.armed r.guest) (d.armed b) r.winding a.0
 
   pub waking_at : (st st' : Stage) (t : Turn) → r.stage ≡ st → ShadowTurn port e d z p q r (next_at r b st') w v t → t ≡ waking st

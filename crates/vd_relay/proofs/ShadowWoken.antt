@@ -33,16 +33,21 @@ module _ {P E D : Type 0} (port : PortModel P) (e : DeviceModel E) (d : DriverMo
       → ShadowTurn port e d z p q r (next_at r b st') w v (waking r.stage)
   woken DriverOp.arm st' is side h s (inl a) m g =
       let at = at_shadow_arm r.stage g in
-      waking_at port e d law ldr z p q r w v b stage.ArmingShadow st' Worked at (to_stage port e d law ldr z p q r w v b stage.ArmingShadow (next_at r b st') Worked at (λ x. arming_woke port e d law ldr z p q r w v b st' is x s a.0) h)
+      waking_at port e d law ldr z p q r w v b stage.ArmingShadow st' Worked at
+      (to_stage port e d law ldr z p q r w v b stage.ArmingShadow (next_at r b st') Worked at
+      (λ x. arming_woke port e d law ldr z p q r w v b st' is x s a.0) h)
       refl
   woken DriverOp.hear st' is side h s (inl a) m g =
       let at = at_shadow_hear r.stage g in
-      waking_at port e d law ldr z p q r w v b stage.HearingShadow st' Woke at (to_stage port e d law ldr z p q r w v b stage.HearingShadow (next_at r b st') Woke at (λ x. hearing_woke port e d law ldr z p q r w v b st' is x s a.0) h)
+      waking_at port e d law ldr z p q r w v b stage.HearingShadow st' Woke at
+      (to_stage port e d law ldr z p q r w v b stage.HearingShadow (next_at r b st') Woke at
+      (λ x. hearing_woke port e d law ldr z p q r w v b st' is x s a.0) h)
       refl
   woken DriverOp.disarm st' is side h s (inl a) m g =
       let at = at_shadow_disarm r.stage g in
       waking_at port e d law ldr z p q r w v b stage.DisarmingShadow st' Worked at
-      (to_stage port e d law ldr z p q r w v b stage.DisarmingShadow (next_at r b st') Worked at (λ x. disarming_woke port e d law ldr z p q r w v b st' is x s a.0 (a.2 at)) h) refl
+      (to_stage port e d law ldr z p q r w v b stage.DisarmingShadow (next_at r b st') Worked at
+      (λ x. disarming_woke port e d law ldr z p q r w v b st' is x s a.0 (a.2 at)) h) refl
   woken DriverOp.arm st' is side h s (inr (inr a)) m g =
       let x : stage.ArmingShadow ≡ stage.DisarmingShadow = sym (at_shadow_arm r.stage g) ∙ a.0 in absurd (cc)
   woken DriverOp.hear st' is side h s (inr (inr a)) m g =
@@ -50,7 +55,8 @@ module _ {P E D : Type 0} (port : PortModel P) (e : DeviceModel E) (d : DriverMo
   woken DriverOp.disarm st' is side h s (inr (inr a)) m g =
       subst (λ (x : Stage). ShadowTurn port e d z p q r (next_at r b x) w v (waking r.stage)) (sym a.2)
       (waking_at port e d law ldr z p q r w v b stage.DisarmingShadow stage.HearingShadow Worked a.0
-      (to_stage port e d law ldr z p q r w v b stage.DisarmingShadow (next_at r b stage.HearingShadow) Worked a.0 (λ x. stuck_woke port e d law ldr z p q r w v b is x s a.1) h) refl)
+      (to_stage port e d law ldr z p q r w v b stage.DisarmingShadow (next_at r b stage.HearingShadow) Worked a.0
+      (λ x. stuck_woke port e d law ldr z p q r w v b is x s a.1) h) refl)
   woken DriverOp.arm st' is side h s (inr (inl a)) m g = absurd (not_guest side a.0)
   woken DriverOp.hear st' is side h s (inr (inl a)) m g = absurd (not_guest side a.0)
   woken DriverOp.disarm st' is side h s (inr (inl a)) m g = absurd (not_guest side a.0)
