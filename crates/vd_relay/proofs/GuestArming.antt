@@ -44,7 +44,7 @@ module _ {P E D : Type 0} (port : PortModel P) (e : DeviceModel E) (d : DriverMo
         | inr (inr x) ↦ absurd (cc (arm, x))
       ])
 
-  -- roused, from an arming, from a hearing and from a disarming
+  -- roused from an arming
   pub arming_woke : (st' : Stage) → e.begun r.guest ≡ DeviceOp.arm → (h : Stands e d z (at_stage r stage.ArmingGuest) w v)
       → (s : IsDeviceStep port e p q w r.guest b act.Awake)
       → IsRoused e d (with_guest r b) (e.side.after w s.op s.access s.got) v st'

@@ -20,7 +20,8 @@ use Rattle.vd_relay.specs.Tie.{Start}
 use Rattle.vd_relay.specs.Relay.{Stuck, Stands, GuestTurn, IsRoused}
 use Rattle.vd_relay.proofs.Calm.{Free, at_stage, settled, owes_idle, stands_roused, hear_most}
 use Rattle.vd_relay.proofs.Ops.{at_guest_hear}
-use Rattle.vd_relay.proofs.GuestTurns.{bag_same, freed_at, made_at, next_at, not_woken, to_stage, with_guest}
+use Rattle.vd_relay.proofs.GuestTurns.{bag_same, made_at, next_at, not_woken, to_stage, with_guest}
+use Rattle.vd_relay.proofs.GuestFree.{freed_at}
 use Rattle.vd_relay.proofs.GuestWakes.{awake_at, roused_by, woke_to}
 
 hears_some : (winding : Bool) (x : _) → 1 ≤ guest_hears winding x

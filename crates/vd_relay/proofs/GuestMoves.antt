@@ -87,7 +87,8 @@ module _ {P E D : Type 0} (port : PortModel P) (e : DeviceModel E) (d : DriverMo
         shadow_shown = h.shadow_shown;
       }) (bag_same port e d law ldr z p q r w v b act.Moved s done) refl (not_woken s.op act.Moved (λ y. cc y))
       (worked_only act.Moved (λ y. cc y)) (λ y. cc y)
-      (λ y. absurd (cc y)) (omega (
+      (λ y. absurd (cc y))
+      (omega (
         arith,
         g.paid,
         owes_here port e d law ldr z p q r w v b r w side,

@@ -19,7 +19,8 @@ use Rattle.vd_relay.specs.Relay.{Stands, GuestTurn}
 use Rattle.vd_relay.proofs.Calm.{at_stage, settled, owes_idle}
 use Rattle.vd_relay.proofs.Ops.{at_take}
 use Rattle.vd_relay.proofs.Turns.{worked_only}
-use Rattle.vd_relay.proofs.GuestTurns.{bag_same, freed_at, made_at, next_at, not_woken, to_stage, with_guest}
+use Rattle.vd_relay.proofs.GuestTurns.{bag_same, made_at, next_at, not_woken, to_stage, with_guest}
+use Rattle.vd_relay.proofs.GuestFree.{freed_at}
 
 none_paid : (winding shown : Bool) (left : ℕ) → collect_owes winding true shown + 1 ≤ taking_owes winding false shown left
 none_paid true shown left = omega arith

@@ -22,7 +22,8 @@ use Rattle.vd_relay.specs.Relay.{Stands, GuestTurn}
 use Rattle.vd_relay.proofs.Calm.{at_stage}
 use Rattle.vd_relay.proofs.Ops.{at_rest}
 use Rattle.vd_relay.proofs.Turns.{worked_only}
-use Rattle.vd_relay.proofs.GuestTurns.{framed_at, made_at, next_at, not_woken, shadow_free, to_stage}
+use Rattle.vd_relay.proofs.GuestTurns.{framed_at, made_at, next_at, not_woken, to_stage}
+use Rattle.vd_relay.proofs.GuestFree.{shadow_free}
 
 module _ {P E D : Type 0} (port : PortModel P) (e : DeviceModel E) (d : DriverModel D) (law : IsLawfulDevice e) (ldr : IsLawfulDriver d)
     (z : Start) (p q : P) (r : State E D) (w : DeviceView) (v : DriverView) (b : E) where

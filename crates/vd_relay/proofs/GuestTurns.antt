@@ -1,18 +1,15 @@
 -- What a turn of the guest's end owes to what its answer says.
-use Rattle.std.proofs.Common.{◌≡◌, ◌≢◌, ◌↔◌, ℕ, ◌+◌, ◌*◌, ◌≤◌, Bool, true, false, List, [], if◌then◌else◌, refl, sym, ◌∙◌, ap, subst, inl}
+use Rattle.std.proofs.Common.{◌≡◌, ◌≢◌, ◌↔◌, ℕ, ◌+◌, ◌*◌, ◌≤◌, Bool, false, if◌then◌else◌, refl, sym, ◌∙◌, ap, subst, inl}
 use Rattle.vd_words.specs.declared.access.Op.{Op}
 use Rattle.vd_words.specs.declared.access.Op.TheVariants as op
 use Rattle.vd_words.specs.Model.{PortModel}
 use Rattle.vd_ring.specs.declared.act.DeviceAct.{DeviceAct}
 use Rattle.vd_ring.specs.declared.act.DeviceAct.TheVariants as act
 use Rattle.vd_ring.specs.declared.frame.Frame.{Frame}
-use Rattle.vd_ring.specs.declared.frame.Used.{Used}
 use Rattle.vd_ring.specs.declared.driver.DriverView.{DriverView}
-use Rattle.vd_ring.specs.declared.device.DeviceDone.{DeviceDone}
 use Rattle.vd_ring.specs.declared.device.DeviceView.{DeviceView}
 use Rattle.vd_ring.specs.History.{gives}
 use Rattle.vd_ring.specs.Sleep.{device_woken}
-use Rattle.vd_layout.specs.Begun.{DriverOp, DeviceOp}
 use Rattle.vd_layout.specs.Driver.{DriverModel, IsLawfulDriver}
 use Rattle.vd_layout.specs.Device.{DeviceModel, IsLawfulDevice, IsDeviceStep}
 use Rattle.vd_relay.specs.declared.counts.Turn.{Turn}
@@ -22,10 +19,9 @@ use Rattle.vd_relay.specs.declared.state.State.{State}
 use Rattle.vd_relay.specs.Pairing.{ArePaired}
 use Rattle.vd_relay.specs.Pace.{counted, handled, woke, guest_handled, guest_owes, shadow_owes}
 use Rattle.vd_relay.specs.Stages.{is_rested, is_shadow}
-use Rattle.vd_relay.specs.Tie.{Start, IsTied, since}
+use Rattle.vd_relay.specs.Tie.{Start, since}
 use Rattle.vd_relay.specs.Relay.{Stands, GuestTurn, GivesOne, owes}
-use Rattle.vd_relay.proofs.Calm.{Free, at_stage, hand_at, done_calm, not_offering, is_calm}
-use Rattle.vd_relay.proofs.Ops.{shadow_idle}
+use Rattle.vd_relay.proofs.Calm.{at_stage}
 
 abbrev pub with_guest : {E D : Type 0} → State E D → E → State E D
 with_guest r b = record { guest = b; shadow = r.shadow; table = r.table; stage = r.stage; winding = r.winding; target = r.target }
@@ -81,28 +77,6 @@ module _ {P E D : Type 0} (port : PortModel P) (e : DeviceModel E) (d : DriverMo
   pub framed_at : (answer : DeviceAct) (s : IsDeviceStep port e p q w r.guest b answer) → ArePaired z.map w.frame v.frame
       → ArePaired z.map (e.side.after w s.op s.access s.got).frame v.frame
   framed_at answer s paired = subst (λ (f : Frame). ArePaired z.map f v.frame) (sym (law.framed w s.op s.access s.got)) paired
-
-  pub shadow_free : (st : Stage) → is_shadow st ≡ false → (h : Stands e d z (at_stage r st) w v) → d.begun r.shadow ≡ DriverOp.idle
-  shadow_free st side h = shadow_idle st (d.begun r.shadow) side h.shadow
-
-  -- where the operation has ended, and nothing was done
-  pub freed_at : (answer : DeviceAct) (s : IsDeviceStep port e p q w r.guest b answer) (st : Stage) → is_calm st ≡ true
-      → is_shadow st ≡ false → (h : Stands e d z (at_stage r st) w v) → h.back ≡ []
-      → (e.side.after w s.op s.access s.got).done ≡ w.done → e.begun b ≡ DeviceOp.idle → e.resting b ≡ false
-      → Free e d z (with_guest r b) (e.side.after w s.op s.access s.got) v
-  freed_at answer s st calm side h none done idle awake = record {
-    serves = s.now_stands;
-    drives = h.drives;
-    paired = framed_at answer s h.paired;
-    awake = awake;
-    hand = h.hand;
-    tied = subst (λ (x : List DeviceDone). IsTied z r.table h.hand [] x v.frame v.done)
-        (done_calm st h.acts w.done calm h.before ∙ sym done)
-        (subst (λ (us : List Used). IsTied z r.table h.hand us h.acts v.frame v.done) none h.tied);
-    few = hand_at st r.winding h.hand (not_offering st calm) h.in_hand;
-    guest_idle = idle;
-    shadow_idle = shadow_free st side h;
-  }
 
   pub bag_same : (answer : DeviceAct) (s : IsDeviceStep port e p q w r.guest b answer) → (e.side.after w s.op s.access s.got).done ≡ w.done
       → GivesOne (since z) w.done v.done (e.side.after w s.op s.access s.got).done

@@ -6,6 +6,7 @@ pub mod Ops
 pub mod Turns
 pub mod GuestGoing
 pub mod GuestTurns
+pub mod GuestFree
 pub mod GuestMoves
 pub mod GuestNothing
 pub mod GuestWakes
@@ -17,9 +18,11 @@ pub mod GuestResting
 pub mod GuestGiving
 pub mod GuestChains
 pub mod GuestTaking
+pub mod GuestKeeping
 pub mod ShadowGoing
 pub mod Origins
 pub mod ShadowTurns
+pub mod ShadowFree
 pub mod ShadowMoves
 pub mod ShadowNothing
 pub mod ShadowAgain
@@ -29,6 +32,7 @@ pub mod ShadowArming
 pub mod ShadowHearing
 pub mod ShadowDisarming
 pub mod ShadowWoken
+pub mod ShadowRows
 pub mod ShadowOffering
 pub mod ShadowCollecting
 pub mod Steps

@@ -21,7 +21,8 @@ use Rattle.vd_relay.specs.Relay.{Stands, ShadowTurn, IsRoused, IsFinished}
 use Rattle.vd_relay.proofs.Calm.{at_stage, owes_idle, stands_roused}
 use Rattle.vd_relay.proofs.Ops.{at_collect}
 use Rattle.vd_relay.proofs.Turns.{worked_only}
-use Rattle.vd_relay.proofs.ShadowTurns.{freed_at, made_at, next_at, not_woken, to_stage, with_shadow}
+use Rattle.vd_relay.proofs.ShadowTurns.{made_at, next_at, not_woken, to_stage, with_shadow}
+use Rattle.vd_relay.proofs.ShadowFree.{freed_at}
 use Rattle.vd_relay.proofs.ShadowNothing.{collects_of, look_owes}
 
 module _ {P E D : Type 0} (port : PortModel P) (e : DeviceModel E) (d : DriverModel D) (law : IsLawfulDevice e) (ldr : IsLawfulDriver d)

@@ -21,7 +21,8 @@ use Rattle.vd_relay.specs.Relay.{Stands, ShadowTurn, IsRoused}
 use Rattle.vd_relay.proofs.Calm.{at_stage, settled, owes_idle, stands_roused, roused_most}
 use Rattle.vd_relay.proofs.Ops.{at_shadow_arm}
 use Rattle.vd_relay.proofs.Turns.{worked_only}
-use Rattle.vd_relay.proofs.ShadowTurns.{freed_at, made_at, next_at, not_woken, once, to_stage, with_shadow}
+use Rattle.vd_relay.proofs.ShadowTurns.{made_at, next_at, not_woken, once, to_stage, with_shadow}
+use Rattle.vd_relay.proofs.ShadowFree.{freed_at}
 use Rattle.vd_relay.proofs.ShadowWakes.{roused_by, roused_on}
 
 module _ {P E D : Type 0} (port : PortModel P) (e : DeviceModel E) (d : DriverModel D) (law : IsLawfulDevice e) (ldr : IsLawfulDriver d)

@@ -27,10 +27,12 @@ use Rattle.vd_relay.proofs.Ties.{tied_collected, head_stored, may_give}
 use Rattle.vd_relay.proofs.Calm.{at_stage}
 use Rattle.vd_relay.proofs.Ops.{at_collect, CollectsAt}
 use Rattle.vd_relay.proofs.Turns.{handled_only}
-use Rattle.vd_relay.proofs.ShadowTurns.{framed_at, made_at, none_back, not_woken, once, tied_after, to_stage}
+use Rattle.vd_relay.proofs.ShadowTurns.{framed_at, made_at, not_woken, once, tied_after, to_stage}
+use Rattle.vd_relay.proofs.ShadowFree.{none_back}
 
 module _ {P E D : Type 0} (port : PortModel P) (e : DeviceModel E) (d : DriverModel D) (law : IsLawfulDevice e) (ldr : IsLawfulDriver d)
     (z : Start) (p q : P) (r : State E D) (w : DeviceView) (v : DriverView) (b : D) where
+  -- where a collected chain's origin is taken out and its give is begun
   abbrev pub giving : E → D → ℕ → State E D
   giving a' b' head = record {
     guest = a';

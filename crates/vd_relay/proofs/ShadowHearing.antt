@@ -20,7 +20,8 @@ use Rattle.vd_relay.specs.Tie.{Start}
 use Rattle.vd_relay.specs.Relay.{Stuck, Stands, ShadowTurn, IsRoused}
 use Rattle.vd_relay.proofs.Calm.{Free, at_stage, settled, owes_idle, stands_roused, hear_most}
 use Rattle.vd_relay.proofs.Ops.{at_shadow_hear}
-use Rattle.vd_relay.proofs.ShadowTurns.{freed_at, made_at, next_at, not_woken, once, to_stage, with_shadow}
+use Rattle.vd_relay.proofs.ShadowTurns.{made_at, next_at, not_woken, once, to_stage, with_shadow}
+use Rattle.vd_relay.proofs.ShadowFree.{freed_at}
 use Rattle.vd_relay.proofs.ShadowWakes.{awake_at, roused_by, roused_on, woke_to}
 
 hears_some : (winding : Bool) (x : _) → 1 ≤ shadow_hears winding x

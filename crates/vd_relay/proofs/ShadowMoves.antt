@@ -20,7 +20,8 @@ use Rattle.vd_relay.specs.Tie.{Start, since}
 use Rattle.vd_relay.specs.Relay.{Stuck, Stands, ShadowTurn}
 use Rattle.vd_relay.proofs.ShadowGoing.{Goes, went}
 use Rattle.vd_relay.proofs.Turns.{worked_only}
-use Rattle.vd_relay.proofs.ShadowTurns.{framed_at, made_at, not_woken, once, owes_here, shadow_live, tied_after, with_shadow}
+use Rattle.vd_relay.proofs.ShadowTurns.{framed_at, made_at, not_woken, once, owes_here, tied_after, with_shadow}
+use Rattle.vd_relay.proofs.ShadowFree.{shadow_live}
 
 module _ {P E D : Type 0} (port : PortModel P) (e : DeviceModel E) (d : DriverModel D) (law : IsLawfulDevice e) (ldr : IsLawfulDriver d)
     (z : Start) (p q : P) (r : State E D) (w : DeviceView) (v : DriverView) (b : D) where
@@ -99,10 +100,10 @@ module _ {P E D : Type 0} (port : PortModel P) (e : DeviceModel E) (d : DriverMo
         shadow_shown = g.shown;
       }) refl (not_woken s.op act.Moved (λ y. cc y)) (worked_only act.Moved (λ y. cc y))
       (once port e d law ldr z p q r w v b act.Moved Worked (λ y. cc y) (λ y. cc y))
-      (shadow_live r.stage side) (omega (
+      (shadow_live r.stage side)
+      (omega (
         arith,
         g.paid,
         owes_here port e d law ldr z p q r w v b r v side,
-        owes_here port e d law ldr z p q r w v b
-            (with_shadow r b) v' side,
+        owes_here port e d law ldr z p q r w v b (with_shadow r b) v' side,
       ))

@@ -20,7 +20,8 @@ use Rattle.vd_relay.specs.Relay.{Stands, ShadowTurn}
 use Rattle.vd_relay.proofs.Calm.{Free, at_stage, settled, owes_idle}
 use Rattle.vd_relay.proofs.Ops.{at_collect}
 use Rattle.vd_relay.proofs.Turns.{worked_only}
-use Rattle.vd_relay.proofs.ShadowTurns.{freed_at, made_at, next_at, not_woken, to_stage, with_shadow}
+use Rattle.vd_relay.proofs.ShadowTurns.{made_at, next_at, not_woken, to_stage, with_shadow}
+use Rattle.vd_relay.proofs.ShadowFree.{freed_at}
 
 none_small : (none g s : Bool) → idle_owes false (none_next (stage.Collecting none)) g s + 1 ≤ collect_owes false none false
 none_small true g s = omega arith

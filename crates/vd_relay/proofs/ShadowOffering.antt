@@ -1,41 +1,41 @@
 -- An offer of the shadow end: the chain's number is stored.
-use Rattle.std.proofs.Common.{◌≡◌, ℕ, ◌+◌, ◌<◌, ◌≤◌, Bool, true, false, Option, Some, None, List, [], ◌∷◌, length, slice_set, if◌then◌else◌, refl, sym, ◌∙◌, ap, subst, arith, inl, inr}
+use Rattle.std.proofs.Common.{◌≡◌, ℕ, ◌+◌, ◌≤◌, Bool, true, false, Option, Some, List, [], ◌∷◌, length, slice_set, if◌then◌else◌, refl, sym, ◌∙◌, ap, subst, arith, inl, inr}
 use Rattle.vd_model.specs.declared.chain.Piece.{Piece}
 use Rattle.vd_words.specs.declared.access.Op.TheVariants as op
 use Rattle.vd_words.specs.Model.{PortModel}
 use Rattle.vd_ring.specs.declared.act.DriverAct.TheVariants as act
-use Rattle.vd_ring.specs.declared.frame.Used.{Used}
 use Rattle.vd_ring.specs.declared.driver.DriverDone.TheVariants.{Offer}
 use Rattle.vd_ring.specs.declared.driver.DriverView.{DriverView}
 use Rattle.vd_ring.specs.declared.device.DeviceView.{DeviceView}
-use Rattle.vd_ring.specs.Frames.{Fits, borrowed}
-use Rattle.vd_ring.specs.History.{offers, next_head, free}
-use Rattle.vd_ring.specs.Places.{Places}
-use Rattle.vd_ring.proofs.Rooms.{room_free}
+use Rattle.vd_ring.specs.History.{offers, next_head}
 use Rattle.vd_layout.specs.Begun.{DriverOp, DriverPublished, IsDriverOp}
 use Rattle.vd_layout.specs.Driver.{DriverModel, IsLawfulDriver, IsDriverStep}
 use Rattle.vd_layout.specs.Device.{DeviceModel, IsLawfulDevice}
 use Rattle.vd_table.specs.declared.Origin.{Origin}
 use Rattle.vd_table.specs.declared.Origin.TheVariants.{Guest}
-use Rattle.vd_table.specs.Rows.{row}
 use Rattle.vd_relay.specs.declared.counts.Turn.TheVariants.{Handled}
-use Rattle.vd_relay.specs.declared.stage.Stage.{Stage}
 use Rattle.vd_relay.specs.declared.stage.Stage.TheVariants as stage
 use Rattle.vd_relay.specs.declared.state.State.{State}
 use Rattle.vd_relay.specs.Pace.{shadow_owes}
 use Rattle.vd_relay.specs.Stages.{GuestIs, ShadowIs, TakesFrom, OffersHand, BackIs, ShadowShown}
 use Rattle.vd_relay.specs.Tie.{Start, IsTied, since, origin}
 use Rattle.vd_relay.specs.Relay.{Stands, ShadowTurn}
-use Rattle.vd_relay.proofs.Ties.{tied_offered, next_inside, next_empty}
+use Rattle.vd_relay.proofs.Ties.{tied_offered}
 use Rattle.vd_relay.proofs.Calm.{FewInHand, at_stage, hand_to}
 use Rattle.vd_relay.proofs.Ops.{at_offer}
 use Rattle.vd_relay.proofs.ShadowGoing.{collect_most}
 use Rattle.vd_relay.proofs.Turns.{handled_only}
-use Rattle.vd_relay.proofs.ShadowTurns.{framed_at, guest_free, made_at, none_back, not_woken, once, tied_after, to_stage}
+use Rattle.vd_relay.proofs.ShadowTurns.{framed_at, made_at, not_woken, once, tied_after, to_stage}
+use Rattle.vd_relay.proofs.ShadowFree.{guest_free}
+use Rattle.vd_relay.proofs.ShadowRows.{fits, ok, room, tied_now}
+
+few_none : (y : Bool) → FewInHand y []
+few_none false = refl
+few_none true = omega arith
 
 module _ {P E D : Type 0} (port : PortModel P) (e : DeviceModel E) (d : DriverModel D) (law : IsLawfulDevice e) (ldr : IsLawfulDriver d)
     (z : Start) (p q : P) (r : State E D) (w : DeviceView) (v : DriverView) (b : D) where
-  -- where an offered chain's origin is stored, and where a collected chain's is taken out and its give is begun
+  -- where an offered chain's origin is stored
   abbrev pub stored : D → ℕ → ℕ → State E D
   stored b' number head = record {
     guest = r.guest;
@@ -46,62 +46,37 @@ module _ {P E D : Type 0} (port : PortModel P) (e : DeviceModel E) (d : DriverMo
     target = r.target;
   }
 
+  published_owes : (o : DriverOp) (u : DriverView) (n : ℕ) → DriverPublished o
+      → shadow_owes r.winding (stage.Collecting false) o u.doing w.shown u.shown n ≤ n + 48
+  published_owes o u n (inl i) = omega (
+    arith,
+    ap (λ x. shadow_owes r.winding (stage.Collecting false) x u.doing w.shown u.shown n) i,
+    collect_most r.winding false u.shown,
+    most_few r.winding,
+  )
+    where
+      most_few : (y : Bool) → (if y then 4 else 48) ≤ 48
+      most_few true = omega arith
+      most_few false = omega arith
+  published_owes o u n (inr i) = omega (
+    arith,
+    ap (λ x. shadow_owes r.winding (stage.Collecting false) x u.doing w.shown u.shown n) i,
+    most_few r.winding,
+  )
+    where
+      most_few : (y : Bool) → (if y then 4 else 48) ≤ 48
+      most_few true = omega arith
+      most_few false = omega arith
+
+  published_is : (o : DriverOp) → DriverPublished o → (ShadowIs (stage.Collecting false) o) × (OffersHand o [])
+      × ((u : _) (g : Bool) (n : ℕ) → ShadowShown o u g n)
+  published_is o (inl i) = subst (λ x. (ShadowIs (stage.Collecting false) x) × (OffersHand x [])
+      × ((u : _) (g : Bool) (n : ℕ) → ShadowShown x u g n)) (sym i) (tt, tt, λ u g n. tt)
+  published_is o (inr i) = subst (λ x. (ShadowIs (stage.Collecting false) x) × (OffersHand x [])
+      × ((u : _) (g : Bool) (n : ℕ) → ShadowShown x u g n)) (sym i) (tt, tt, λ u g n. tt)
+
   module _ (number head : ℕ) (h : Stands e d z (at_stage r (stage.Offering number head)) w v) (k : ℕ)
       (s : IsDriverStep port d p q v r.shadow b (act.Offered k)) where
-    ok : Places v.frame v.done
-    ok = ldr.places r.shadow v h.drives
-
-    fits : Fits v.frame s.says.0
-    fits = s.says.5.fits
-
-    room : borrowed v.frame s.says.0 ≤ length (free v.frame v.done)
-    room = room_free v.frame v.done s.says.0 ok s.says.5.fits s.says.5.room
-
-    tied_now : IsTied z r.table (s.says.0 ∷ []) [] h.acts v.frame v.done
-    tied_now = subst (λ (us : List Used). IsTied z r.table (s.says.0 ∷ []) us h.acts v.frame v.done)
-        (none_back port e d law ldr z p q r w v b (stage.Offering number head) refl h)
-        (subst (λ (cs : List (List Piece)). IsTied z r.table cs h.back h.acts v.frame v.done)
-        (subst (λ o. OffersHand o h.hand) s.says.1 h.offers) h.tied)
-
-    put_inside_at : head < length r.table
-    put_inside_at = omega (arith, h.offer.1, next_inside (since z) r.table v.frame v.done s.says.0 ok fits room tied_now.holds)
-
-    put_free_at : row r.table head ≡ None
-    put_free_at = ap (row r.table) h.offer.1 ∙ next_empty (since z) r.table v.frame v.done s.says.0 ok fits room tied_now.holds
-
-    few_none : (y : Bool) → FewInHand y []
-    few_none false = refl
-    few_none true = omega arith
-
-    published_owes : (o : DriverOp) (u : DriverView) (n : ℕ) → DriverPublished o
-        → shadow_owes r.winding (stage.Collecting false) o u.doing w.shown u.shown n ≤ n + 48
-    published_owes o u n (inl i) = omega (
-      arith,
-      ap (λ x. shadow_owes r.winding (stage.Collecting false) x u.doing w.shown u.shown n) i,
-      collect_most r.winding false u.shown,
-      most_few r.winding,
-    )
-      where
-        most_few : (y : Bool) → (if y then 4 else 48) ≤ 48
-        most_few true = omega arith
-        most_few false = omega arith
-    published_owes o u n (inr i) = omega (
-      arith,
-      ap (λ x. shadow_owes r.winding (stage.Collecting false) x u.doing w.shown u.shown n) i,
-      most_few r.winding,
-    )
-      where
-        most_few : (y : Bool) → (if y then 4 else 48) ≤ 48
-        most_few true = omega arith
-        most_few false = omega arith
-
-    published_is : (o : DriverOp) → DriverPublished o → (ShadowIs (stage.Collecting false) o) × (OffersHand o [])
-        × ((u : _) (g : Bool) (n : ℕ) → ShadowShown o u g n)
-    published_is o (inl i) = subst (λ x. (ShadowIs (stage.Collecting false) x) × (OffersHand x [])
-        × ((u : _) (g : Bool) (n : ℕ) → ShadowShown x u g n)) (sym i) (tt, tt, λ u g n. tt)
-    published_is o (inr i) = subst (λ x. (ShadowIs (stage.Collecting false) x) × (OffersHand x [])
-        × ((u : _) (g : Bool) (n : ℕ) → ShadowShown x u g n)) (sym i) (tt, tt, λ u g n. tt)
-
     offered_now : ShadowTurn port e d z p q (at_stage r (stage.Offering number head)) (stored b number head) w v Handled
     offered_now =
         let x : List Piece = s.says.0 in
@@ -124,7 +99,9 @@ module _ {P E D : Type 0} (port : PortModel P) (e : DeviceModel E) (d : DriverMo
           tied = tied_after port e d law ldr z p q r w v b (act.Offered k) s (slice_set r.table head (Some (Guest number 0))) [] [] h.acts
               (Offer x ∷ v.done) s.says.4
               (subst (λ (y : List (Option Origin)). IsTied z y [] [] h.acts v.frame (Offer x ∷ v.done)) table
-              (tied_offered z r.table h.acts v.frame v.done x ok fits room tied_now));
+              (tied_offered z r.table h.acts v.frame v.done x (ok port e d law ldr z p q r w v b number head h k s)
+              (fits port e d law ldr z p q r w v b number head h k s) (room port e d law ldr z p q r w v b number head h k s)
+              (tied_now port e d law ldr z p q r w v b number head h k s)));
           guest = subst (λ o. GuestIs (stage.Collecting false) o)
               (sym (guest_free port e d law ldr z p q r w v b (stage.Offering number head) refl h)) tt;
           shadow = at.0;
@@ -146,18 +123,6 @@ module _ {P E D : Type 0} (port : PortModel P) (e : DeviceModel E) (d : DriverMo
           published_owes (d.begun b) v' (d.left b) s.says.2,
           ap (λ o. shadow_owes r.winding (stage.Offering number head) o v.doing w.shown v.shown (d.left r.shadow)) s.says.1,
         ))
-
-  at_offering : (number head : ℕ) → r.stage ≡ stage.Offering number head → Stands e d z r w v
-      → Stands e d z (at_stage r (stage.Offering number head)) w v
-  at_offering number head is h = subst (λ (x : Stage). Stands e d z (at_stage r x) w v) is h
-
-  pub put_inside : (number head k : ℕ) → r.stage ≡ stage.Offering number head → Stands e d z r w v
-      → IsDriverStep port d p q v r.shadow b (act.Offered k) → head < length r.table
-  put_inside number head k is h s = put_inside_at number head (at_offering number head is h) k s
-
-  pub put_free : (number head k : ℕ) → r.stage ≡ stage.Offering number head → Stands e d z r w v
-      → IsDriverStep port d p q v r.shadow b (act.Offered k) → row r.table head ≡ None
-  put_free number head k is h s = put_free_at number head (at_offering number head is h) k s
 
   pub offered : (number head k : ℕ) → r.stage ≡ stage.Offering number head → Stands e d z r w v
       → IsDriverStep port d p q v r.shadow b (act.Offered k) → ShadowTurn port e d z p q r (stored b number head) w v Handled

@@ -1,5 +1,5 @@
 -- What a turn of the shadow end owes to what its answer says.
-use Rattle.std.proofs.Common.{◌≡◌, ◌≢◌, ◌↔◌, ℕ, ◌+◌, ◌*◌, ◌≤◌, Bool, true, false, Option, List, [], if◌then◌else◌, refl, sym, ◌∙◌, ap, subst}
+use Rattle.std.proofs.Common.{◌≡◌, ◌≢◌, ◌↔◌, ℕ, ◌+◌, ◌*◌, ◌≤◌, Bool, true, false, Option, List, if◌then◌else◌, refl, sym, ◌∙◌, ap, subst}
 use Rattle.vd_model.specs.declared.chain.Piece.{Piece}
 use Rattle.vd_words.specs.declared.access.Op.{Op}
 use Rattle.vd_words.specs.declared.access.Op.TheVariants as op
@@ -13,22 +13,19 @@ use Rattle.vd_ring.specs.declared.driver.DriverView.{DriverView}
 use Rattle.vd_ring.specs.declared.device.DeviceDone.{DeviceDone}
 use Rattle.vd_ring.specs.declared.device.DeviceView.{DeviceView}
 use Rattle.vd_ring.specs.Sleep.{driver_woken}
-use Rattle.vd_layout.specs.Begun.{DriverOp, DeviceOp}
 use Rattle.vd_layout.specs.Driver.{DriverModel, IsLawfulDriver, IsDriverStep}
 use Rattle.vd_layout.specs.Device.{DeviceModel, IsLawfulDevice}
 use Rattle.vd_table.specs.declared.Origin.{Origin}
 use Rattle.vd_relay.specs.declared.counts.Turn.{Turn}
 use Rattle.vd_relay.specs.declared.counts.Turn.TheVariants.{Slept, Again}
 use Rattle.vd_relay.specs.declared.stage.Stage.{Stage}
-use Rattle.vd_relay.specs.declared.stage.Stage.TheVariants as stage
 use Rattle.vd_relay.specs.declared.state.State.{State}
 use Rattle.vd_relay.specs.Pairing.{ArePaired}
 use Rattle.vd_relay.specs.Pace.{counted, handled, woke, shadow_handled, guest_owes, shadow_owes}
-use Rattle.vd_relay.specs.Stages.{is_rested, is_shadow, BackIs}
+use Rattle.vd_relay.specs.Stages.{is_rested, is_shadow}
 use Rattle.vd_relay.specs.Tie.{Start, IsTied}
 use Rattle.vd_relay.specs.Relay.{Stands, ShadowTurn, owes, IsFinished}
-use Rattle.vd_relay.proofs.Calm.{Free, at_stage, hand_at, done_calm, not_offering, is_calm}
-use Rattle.vd_relay.proofs.Ops.{guest_idle}
+use Rattle.vd_relay.proofs.Calm.{at_stage}
 
 abbrev pub with_shadow : {E D : Type 0} → State E D → D → State E D
 with_shadow r b = record { guest = r.guest; shadow = b; table = r.table; stage = r.stage; winding = r.winding; target = r.target }
@@ -53,20 +50,6 @@ not_woken op.Hear (act.Collected k m h) n = refl
 not_woken op.Hear act.Nothing n = refl
 not_woken op.Hear act.Armed n = refl
 not_woken op.Hear act.Asleep n = refl
-
-pub shadow_live : (st : Stage) → is_shadow st ≡ true → is_rested st ≡ false
-shadow_live stage.Taking s = refl
-shadow_live (stage.Offering n h) s = refl
-shadow_live (stage.Collecting n) s = refl
-shadow_live stage.Giving s = refl
-shadow_live stage.ArmingGuest s = refl
-shadow_live stage.ArmingShadow s = refl
-shadow_live stage.HearingGuest s = refl
-shadow_live stage.HearingShadow s = refl
-shadow_live stage.DisarmingGuest s = refl
-shadow_live stage.DisarmingShadow s = refl
-shadow_live stage.Resting s = refl
-shadow_live stage.Rested s = absurd (cc)
 
 module _ {P E D : Type 0} (port : PortModel P) (e : DeviceModel E) (d : DriverModel D) (law : IsLawfulDevice e) (ldr : IsLawfulDriver d)
     (z : Start) (p q : P) (r : State E D) (w : DeviceView) (v : DriverView) (b : D) where
@@ -105,30 +88,6 @@ module _ {P E D : Type 0} (port : PortModel P) (e : DeviceModel E) (d : DriverMo
   tied_after answer s t' hand back acts o' done tied =
       subst (λ (f : Frame). IsTied z t' hand back acts f (d.side.after v s.op s.access s.got).done) (sym (ldr.framed v s.op s.access s.got))
       (subst (λ (o : List DriverDone). IsTied z t' hand back acts v.frame o) (sym done) tied)
-
-  pub guest_free : (st : Stage) → is_shadow st ≡ true → (h : Stands e d z (at_stage r st) w v) → e.begun r.guest ≡ DeviceOp.idle
-  guest_free st side h = guest_idle st (e.begun r.guest) side h.guest
-
-  pub none_back : (st : Stage) → is_shadow st ≡ true → (h : Stands e d z (at_stage r st) w v) → h.back ≡ []
-  none_back st side h = subst (λ o. BackIs o h.back) (guest_free st side h) h.to_give
-
-  -- where the operation has ended, and nothing was done
-  pub freed_at : (answer : DriverAct) (s : IsDriverStep port d p q v r.shadow b answer) (st : Stage) → is_calm st ≡ true
-      → is_shadow st ≡ true → (h : Stands e d z (at_stage r st) w v) → (d.side.after v s.op s.access s.got).done ≡ v.done
-      → d.begun b ≡ DriverOp.idle → Free e d z (with_shadow r b) w (d.side.after v s.op s.access s.got)
-  freed_at answer s st calm side h done idle = record {
-    serves = h.serves;
-    drives = s.now_stands;
-    paired = framed_at answer s h.paired;
-    awake = h.rests ∙ shadow_live st side;
-    hand = h.hand;
-    tied = tied_after answer s r.table h.hand [] w.done v.done done
-        (subst (λ (x : List DeviceDone). IsTied z r.table h.hand [] x v.frame v.done) (done_calm st h.acts w.done calm h.before)
-        (subst (λ (us : List Used). IsTied z r.table h.hand us h.acts v.frame v.done) (none_back st side h) h.tied));
-    few = hand_at st r.winding h.hand (not_offering st calm) h.in_hand;
-    guest_idle = guest_free st side h;
-    shadow_idle = idle;
-  }
 
   pub owes_here : (r' : State E D) (u : DriverView) → is_shadow r'.stage ≡ true
       → owes e d r' w u ≡ shadow_owes r'.winding r'.stage (d.begun r'.shadow) u.doing w.shown u.shown (d.left r'.shadow)

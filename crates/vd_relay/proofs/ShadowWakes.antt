@@ -16,7 +16,8 @@ use Rattle.vd_relay.specs.Stages.{is_rested, is_shadow, roused}
 use Rattle.vd_relay.specs.Tie.{Start}
 use Rattle.vd_relay.specs.Relay.{Stands, ShadowTurn}
 use Rattle.vd_relay.proofs.Calm.{Free, at_stage, owes_idle, roused_small, roused_most, roused_live, is_calm}
-use Rattle.vd_relay.proofs.ShadowTurns.{freed_at, made_at, next_at, once, owes_here, with_shadow}
+use Rattle.vd_relay.proofs.ShadowTurns.{made_at, next_at, once, owes_here, with_shadow}
+use Rattle.vd_relay.proofs.ShadowFree.{freed_at}
 
 module _ {P E D : Type 0} (port : PortModel P) (e : DeviceModel E) (d : DriverModel D) (law : IsLawfulDevice e) (ldr : IsLawfulDriver d)
     (z : Start) (p q : P) (r : State E D) (w : DeviceView) (v : DriverView) (b : D) where
@@ -40,8 +41,7 @@ module _ {P E D : Type 0} (port : PortModel P) (e : DeviceModel E) (d : DriverMo
         none,
         paid,
         owes_idle e d law ldr z (with_shadow r b) w v' st' f,
-        owes_here port e d law ldr z p q r w v b
-            (at_stage r st) v side,
+        owes_here port e d law ldr z p q r w v b (at_stage r st) v side,
       ))
 
   -- by how much a rousing is paid for

@@ -10,7 +10,8 @@ use Rattle.vd_relay.proofs.GuestWoken.{woken_at}
 use Rattle.vd_relay.proofs.GuestResting.{rested}
 use Rattle.vd_relay.proofs.GuestGiving.{gave}
 use Rattle.vd_relay.proofs.GuestChains.{may_offer, has_next}
-use Rattle.vd_relay.proofs.GuestTaking.{took, kept}
+use Rattle.vd_relay.proofs.GuestTaking.{took}
+use Rattle.vd_relay.proofs.GuestKeeping.{kept}
 use Rattle.vd_relay.proofs.guest_side.guest_turn.Goals as goal
 
 pub returns-in-Moved-clause-turn : goal.returns-in-Moved-clause-turn

@@ -8,7 +8,8 @@ use Rattle.vd_relay.proofs.ShadowAgain.{again_collected}
 use Rattle.vd_relay.proofs.ShadowArmed.{armed_both, armed_winding}
 use Rattle.vd_relay.proofs.ShadowHearing.{slept_at}
 use Rattle.vd_relay.proofs.ShadowWoken.{woken_at}
-use Rattle.vd_relay.proofs.ShadowOffering.{offered, put_inside, put_free}
+use Rattle.vd_relay.proofs.ShadowRows.{put_inside, put_free}
+use Rattle.vd_relay.proofs.ShadowOffering.{offered}
 use Rattle.vd_relay.proofs.ShadowCollecting.{stored_there, stored_inside, may_give_it, collected}
 use Rattle.vd_relay.proofs.shadow_side.shadow_turn.Goals as goal
 
