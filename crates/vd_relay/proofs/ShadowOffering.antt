@@ -33,6 +33,10 @@ few_none : (y : Bool) → FewInHand y []
 few_none false = refl
 few_none true = omega arith
 
+most_few : (y : Bool) → (if y then 4 else 48) ≤ 48
+most_few true = omega arith
+most_few false = omega arith
+
 module _ {P E D : Type 0} (port : PortModel P) (e : DeviceModel E) (d : DriverModel D) (law : IsLawfulDevice e) (ldr : IsLawfulDriver d)
     (z : Start) (p q : P) (r : State E D) (w : DeviceView) (v : DriverView) (b : D) where
   -- where an offered chain's origin is stored
@@ -54,19 +58,11 @@ module _ {P E D : Type 0} (port : PortModel P) (e : DeviceModel E) (d : DriverMo
     collect_most r.winding false u.shown,
     most_few r.winding,
   )
-    where
-      most_few : (y : Bool) → (if y then 4 else 48) ≤ 48
-      most_few true = omega arith
-      most_few false = omega arith
   published_owes o u n (inr i) = omega (
     arith,
     ap (λ x. shadow_owes r.winding (stage.Collecting false) x u.doing w.shown u.shown n) i,
     most_few r.winding,
   )
-    where
-      most_few : (y : Bool) → (if y then 4 else 48) ≤ 48
-      most_few true = omega arith
-      most_few false = omega arith
 
   published_is : (o : DriverOp) → DriverPublished o → (ShadowIs (stage.Collecting false) o) × (OffersHand o [])
       × ((u : _) (g : Bool) (n : ℕ) → ShadowShown o u g n)
