@@ -4,7 +4,7 @@ ghost use Rattle.vd_bus.specs.Scripts.{most_window};
 ghost use Rattle.vd_models.specs.Unused.{IsUnused, IsWindow, HoldsAtMost};
 ghost use Rattle.vd_models.specs.Holding.{HaveLens, capacity_of, journal_room};
 ghost use Rattle.vd_models.specs.Serving.{Holds, PacesFree, attached_of, is_done_of};
-ghost use Rattle.vd_models.specs.Laws.{held_law, serves_law, done_law, armed_law, pace_law};
+ghost use Rattle.vd_models.specs.laws.Laws.{held_law, serves_law, done_law, armed_law, pace_law};
 
 use crate::counts::{Counts, move_of};
 use crate::serving::{Phase, Session, Stage, serve};

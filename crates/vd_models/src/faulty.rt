@@ -6,7 +6,7 @@ ghost use Rattle.vd_bus.specs.Orders.{IsData};
 ghost use Rattle.vd_bus.specs.Device.{IsAttach, IsRefused};
 ghost use Rattle.vd_models.specs.Holding.{journal_room};
 ghost use Rattle.vd_models.specs.Serving.{Holds, attached_of, is_done_of};
-ghost use Rattle.vd_models.specs.Laws.{held_law, serves_law, done_law, armed_law, pace_law};
+ghost use Rattle.vd_models.specs.laws.Laws.{held_law, serves_law, done_law, armed_law, pace_law};
 ghost use Rattle.vd_models.specs.Faulty.{asked, was_refused, IsAround, RefusesNext, refusals};
 
 use crate::device::ModelDevice;

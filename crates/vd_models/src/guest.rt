@@ -3,7 +3,7 @@ ghost use Rattle.std.specs.Prelude.{◌≡◌, Option, None, true, false};
 ghost use Rattle.vd_models.specs.Unused.{IsUnloaded};
 ghost use Rattle.vd_models.specs.GuestStages.{first_stage};
 ghost use Rattle.vd_models.specs.Driving.{GuestHolds, IsLoaded, IsFresh, Paces, loaded_of, script_of, offered_of, returned_of, is_done_of};
-ghost use Rattle.vd_models.specs.GuestLaws.{unloaded_law, held_law, offered_law, offers_law, returned_law, done_law, finishes_law, armed_law, pace_law};
+ghost use Rattle.vd_models.specs.laws.GuestLaws.{unloaded_law, held_law, offered_law, offers_law, returned_law, done_law, finishes_law, armed_law, pace_law};
 
 use crate::counts::{Counts, move_of};
 use crate::cursor::{Cursor, count, settle};

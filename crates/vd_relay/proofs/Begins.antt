@@ -27,7 +27,7 @@ use Rattle.vd_relay.specs.Pace.{guest_owes, shadow_owes, idle_owes, take_owes, c
 use Rattle.vd_relay.specs.Stages.{is_rested, is_shadow, is_hearing, InHand, EndsIs, BackIs}
 use Rattle.vd_relay.specs.Tie.{Start, IsTied}
 use Rattle.vd_relay.specs.Relay.{Stands, Holds, IsRoused, IsOpen, HandsBack, owes, start}
-use Rattle.vd_relay.proofs.Shadows.{is_none}
+use Rattle.vd_relay.proofs.Origins.{is_none}
 use Rattle.vd_relay.proofs.Calm.{Free, FewInHand, at_stage, hand_to, settled, freed, owes_idle, stands_roused, winding_small, roused_live}
 
 row_none : (n h : ℕ) → row (replicate n None) h ≡ None

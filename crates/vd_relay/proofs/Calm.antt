@@ -325,6 +325,13 @@ roused_small false false false finished g s = omega arith
 roused_small false false true false g s = omega arith
 roused_small false false true true g s = omega arith
 
+-- no more than a bell pays for
+pub hear_most : (winding g s : Bool) → roused_most winding g s ≤ 49
+hear_most true g s = omega arith
+hear_most false true s = omega arith
+hear_most false false true = omega arith
+hear_most false false false = omega arith
+
 pub roused_live : (ga sa winding finished : Bool) → is_rested (roused ga sa winding finished) ≡ false
 roused_live true sa winding finished = refl
 roused_live false true winding finished = refl

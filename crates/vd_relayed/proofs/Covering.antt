@@ -9,7 +9,7 @@ use Rattle.vd_model.specs.Chains.{IsChain, readable, writable}
 use Rattle.vd_model.specs.Maps.{to, lies_in, holds_guest}
 use Rattle.vd_ring.specs.declared.frame.Frame.{Frame}
 use Rattle.vd_ring.specs.Frames.{Fits, AreInBounds}
-use Rattle.vd_models.specs.Pairs.{may_stand}
+use Rattle.vd_models.specs.laws.Pairs.{may_stand}
 use Rattle.vd_iova.specs.Trees.{Tree, IsKept, IsWithin}
 use Rattle.vd_iova.proofs.Members.{found, of_each}
 use Rattle.vd_iova.proofs.Translations.{ends_from_holds}

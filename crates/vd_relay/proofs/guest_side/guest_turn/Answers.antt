@@ -3,7 +3,15 @@ use Rattle.vd_model.specs.declared.chain.Piece.{Piece}
 use Rattle.vd_model.specs.Chains.{IsChain}
 use Rattle.vd_model.specs.Moved.{moved}
 use Rattle.vd_layout.specs.Driver.{MayOffer}
-use Rattle.vd_relay.proofs.Guests.{went_on, none_taken, woken_at, slept_at, rested, gave, took, kept, may_offer, has_next}
+use Rattle.vd_relay.proofs.GuestMoves.{went_on}
+use Rattle.vd_relay.proofs.GuestNothing.{none_taken}
+use Rattle.vd_relay.proofs.GuestHearing.{slept_at}
+use Rattle.vd_relay.proofs.GuestWoken.{woken_at}
+use Rattle.vd_relay.proofs.GuestResting.{rested}
+use Rattle.vd_relay.proofs.GuestGiving.{gave}
+use Rattle.vd_relay.proofs.GuestChains.{may_offer, has_next}
+use Rattle.vd_relay.proofs.GuestTaking.{took}
+use Rattle.vd_relay.proofs.GuestKeeping.{kept}
 use Rattle.vd_relay.proofs.guest_side.guest_turn.Goals as goal
 
 pub returns-in-Moved-clause-turn : goal.returns-in-Moved-clause-turn

@@ -1,7 +1,16 @@
 use Rattle.std.proofs.Common.{sym, subst}
 use Rattle.vd_layout.specs.Device.{MayGive}
 use Rattle.vd_relay.specs.Tie.{since}
-use Rattle.vd_relay.proofs.Shadows.{went_on, none_collected, again_collected, armed_both, armed_winding, woken_at, slept_at, offered, put_inside, put_free, stored_there, stored_inside, may_give_it, collected, is_some, same_origin, number_is}
+use Rattle.vd_relay.proofs.Origins.{is_some, same_origin, number_is}
+use Rattle.vd_relay.proofs.ShadowMoves.{went_on}
+use Rattle.vd_relay.proofs.ShadowNothing.{none_collected}
+use Rattle.vd_relay.proofs.ShadowAgain.{again_collected}
+use Rattle.vd_relay.proofs.ShadowArmed.{armed_both, armed_winding}
+use Rattle.vd_relay.proofs.ShadowHearing.{slept_at}
+use Rattle.vd_relay.proofs.ShadowWoken.{woken_at}
+use Rattle.vd_relay.proofs.ShadowRows.{put_inside, put_free}
+use Rattle.vd_relay.proofs.ShadowOffering.{offered}
+use Rattle.vd_relay.proofs.ShadowCollecting.{stored_there, stored_inside, may_give_it, collected}
 use Rattle.vd_relay.proofs.shadow_side.shadow_turn.Goals as goal
 
 pub returns-in-Moved-clause-turn : goal.returns-in-Moved-clause-turn

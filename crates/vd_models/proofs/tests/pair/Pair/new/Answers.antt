@@ -6,7 +6,7 @@ use Rattle.vd_ring.specs.declared.device.DeviceView.{DeviceView}
 use Rattle.vd_ring.specs.declared.driver.DriverView.{DriverView}
 use Rattle.vd_ring.specs.Fresh.{fresh_driver, fresh_device}
 use Rattle.vd_layout.specs.Both.{plain_frame}
-use Rattle.vd_models.specs.Pairs.{can_boot, may_stand}
+use Rattle.vd_models.specs.laws.Pairs.{can_boot, may_stand}
 use Rattle.vd_models.proofs.tests.pair.Pair.new.Goals as goal
 
 pub invariant_of-result : goal.invariant_of-result

@@ -1,0 +1,3 @@
+pub mod GuestLaws
+pub mod Laws
+pub mod Pairs

@@ -1,0 +1,94 @@
+-- What a turn of the guest's end owes to what its answer says.
+use Rattle.std.proofs.Common.{◌≡◌, ◌≢◌, ◌↔◌, ℕ, ◌+◌, ◌*◌, ◌≤◌, Bool, false, if◌then◌else◌, refl, sym, ◌∙◌, ap, subst, inl}
+use Rattle.vd_words.specs.declared.access.Op.{Op}
+use Rattle.vd_words.specs.declared.access.Op.TheVariants as op
+use Rattle.vd_words.specs.Model.{PortModel}
+use Rattle.vd_ring.specs.declared.act.DeviceAct.{DeviceAct}
+use Rattle.vd_ring.specs.declared.act.DeviceAct.TheVariants as act
+use Rattle.vd_ring.specs.declared.frame.Frame.{Frame}
+use Rattle.vd_ring.specs.declared.driver.DriverView.{DriverView}
+use Rattle.vd_ring.specs.declared.device.DeviceView.{DeviceView}
+use Rattle.vd_ring.specs.History.{gives}
+use Rattle.vd_ring.specs.Sleep.{device_woken}
+use Rattle.vd_layout.specs.Driver.{DriverModel, IsLawfulDriver}
+use Rattle.vd_layout.specs.Device.{DeviceModel, IsLawfulDevice, IsDeviceStep}
+use Rattle.vd_relay.specs.declared.counts.Turn.{Turn}
+use Rattle.vd_relay.specs.declared.counts.Turn.TheVariants.{Slept, Again}
+use Rattle.vd_relay.specs.declared.stage.Stage.{Stage}
+use Rattle.vd_relay.specs.declared.state.State.{State}
+use Rattle.vd_relay.specs.Pairing.{ArePaired}
+use Rattle.vd_relay.specs.Pace.{counted, handled, woke, guest_handled, guest_owes, shadow_owes}
+use Rattle.vd_relay.specs.Stages.{is_rested, is_shadow}
+use Rattle.vd_relay.specs.Tie.{Start, since}
+use Rattle.vd_relay.specs.Relay.{Stands, GuestTurn, GivesOne, owes}
+use Rattle.vd_relay.proofs.Calm.{at_stage}
+
+abbrev pub with_guest : {E D : Type 0} → State E D → E → State E D
+with_guest r b = record { guest = b; shadow = r.shadow; table = r.table; stage = r.stage; winding = r.winding; target = r.target }
+
+-- the end after an access, at the next stage
+abbrev pub next_at : {E D : Type 0} → State E D → E → Stage → State E D
+next_at r b st = at_stage (with_guest r b) st
+
+pub not_woken : (o : Op) (x : DeviceAct) → x ≢ act.Awake → 0 ≡ device_woken o x
+not_woken op.Offer x n = refl
+not_woken op.Collect x n = refl
+not_woken op.Take x n = refl
+not_woken op.Give x n = refl
+not_woken op.Arm x n = refl
+not_woken op.Disarm x n = refl
+not_woken op.Rest x n = refl
+not_woken op.Control x n = refl
+not_woken op.Hear act.Awake n = absurd (n refl)
+not_woken op.Hear act.Moved n = refl
+not_woken op.Hear (act.Taken k c) n = refl
+not_woken op.Hear (act.Given k) n = refl
+not_woken op.Hear act.Nothing n = refl
+not_woken op.Hear act.Armed n = refl
+not_woken op.Hear act.Asleep n = refl
+not_woken op.Hear act.Rested n = refl
+
+module _ {P E D : Type 0} (port : PortModel P) (e : DeviceModel E) (d : DriverModel D) (law : IsLawfulDevice e) (ldr : IsLawfulDriver d)
+    (z : Start) (p q : P) (r : State E D) (w : DeviceView) (v : DriverView) (b : E) where
+  -- the turn, from what the answer says
+  pub made_at : (answer : DeviceAct) (s : IsDeviceStep port e p q w r.guest b answer) (st : Stage) (r' : State E D) (t : Turn)
+      → Stands e d z r' (e.side.after w s.op s.access s.got) v
+      → GivesOne (since z) w.done v.done (e.side.after w s.op s.access s.got).done
+      → handled t ≡ guest_handled answer → woke t ≡ device_woken s.op answer → (t ≡ Slept) ↔ (answer ≡ act.Asleep) → t ≢ Again
+      → (t ≡ Slept → is_rested r'.stage ≡ false)
+      → owes e d r' (e.side.after w s.op s.access s.got) v + counted t ≤ owes e d (at_stage r st) w v + 64 * (handled t + woke t)
+      → GuestTurn port e d z p q (at_stage r st) r' w v t
+  made_at answer s st r' t stands bag handles wakes sleeps once live paid = record {
+    op = s.op;
+    access = s.access;
+    got = s.got;
+    was_next = s.was_next;
+    moved = s.moved;
+    stands = stands;
+    bag = bag;
+    handled = handles ∙ ap guest_handled s.is_answer;
+    woke = wakes ∙ ap (device_woken s.op) s.is_answer;
+    slept = subst (λ x. (t ≡ Slept) ↔ (x ≡ act.Asleep)) s.is_answer sleeps;
+    once = once;
+    live = live;
+    paid = paid;
+  }
+
+  pub framed_at : (answer : DeviceAct) (s : IsDeviceStep port e p q w r.guest b answer) → ArePaired z.map w.frame v.frame
+      → ArePaired z.map (e.side.after w s.op s.access s.got).frame v.frame
+  framed_at answer s paired = subst (λ (f : Frame). ArePaired z.map f v.frame) (sym (law.framed w s.op s.access s.got)) paired
+
+  pub bag_same : (answer : DeviceAct) (s : IsDeviceStep port e p q w r.guest b answer) → (e.side.after w s.op s.access s.got).done ≡ w.done
+      → GivesOne (since z) w.done v.done (e.side.after w s.op s.access s.got).done
+  bag_same answer s done = inl (ap gives done)
+
+  pub owes_here : (r' : State E D) (u : DeviceView) → is_shadow r'.stage ≡ false
+      → owes e d r' u v ≡ guest_owes r'.winding r'.stage (e.begun r'.guest) u.doing u.shown v.shown (e.left r'.guest)
+  owes_here r' u side = ap {B = ℕ} (λ (x : Bool). if x then shadow_owes r'.winding r'.stage (d.begun r'.shadow) v.doing u.shown v.shown
+      (d.left r'.shadow) else guest_owes r'.winding r'.stage (e.begun r'.guest) u.doing u.shown v.shown (e.left r'.guest)) side
+
+  -- the stage that an operation names, and back
+  pub to_stage : (st : Stage) (r' : State E D) (t : Turn) → r.stage ≡ st → (Stands e d z (at_stage r st) w v
+      → GuestTurn port e d z p q (at_stage r st) r' w v t) → Stands e d z r w v → GuestTurn port e d z p q r r' w v t
+  to_stage st r' t is f h = subst (λ (x : Stage). GuestTurn port e d z p q (at_stage r x) r' w v t) (sym is)
+      (f (subst (λ (x : Stage). Stands e d z (at_stage r x) w v) is h))

@@ -1,0 +1,109 @@
+-- An access in the middle of the shadow end's operation.
+use Rattle.std.proofs.Common.{◌≡◌, Bool, true, false, List, refl, sym, ◌∙◌, ap, subst, arith, inl, inr}
+use Rattle.vd_words.specs.declared.access.Op.TheVariants as op
+use Rattle.vd_words.specs.Model.{PortModel}
+use Rattle.vd_ring.specs.declared.act.DriverAct.{DriverAct}
+use Rattle.vd_ring.specs.declared.act.DriverAct.TheVariants as act
+use Rattle.vd_ring.specs.declared.frame.Frame.{Frame}
+use Rattle.vd_ring.specs.declared.driver.DriverDone.{DriverDone}
+use Rattle.vd_ring.specs.declared.driver.DriverNow.TheVariants as now
+use Rattle.vd_ring.specs.declared.driver.DriverView.{DriverView}
+use Rattle.vd_ring.specs.declared.device.DeviceView.{DeviceView}
+use Rattle.vd_ring.specs.Looks.{DriverGoes, DriverWakes}
+use Rattle.vd_layout.specs.Driver.{DriverModel, IsLawfulDriver, IsDriverStep}
+use Rattle.vd_layout.specs.Device.{DeviceModel, IsLawfulDevice}
+use Rattle.vd_relay.specs.declared.counts.Turn.TheVariants.{Worked}
+use Rattle.vd_relay.specs.declared.stage.Stage.{Stage}
+use Rattle.vd_relay.specs.declared.state.State.{State}
+use Rattle.vd_relay.specs.Stages.{is_shadow, OfferIs, EndsIs}
+use Rattle.vd_relay.specs.Tie.{Start, since}
+use Rattle.vd_relay.specs.Relay.{Stuck, Stands, ShadowTurn}
+use Rattle.vd_relay.proofs.ShadowGoing.{Goes, went}
+use Rattle.vd_relay.proofs.Turns.{worked_only}
+use Rattle.vd_relay.proofs.ShadowTurns.{framed_at, made_at, not_woken, once, owes_here, tied_after, with_shadow}
+use Rattle.vd_relay.proofs.ShadowFree.{shadow_live}
+
+module _ {P E D : Type 0} (port : PortModel P) (e : DeviceModel E) (d : DriverModel D) (law : IsLawfulDevice e) (ldr : IsLawfulDriver d)
+    (z : Start) (p q : P) (r : State E D) (w : DeviceView) (v : DriverView) (b : D) where
+  goes_of : (s : IsDriverStep port d p q v r.shadow b act.Moved) → Goes s.op v (d.side.after v s.op s.access s.got)
+  goes_of s =
+      let is = s.is_answer in
+      let looks = ldr.looks in
+      record {
+        unarmed = λ other none. ldr.stays_unarmed v s.op s.access s.got other none;
+        shown = λ h. ldr.stays.shown v s.op s.access s.got s.was_next (subst (λ y. DriverGoes y) is tt) h;
+        disarms = λ arm dis. elim ((looks.disarming v s.op s.access s.got s.was_next).0 (dis ∙ ap now.Disarming (sym arm))).0 [
+          | inl x ↦ inr (x.0, x.1)
+          | inr x ↦ absurd (cc (arm, x.0))
+        ];
+        arms = λ arm idle. ldr.stays.arms v s.op s.access s.got s.was_next arm idle;
+        woke = λ arm again. woken_by (d.shows v s.got) refl arm again;
+        heard = λ hears idle.
+            let wakes : DriverWakes d.shows v s.got s.op = inr (
+              hears,
+              idle,
+              λ y. cc
+                  (is, (looks.asleep v s.op s.access s.got s.was_next).1 (hears, idle, y)),
+            ) in
+            disarmed_by v.frame.features.event_idx refl wakes ∙ ap now.Disarming hears;
+        busy = λ dis. cc (is, (looks.awake v s.op s.access s.got s.was_next).1 (inr (inl dis)));
+        other = λ dis. cc (is, (looks.awake v s.op s.access s.got s.was_next).1 (inr (inr dis)));
+      }
+    where
+      disarmed_by : (x : Bool) → v.frame.features.event_idx ≡ x → DriverWakes d.shows v s.got s.op
+          → (d.side.after v s.op s.access s.got).doing ≡ now.Disarming s.op
+      disarmed_by true x wakes = absurd (cc (s.is_answer, (ldr.looks.awake v s.op s.access s.got s.was_next).1 (inl (wakes, x))))
+      disarmed_by false x wakes = (ldr.looks.disarming v s.op s.access s.got s.was_next).1 (wakes, x)
+
+      woken_by : (x : Bool) → d.shows v s.got ≡ x → s.op ≡ op.Arm → v.doing ≡ now.Arming
+          → (d.side.after v s.op s.access s.got).doing ≡ now.Disarming op.Arm
+      woken_by true x arm again = disarmed_by v.frame.features.event_idx refl (inl (arm, again, x)) ∙ ap now.Disarming arm
+      woken_by false x arm again = absurd (cc (s.is_answer, (ldr.looks.armed v s.op s.access s.got s.was_next).1 (arm, again, x)))
+
+  offer_after : (answer : DriverAct) (s : IsDriverStep port d p q v r.shadow b answer) (st : Stage)
+      → (d.side.after v s.op s.access s.got).done ≡ v.done → OfferIs st (since z) v.frame v.done
+      → OfferIs st (since z) (d.side.after v s.op s.access s.got).frame
+      (d.side.after v s.op s.access s.got).done
+  offer_after answer s st done is =
+      subst (λ (f : Frame). OfferIs st (since z) f (d.side.after v s.op s.access s.got).done)
+      (sym (ldr.framed v s.op s.access s.got))
+      (subst (λ (o : List DriverDone). OfferIs st (since z) v.frame o) (sym done) is)
+
+  pub went_on : is_shadow r.stage ≡ true → Stands e d z r w v → IsDriverStep port d p q v r.shadow b act.Moved
+      → ShadowTurn port e d z p q r (with_shadow r b) w v Worked
+  went_on side h s =
+      let v' : DriverView = d.side.after v s.op s.access s.got in
+      let done : v'.done ≡ v.done = s.says.1 in
+      let g = went (Stuck e d) r.winding h.hand s.op v v' w.shown (d.left r.shadow) (d.left b) r.stage (d.begun r.shadow) (d.begun b)
+      h.shadow s.of_it h.shadow_armed h.offers h.shadow_shown s.says.0 s.left (goes_of s) in
+      made_at port e d law ldr z p q r w v b act.Moved s r.stage (with_shadow r b) Worked (record {
+        serves = h.serves;
+        drives = s.now_stands;
+        paired = framed_at port e d law ldr z p q r w v b act.Moved s h.paired;
+        rests = h.rests;
+        acts = h.acts;
+        before = h.before;
+        hand = h.hand;
+        back = h.back;
+        tied = tied_after port e d law ldr z p q r w v b act.Moved s r.table h.hand h.back h.acts v.done done h.tied;
+        guest = h.guest;
+        shadow = g.is;
+        takes = h.takes;
+        offers = g.offers;
+        in_hand = h.in_hand;
+        offer = offer_after act.Moved s r.stage done h.offer;
+        to_give = h.to_give;
+        ends = subst (λ (o : List DriverDone). EndsIs r.stage r.winding r.target h.acts o) (sym done) h.ends;
+        guest_armed = h.guest_armed;
+        shadow_armed = g.armed;
+        guest_shown = h.guest_shown;
+        shadow_shown = g.shown;
+      }) refl (not_woken s.op act.Moved (λ y. cc y)) (worked_only act.Moved (λ y. cc y))
+      (once port e d law ldr z p q r w v b act.Moved Worked (λ y. cc y) (λ y. cc y))
+      (shadow_live r.stage side)
+      (omega (
+        arith,
+        g.paid,
+        owes_here port e d law ldr z p q r w v b r v side,
+        owes_here port e d law ldr z p q r w v b (with_shadow r b) v' side,
+      ))

@@ -1,0 +1,105 @@
+-- What a turn of the shadow end owes to what its answer says.
+use Rattle.std.proofs.Common.{◌≡◌, ◌≢◌, ◌↔◌, ℕ, ◌+◌, ◌*◌, ◌≤◌, Bool, true, false, Option, List, if◌then◌else◌, refl, sym, ◌∙◌, ap, subst}
+use Rattle.vd_model.specs.declared.chain.Piece.{Piece}
+use Rattle.vd_words.specs.declared.access.Op.{Op}
+use Rattle.vd_words.specs.declared.access.Op.TheVariants as op
+use Rattle.vd_words.specs.Model.{PortModel}
+use Rattle.vd_ring.specs.declared.act.DriverAct.{DriverAct}
+use Rattle.vd_ring.specs.declared.act.DriverAct.TheVariants as act
+use Rattle.vd_ring.specs.declared.frame.Frame.{Frame}
+use Rattle.vd_ring.specs.declared.frame.Used.{Used}
+use Rattle.vd_ring.specs.declared.driver.DriverDone.{DriverDone}
+use Rattle.vd_ring.specs.declared.driver.DriverView.{DriverView}
+use Rattle.vd_ring.specs.declared.device.DeviceDone.{DeviceDone}
+use Rattle.vd_ring.specs.declared.device.DeviceView.{DeviceView}
+use Rattle.vd_ring.specs.Sleep.{driver_woken}
+use Rattle.vd_layout.specs.Driver.{DriverModel, IsLawfulDriver, IsDriverStep}
+use Rattle.vd_layout.specs.Device.{DeviceModel, IsLawfulDevice}
+use Rattle.vd_table.specs.declared.Origin.{Origin}
+use Rattle.vd_relay.specs.declared.counts.Turn.{Turn}
+use Rattle.vd_relay.specs.declared.counts.Turn.TheVariants.{Slept, Again}
+use Rattle.vd_relay.specs.declared.stage.Stage.{Stage}
+use Rattle.vd_relay.specs.declared.state.State.{State}
+use Rattle.vd_relay.specs.Pairing.{ArePaired}
+use Rattle.vd_relay.specs.Pace.{counted, handled, woke, shadow_handled, guest_owes, shadow_owes}
+use Rattle.vd_relay.specs.Stages.{is_rested, is_shadow}
+use Rattle.vd_relay.specs.Tie.{Start, IsTied}
+use Rattle.vd_relay.specs.Relay.{Stands, ShadowTurn, owes, IsFinished}
+use Rattle.vd_relay.proofs.Calm.{at_stage}
+
+abbrev pub with_shadow : {E D : Type 0} → State E D → D → State E D
+with_shadow r b = record { guest = r.guest; shadow = b; table = r.table; stage = r.stage; winding = r.winding; target = r.target }
+
+-- the end after an access, at the next stage
+abbrev pub next_at : {E D : Type 0} → State E D → D → Stage → State E D
+next_at r b st = at_stage (with_shadow r b) st
+
+pub not_woken : (o : Op) (x : DriverAct) → x ≢ act.Awake → 0 ≡ driver_woken o x
+not_woken op.Offer x n = refl
+not_woken op.Collect x n = refl
+not_woken op.Take x n = refl
+not_woken op.Give x n = refl
+not_woken op.Arm x n = refl
+not_woken op.Disarm x n = refl
+not_woken op.Rest x n = refl
+not_woken op.Control x n = refl
+not_woken op.Hear act.Awake n = absurd (n refl)
+not_woken op.Hear act.Moved n = refl
+not_woken op.Hear (act.Offered k) n = refl
+not_woken op.Hear (act.Collected k m h) n = refl
+not_woken op.Hear act.Nothing n = refl
+not_woken op.Hear act.Armed n = refl
+not_woken op.Hear act.Asleep n = refl
+
+module _ {P E D : Type 0} (port : PortModel P) (e : DeviceModel E) (d : DriverModel D) (law : IsLawfulDevice e) (ldr : IsLawfulDriver d)
+    (z : Start) (p q : P) (r : State E D) (w : DeviceView) (v : DriverView) (b : D) where
+  -- the turn, from what the answer says
+  pub made_at : (answer : DriverAct) (s : IsDriverStep port d p q v r.shadow b answer) (st : Stage) (r' : State E D) (t : Turn)
+      → Stands e d z r' w (d.side.after v s.op s.access s.got)
+      → handled t ≡ shadow_handled answer → woke t ≡ driver_woken s.op answer → (t ≡ Slept) ↔ (answer ≡ act.Asleep)
+      → (t ≡ Again) ↔ ((answer ≡ act.Nothing) × (r.winding ≡ true) × (IsFinished r w v → ⊥)) → is_rested r'.stage ≡ false
+      → owes e d r' w (d.side.after v s.op s.access s.got) + counted t ≤ owes e d (at_stage r st) w v + 64 * (handled t + woke t)
+      → ShadowTurn port e d z p q (at_stage r st) r' w v t
+  made_at answer s st r' t stands handles wakes sleeps agains live paid = record {
+    op = s.op;
+    access = s.access;
+    got = s.got;
+    was_next = s.was_next;
+    moved = s.moved;
+    stands = stands;
+    handled = handles ∙ ap shadow_handled s.is_answer;
+    woke = wakes ∙ ap (driver_woken s.op) s.is_answer;
+    slept = subst (λ x. (t ≡ Slept) ↔ (x ≡ act.Asleep)) s.is_answer sleeps;
+    again = subst (λ x. (t ≡ Again) ↔ ((x ≡ act.Nothing) × (r.winding ≡ true) × (IsFinished r w v → ⊥))) s.is_answer agains;
+    live = live;
+    paid = paid;
+  }
+
+  pub framed_at : (answer : DriverAct) (s : IsDriverStep port d p q v r.shadow b answer) → ArePaired z.map w.frame v.frame
+      → ArePaired z.map w.frame (d.side.after v s.op s.access s.got).frame
+  framed_at answer s paired = subst (λ (f : Frame). ArePaired z.map w.frame f) (sym (ldr.framed v s.op s.access s.got)) paired
+
+  -- the tie at the view after the step
+  pub tied_after : (answer : DriverAct) (s : IsDriverStep port d p q v r.shadow b answer) (t' : List (Option Origin))
+      (hand : List (List Piece))
+      (back : List Used) (acts : List DeviceDone) (o' : List DriverDone) → (d.side.after v s.op s.access s.got).done ≡ o'
+      → IsTied z t' hand back acts v.frame o'
+      → IsTied z t' hand back acts (d.side.after v s.op s.access s.got).frame (d.side.after v s.op s.access s.got).done
+  tied_after answer s t' hand back acts o' done tied =
+      subst (λ (f : Frame). IsTied z t' hand back acts f (d.side.after v s.op s.access s.got).done) (sym (ldr.framed v s.op s.access s.got))
+      (subst (λ (o : List DriverDone). IsTied z t' hand back acts v.frame o) (sym done) tied)
+
+  pub owes_here : (r' : State E D) (u : DriverView) → is_shadow r'.stage ≡ true
+      → owes e d r' w u ≡ shadow_owes r'.winding r'.stage (d.begun r'.shadow) u.doing w.shown u.shown (d.left r'.shadow)
+  owes_here r' u side = ap {B = ℕ} (λ (x : Bool). if x then shadow_owes r'.winding r'.stage (d.begun r'.shadow) u.doing w.shown u.shown
+      (d.left r'.shadow) else guest_owes r'.winding r'.stage (e.begun r'.guest) w.doing w.shown u.shown (e.left r'.guest)) side
+
+  pub once : (answer : DriverAct) (t : Turn) → answer ≢ act.Nothing → t ≢ Again
+      → (t ≡ Again) ↔ ((answer ≡ act.Nothing) × (r.winding ≡ true) × (IsFinished r w v → ⊥))
+  once answer t n m = ((λ y. absurd (m y)), λ y. absurd (n y.0))
+
+  -- the stage that an operation names, and back
+  pub to_stage : (st : Stage) (r' : State E D) (t : Turn) → r.stage ≡ st → (Stands e d z (at_stage r st) w v
+      → ShadowTurn port e d z p q (at_stage r st) r' w v t) → Stands e d z r w v → ShadowTurn port e d z p q r r' w v t
+  to_stage st r' t is f h = subst (λ (x : Stage). ShadowTurn port e d z p q (at_stage r x) r' w v t) (sym is)
+      (f (subst (λ (x : Stage). Stands e d z (at_stage r x) w v) is h))
