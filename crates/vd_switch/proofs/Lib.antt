@@ -1,3 +1,4 @@
+pub mod Asleep
 pub mod StillEnds
 pub mod LaneBag
 pub mod Undo

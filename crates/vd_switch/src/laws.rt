@@ -12,7 +12,11 @@ ghost use Rattle.vd_ring.specs.Account.{Lawful};
 ghost use Rattle.vd_bus.specs.declared.device.Attached.{Attached};
 ghost use Rattle.vd_relay.specs.declared.state.State.{State};
 ghost use Rattle.vd_relay.specs.declared.counts.Counts.{Counts};
+ghost use Rattle.vd_layout.specs.Begun.{DeviceOp, DriverOp};
+ghost use Rattle.vd_relay.specs.Pairing.{Wakes};
 ghost use Rattle.vd_relay.specs.Relay.{Stands, IsRelayStep};
+ghost use Rattle.vd_relay.specs.Stages.{is_hearing};
+ghost use Rattle.vd_switch.specs.Sleeping.{Sleeps};
 ghost use Rattle.vd_relay.specs.declared.stage.Stage.TheVariants.{Collecting, Rested};
 ghost use Rattle.vd_relay.specs.Tie.{Start, since};
 ghost use Rattle.vd_switch.specs.Account.{IsBegunBefore, LeavesStill};
@@ -150,4 +154,13 @@ pub fn passing_guest_law<L: Layout, G: Guest<L>, P: Port>()
         → (s : IsGuestAccess P.port L.Driver.driver G.party a a2 v x y said)
         → PassingDriven P.port L.layout ts gs old begun by a2 v (L.Driver.driver.side.after v s.op s.access s.got) w
         (L.Driver.driver.act v s.op s.access s.got) }
+{}
+
+/// A relay that hears and doesn't wind up keeps nothing: each chain taken is offered, each entry collected is given, and both its ends
+/// are armed, in a layout in which an end that has woken is armed no longer.
+pub fn sleeping_law<L: Layout>()
+    ensures { (z : Start) (r : State L.Device L.Driver) (w : DeviceView) (v : DriverView)
+        → Stands L.Device.device L.Driver.driver z r w v → Wakes L.Device.device L.Driver.driver → r.winding ≡ false
+        → is_hearing r.stage ≡ true → L.Device.device.begun r.guest ≡ DeviceOp.idle → L.Driver.driver.begun r.shadow ≡ DriverOp.idle
+        → Sleeps z w v }
 {}
