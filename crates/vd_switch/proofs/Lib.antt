@@ -1,3 +1,4 @@
+pub mod AtRest
 pub mod Asleep
 pub mod StillEnds
 pub mod LaneBag

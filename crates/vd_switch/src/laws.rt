@@ -16,7 +16,9 @@ ghost use Rattle.vd_layout.specs.Begun.{DeviceOp, DriverOp};
 ghost use Rattle.vd_relay.specs.Pairing.{Wakes};
 ghost use Rattle.vd_relay.specs.Relay.{Stands, IsRelayStep};
 ghost use Rattle.vd_relay.specs.Stages.{is_hearing};
-ghost use Rattle.vd_switch.specs.Sleeping.{Sleeps};
+ghost use Rattle.vd_ring.specs.Signals.{nothing};
+ghost use Rattle.vd_ring.specs.Sleep.{DriverWaits, DeviceWaits, driver_owed};
+ghost use Rattle.vd_switch.specs.Sleeping.{Sleeps, IsAtRest};
 ghost use Rattle.vd_relay.specs.declared.stage.Stage.TheVariants.{Collecting, Rested};
 ghost use Rattle.vd_relay.specs.Tie.{Start, since};
 ghost use Rattle.vd_switch.specs.Account.{IsBegunBefore, LeavesStill};
@@ -163,4 +165,11 @@ pub fn sleeping_law<L: Layout>()
         → Stands L.Device.device L.Driver.driver z r w v → Wakes L.Device.device L.Driver.driver → r.winding ≡ false
         → is_hearing r.stage ≡ true → L.Device.device.begun r.guest ≡ DeviceOp.idle → L.Driver.driver.begun r.shadow ≡ DriverOp.idle
         → Sleeps z w v }
+{}
+
+/// Where the guest owes no check and no bell, and relay and device sleep without a signal, nothing lies before any of them.
+pub fn rest_of_all_law<L: Layout>()
+    ensures { (z : Start) (words : List ℕ) (shadow_words : List ℕ) (v : DriverView) (w : DeviceView) (sv : DriverView) (sw : DeviceView)
+        → L.layout.ring words v w → L.layout.ring shadow_words sv sw → Sleeps z w sv → driver_owed v.doing ≡ nothing → DeviceWaits v w
+        → DriverWaits sv sw → DeviceWaits sv sw → IsAtRest z v w sv sw }
 {}
