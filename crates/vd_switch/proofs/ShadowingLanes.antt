@@ -2,7 +2,7 @@
 use Rattle.std.proofs.Common.{◌≡◌, ◌⊎◌, ℕ, ◌+◌, ◌-◌, ◌<◌, ◌≤◌, true, false, Option, Some, List, [], ◌∷◌, ◌++◌, length, map, take, drop, slice_get, slice_index_or, refl, sym, ◌∙◌, ap, subst, arith, inl, inr}
 use Rattle.std.specs.List.{All}
 use Rattle.std.proofs.lemmas.Bool.{cases_lt}
-use Rattle.std.proofs.lemmas.List.{length-map, take-map, take-append-le, take_all, get_or_append_left, get_or-append-add, get_or-drop, get_or-take, get_or-map, length-take-le, map-append}
+use Rattle.std.proofs.lemmas.List.{length-map, take-map, take-append-le, take_all, get_or_append_left, get_or-append-add, get_or-drop, get_or-take, get_or-map, length-take-le, map-append, drop-take}
 use Rattle.std.proofs.lemmas.List.Elements.{All-take}
 use Rattle.std.proofs.lemmas.Option.{get_or_from_slice_get}
 use Rattle.std.proofs.Math.ListN.{length-append}
@@ -156,6 +156,16 @@ module _ {E D : Type 0} (e : DeviceModel E) (d : DriverModel D) (l : LayoutModel
 
   front : Front
   front = front_at (which r.stage h.relays.acts w.done h.relays.before)
+
+  -- what the device has journalled since its attach: the next chains taken from the guest's ring, moved
+  pub journal : chains_of (drop by.at begun) ≡ map (moved z.map) (take (length (takes sw.done)) (drop (since z) (takes w.done)))
+  journal =
+      let n : ℕ = length (takes sw.done) in
+      let front_of : List (List Piece) = take n h.relays.tied.past in
+      journalled ∙ inner_takes ∙ ap (map (moved z.map)) (
+      sym (drop_front z.takes front_of) ∙ ap (λ (k : ℕ). drop k (z.takes ++ front_of)) h.relays.tied.even
+      ∙ ap (drop (since z)) front.same ∙ drop-take (since z) n (takes w.done)
+      )
 
   framed : w.frame ≡ v.frame
   framed = (law.wide words v w h.ring).1

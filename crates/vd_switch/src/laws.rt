@@ -1,6 +1,6 @@
 //! A lane in a shadow epoch. The functions do nothing: their contracts are its laws.
 
-ghost use Rattle.std.specs.Prelude.{◌≡◌, ℕ, ◌+◌, List, ◌∷◌, [], ◌++◌, length, Bool, Some, true, false};
+ghost use Rattle.std.specs.Prelude.{◌≡◌, ℕ, ◌+◌, List, ◌∷◌, [], ◌++◌, length, map, take, drop, Bool, Some, true, false};
 ghost use Rattle.vd_model.specs.declared.chain.Piece.{Piece};
 ghost use Rattle.vd_model.specs.declared.record.Begun.{Begun};
 ghost use Rattle.vd_ring.specs.declared.device.DeviceView.{DeviceView};
@@ -25,7 +25,8 @@ ghost use Rattle.vd_switch.specs.Account.{IsBegunBefore, LeavesStill};
 ghost use Rattle.vd_switch.specs.ShadowingLanes.{IsShadowing, IsWinding, IsUndone, KeepsShadowing, lane_begun};
 ghost use Rattle.vd_switch.specs.ShadowingSteps.{RelayStepped, DeviceStepped, GuestStepped};
 ghost use Rattle.vd_layout.specs.declared.moves.Move.{Move};
-ghost use Rattle.vd_bus.specs.Device.{IsDeviceAccess, HasServedAll, IsServing};
+ghost use Rattle.vd_model.specs.Moved.{moved};
+ghost use Rattle.vd_bus.specs.Device.{IsDeviceAccess, HasServedAll, IsServing, chains_of};
 ghost use Rattle.vd_switch.specs.PassingLanes.{IsPassing, KeepsPassing, lane_passed, PassingServed, PassingDriven};
 ghost use Rattle.vd_bus.specs.Guest.{IsGuestAccess};
 ghost use Rattle.vd_bus.specs.Orders.{IsData};
@@ -41,6 +42,14 @@ pub fn shadowing_law<L: Layout>()
         (shadow_words : List ℕ) (v : DriverView) (w : DeviceView) (sv : DriverView) (sw : DeviceView)
         → IsShadowing L.Device.device L.Driver.driver L.layout z old r begun by words shadow_words v w sv sw
         → KeepsShadowing z old r begun by v w sv sw }
+{}
+
+/// What the device of the shadow ring has journalled since its attach: the next chains that were taken from the guest's ring, moved.
+pub fn journal_law<L: Layout>()
+    ensures { (z : Start) (old : List (List Piece × ℕ)) (r : State L.Device L.Driver) (begun : List Begun) (by : Attached)
+        (words : List ℕ) (shadow_words : List ℕ) (v : DriverView) (w : DeviceView) (sv : DriverView) (sw : DeviceView)
+        → IsShadowing L.Device.device L.Driver.driver L.layout z old r begun by words shadow_words v w sv sw
+        → chains_of (drop by.at begun) ≡ map (moved z.map) (take (length (takes sw.done)) (drop (since z) (takes w.done))) }
 {}
 
 /// What a stop leaves.
