@@ -1,5 +1,6 @@
 //! A source of bytes of one's own.
-ghost use Rattle.std.specs.Prelude.{◌≡◌, IfOk};
+ghost use Rattle.std.specs.Prelude.{◌≡◌, ◌<◌, IfOk, length};
+ghost use Rattle.vd_stream.specs.declared.reading.TheConstants.{MOST_BYTES};
 
 use std::alloc::Global;
 use vd_stream::{Failed, ReadFault, Source, read_whole};
@@ -28,7 +29,10 @@ impl Source for SliceSource<'_> {
 
 /// The bytes of a slice again, where they are few enough and memory holds them.
 pub fn read_slice(alloc: Global, bytes: &[u8]) -> Result<Vec<u8>, ReadFault>
-    ensures { IfOk result (λ read. read.items ≡ bytes.now) }
+    ensures read { IfOk result (λ read. read.items ≡ bytes.now) }
+    // No take fails, and there are too many bytes only where there are more than may be read.
+    ensures failed { result ≡ Err ReadFault.Failed → ⊥ }
+    ensures large { result ≡ Err ReadFault.TooLarge → MOST_BYTES < length bytes.now }
 {
     let mut source = SliceSource { bytes };
     read_whole(alloc, &mut source)
