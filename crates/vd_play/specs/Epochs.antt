@@ -47,6 +47,15 @@ closing e n = record { number = e; mode = mode.Pass; renewed = false; first = n;
 abbrev pub epochs : Plan → ℕ → List Epoch
 epochs plan n = working_epochs plan n ++ closing (length plan.switches + 1) n ∷ []
 
+-- the mode of epoch k, where the first of these has the mode m; the closing one is of the mode pass
+abbrev pub mode_from : List Switch → Mode → ℕ → Mode
+mode_from ss m zero = m
+mode_from [] m (suc k) = mode.Pass
+mode_from (s ∷ ss) m (suc k) = mode_from ss (mode_after m s.to) k
+
+abbrev pub mode_at : Plan → ℕ → Mode
+mode_at plan k = mode_from plan.switches plan.start k
+
 -- how many chains are begun before epoch k
 abbrev pub begun_before : List Epoch → ℕ → ℕ
 begun_before es zero = 0

@@ -75,6 +75,14 @@ shadow_map plan =
     unwrap_or (laid (map (λ (r : Region). (r.addr, r.size)) plan.regions)
     (record { first = plan.first; last = plan.last; mappings = [] })) []
 
+-- the map of an epoch of this mode
+abbrev pub map_in : Plan → Mode → List Mapping
+map_in plan m = by_mode m (pass_map plan) (shadow_map plan)
+
+-- the ring that queue q's device serves in epoch k of this mode
+abbrev pub ring_in : Mode → ℕ → ℕ → ℕ
+ring_in m k q = by_mode m q (16 * (k + 1) + q)
+
 -- a shadow ring has no bounds
 abbrev pub shadow_frame : LayoutModel → Plan → ℕ → Frame
 shadow_frame l plan ring = plain_frame l ring plan.size plan.features false None

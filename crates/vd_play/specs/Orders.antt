@@ -2,11 +2,12 @@
 use Rattle.std.specs.Prelude.{◌≡◌, ℕ, ◌+◌, ◌<◌, ◌≤◌, ◌^◌, List, length, min, slice_get, Option, None, IsSomeAnd}
 use Rattle.std.specs.Option.{option_map_or}
 use Rattle.vd_layout.specs.Device.{DeviceModel, IsStill}
+use Rattle.vd_layout.specs.Layout.{LayoutModel}
 use Rattle.vd_bus.specs.Device.{DeviceParty}
 use Rattle.vd_bus.specs.Orders.{Terms}
 use Rattle.vd_machine.specs.File.{Plan}
 use Rattle.vd_machine.specs.declared.machine.Switch.{Switch}
-use Rattle.vd_play.specs.Journal.{pass_map}
+use Rattle.vd_play.specs.Journal.{pass_map, shadow_map}
 
 -- the guest's ring is served from where its end rests, and `count` chains are begun
 abbrev pub pass_order : {E : Type 0} → DeviceModel E → Plan → ℕ → ℕ → E → Terms
@@ -18,6 +19,18 @@ pass_order e plan q count end = record {
   size = plan.size;
   features = plan.features;
   map = pass_map plan;
+}
+
+-- the shadow ring of epoch k is served from its begin, and `count` chains are begun
+abbrev pub shadow_order : LayoutModel → Plan → ℕ → ℕ → ℕ → Terms
+shadow_order l plan k q count = record {
+  queue = q;
+  ring = 16 * (k + 1) + q;
+  base = record { 0 = l.fresh_base };
+  count = count;
+  size = plan.size;
+  features = plan.features;
+  map = shadow_map plan;
 }
 
 -- where epoch k of a queue of n chains ends
