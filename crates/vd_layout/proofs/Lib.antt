@@ -3,3 +3,4 @@ pub mod InTable
 mod Walks
 pub mod PlainRings
 pub mod RingSteps
+pub mod RingArms

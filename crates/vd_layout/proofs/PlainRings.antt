@@ -23,12 +23,15 @@ use Rattle.vd_layout.specs.Driver.{DriverModel, HasRoom, MayOffer}
 use Rattle.vd_layout.specs.Device.{DeviceModel, is_rested}
 use Rattle.vd_layout.specs.laws.Unarmed.{driver_unarmed, device_unarmed}
 use Rattle.vd_layout.specs.laws.Runs.{still_awake}
+use Rattle.vd_layout.specs.DriverFinish.{DriverLeaves}
+use Rattle.vd_layout.specs.DeviceFinish.{DeviceLeaves}
 use Rattle.vd_layout.specs.Ended.{DriverEnded, DeviceEnded}
 use Rattle.vd_layout.specs.Layout.{LayoutModel, IsLawfulLayout, IsMadeWith, CanMake, IsFresh}
 use Rattle.vd_layout.specs.Both.{AreOn, plain_frame}
 use Rattle.vd_layout.specs.RingLists.{RingLists, no_lists, lists_of, and_offered, and_given, and_rested, after_driver, after_device, standing_size}
-use Rattle.vd_layout.specs.PlainRing.{PlainView, frame_at, IsPlainRing, IsCollect, IsTake, IsDriverMove, IsDeviceMove, IsWholeList, most_chains}
+use Rattle.vd_layout.specs.PlainRing.{PlainView, frame_at, IsPlainRing, IsCollect, IsTake, IsDriverArm, IsDriverHear, IsDeviceArm, IsDeviceHear, IsDriverMove, IsDeviceMove, IsWholeList, most_chains}
 use Rattle.vd_layout.proofs.RingSteps.{offered, collected, taken, given, rested}
+use Rattle.vd_layout.proofs.RingArms as ring
 
 -- an operation was begun
 abbrev pub driver_begun : {D E : Type 0} (d : DriverModel D) (e : DeviceModel E) (l : LayoutModel) (f : Frame) (x x' : D) (y : E)
@@ -118,6 +121,23 @@ module _ {D E : Type 0} (d : DriverModel D) (e : DeviceModel E) (l : LayoutModel
       driver_unarmed d law.driver_end x'' z.on.view z.on.drives
       (z.unarmed other (law.driver_end.unarmed x i.on.view i.on.drives unarmed)) ∙ sym unarmed
 
+  -- an operation that was begun on an idle end leaves it armed as its answer says
+  driver_left : DriverLeaves answer i.on.view.armed z.on.view.armed
+  driver_left = z.leaves (law.driver_end.at_rest x i.on.view i.on.drives i.driver_idle)
+
+  driver_tells : ring.Tells (d.armed x'') z.on.view.armed
+  driver_tells = (law.driver_end.armed x'' z.on.view z.on.drives, law.driver_end.unarmed x'' z.on.view z.on.drives)
+
+  pub driver_arms_on : IsDriverArm answer → (answer ≡ driver_act.Armed) ↔ (d.armed x'' ≡ true)
+  driver_arms_on is = ring.driver_arms answer (d.armed x'') i.on.view.armed z.on.view.armed is driver_left driver_tells
+
+  pub driver_hears_on : IsDriverHear answer → d.armed x ≡ true → (answer ≡ driver_act.Asleep) ↔ (d.armed x'' ≡ true)
+  driver_hears_on is was = ring.driver_hears answer (d.armed x'') i.on.view.armed z.on.view.armed is driver_left
+      (law.driver_end.armed x i.on.view i.on.drives was) driver_tells
+
+  pub driver_disarms_on : answer ≡ driver_act.Awake → d.armed x'' ≡ false
+  driver_disarms_on is = ring.driver_disarms answer (d.armed x'') i.on.view.armed z.on.view.armed is driver_left driver_tells
+
   pub collected_on : d.begun x' ≡ DriverOp.collect → h' ≡ after_driver answer h
       → IsCollect h answer × (h' ≡ lists_of z.on.view.done i.on.device_view.done)
   collected_on begun then =
@@ -155,6 +175,25 @@ module _ {D E : Type 0} (d : DriverModel D) (e : DeviceModel E) (l : LayoutModel
   device_sleepless unarmed other =
       device_unarmed e law.device_end y'' z.on.device_view z.on.serves
       (z.unarmed other (law.device_end.not_armed y i.on.device_view i.on.serves unarmed))
+
+  device_left : DeviceLeaves answer i.on.device_view.armed z.on.device_view.armed
+  device_left = z.leaves (law.device_end.at_rest y i.on.device_view i.on.serves i.device_idle)
+
+  device_tells : ring.Tells (e.armed y'') z.on.device_view.armed
+  device_tells = (
+    law.device_end.armed y'' z.on.device_view z.on.serves,
+    law.device_end.not_armed y'' z.on.device_view z.on.serves,
+  )
+
+  pub device_arms_on : IsDeviceArm answer → (answer ≡ device_act.Armed) ↔ (e.armed y'' ≡ true)
+  device_arms_on is = ring.device_arms answer (e.armed y'') i.on.device_view.armed z.on.device_view.armed is device_left device_tells
+
+  pub device_hears_on : IsDeviceHear answer → e.armed y ≡ true → (answer ≡ device_act.Asleep) ↔ (e.armed y'' ≡ true)
+  device_hears_on is was = ring.device_hears answer (e.armed y'') i.on.device_view.armed z.on.device_view.armed is device_left
+      (law.device_end.armed y i.on.device_view i.on.serves was) device_tells
+
+  pub device_disarms_on : answer ≡ device_act.Awake → e.armed y'' ≡ false
+  device_disarms_on is = ring.device_disarms answer (e.armed y'') i.on.device_view.armed z.on.device_view.armed is device_left device_tells
 
   -- only a rest leaves it resting
   pub device_awake : e.begun y' ≢ DeviceOp.rest → e.resting y'' ≡ is_rested answer → e.resting y'' ≡ false

@@ -5,12 +5,16 @@ use Rattle.vd_model.specs.declared.map.Mapping.{Mapping}
 use Rattle.vd_words.specs.Model.{PortModel}
 use Rattle.vd_ring.specs.declared.act.DriverAct.{DriverAct}
 use Rattle.vd_ring.specs.declared.act.DeviceAct.{DeviceAct}
+use Rattle.vd_ring.specs.declared.driver.DriverNow.TheVariants as driver
 use Rattle.vd_ring.specs.declared.driver.DriverView.{DriverView}
+use Rattle.vd_ring.specs.declared.device.DeviceNow.TheVariants as device
 use Rattle.vd_ring.specs.declared.device.DeviceView.{DeviceView}
 use Rattle.vd_ring.specs.declared.frame.Frame.{Frame}
 use Rattle.vd_layout.specs.Begun.{DriverOp, DeviceOp}
 use Rattle.vd_layout.specs.Driver.{DriverModel}
 use Rattle.vd_layout.specs.Device.{DeviceModel}
+use Rattle.vd_layout.specs.DriverFinish.{DriverLeaves}
+use Rattle.vd_layout.specs.DeviceFinish.{DeviceLeaves}
 use Rattle.vd_layout.specs.Layout.{LayoutModel}
 use Rattle.vd_layout.specs.Run.{Made, IsRun, IsToldAt, written_by}
 
@@ -53,6 +57,7 @@ pub record DriverBeside {P D E : Type 0} (port : PortModel P) (d : DriverModel D
   pub words : z.words ≡ written_by made ws
   -- only an arming arms
   pub unarmed : d.begun x ≢ DriverOp.arm → a.view.armed ≡ None → z.on.view.armed ≡ None
+  pub leaves : a.view.doing ≡ driver.Idle → DriverLeaves answer a.view.armed z.on.view.armed
   -- the access by which the answer was told
   pub at : IsToldAt port d.side d.act (λ u. u.done ≡ a.view.done) p a.view answer
 
@@ -66,5 +71,6 @@ pub record DeviceBeside {P D E : Type 0} (port : PortModel P) (d : DriverModel D
   pub words : z.words ≡ written_by made ws
   -- only an arming arms
   pub unarmed : e.begun y ≢ DeviceOp.arm → a.device_view.armed ≡ None → z.on.device_view.armed ≡ None
+  pub leaves : a.device_view.doing ≡ device.Idle → DeviceLeaves answer a.device_view.armed z.on.device_view.armed
   -- the access by which the answer was told
   pub at : IsToldAt port e.side e.act (λ u. u.done ≡ a.device_view.done) p a.device_view answer

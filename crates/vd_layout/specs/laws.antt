@@ -1,6 +1,8 @@
 pub mod Both
 pub mod DeviceFinish
+pub mod DeviceLeaves
 pub mod DriverFinish
+pub mod DriverLeaves
 pub mod Ended
 pub mod Plain
 pub mod Run

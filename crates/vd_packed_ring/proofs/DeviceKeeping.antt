@@ -1,5 +1,5 @@
 -- Each access of the device that is next keeps the ring invariant, and its answer tells what the view says.
-use Rattle.std.proofs.Common.{◌≡◌, ℕ, ◌<◌, true, false, Option, List, ◌∷◌, slice_index, slice_set, refl, sym, ap, ◌∙◌, subst, arith, inl, inr}
+use Rattle.std.proofs.Common.{◌≡◌, ℕ, ◌<◌, true, false, List, ◌∷◌, slice_index, slice_set, refl, sym, ap, ◌∙◌, subst, arith, inl, inr}
 use Rattle.vd_words.specs.declared.access.Access.{Access}
 use Rattle.vd_words.specs.declared.access.Access.TheVariants.{Load, Store}
 use Rattle.vd_words.specs.declared.access.Op.{Op}
@@ -84,22 +84,16 @@ device_keeps_at ws d e (Disarming o) op.Arm (Store p x) r h =
     (wakes (chains_out d) (chains_in (record e { frame = d.frame; doing = Disarming o })) true r.kicks) r.calls h.1 in
     record {
       inside = omega (arith, r.words.wide, did.1);
-      keeps =
-          subst (λ (a : Option ℕ). Ring (slice_set ws p x) d
-          (record e { frame = d.frame; stored = slice_set e.stored p x; armed = a; doing = Idle })) (sym r.device_armed.0) did.0;
-      told =
-          (tt, tt);
+      keeps = did.0;
+      told = (tt, tt);
     }
 device_keeps_at ws d e (Disarming o) op.Hear (Store p x) r h =
     let did = disarms ws d e (Disarming o) Idle p x r tt tt
     (wakes (chains_out d) (chains_in (record e { frame = d.frame; doing = Disarming o })) true r.kicks) r.calls h.1 in
     record {
       inside = omega (arith, r.words.wide, did.1);
-      keeps =
-          subst (λ (a : Option ℕ). Ring (slice_set ws p x) d
-          (record e { frame = d.frame; stored = slice_set e.stored p x; armed = a; doing = Idle })) (sym r.device_armed.0) did.0;
-      told =
-          (tt, tt);
+      keeps = did.0;
+      told = (tt, tt);
     }
 device_keeps_at ws d e Idle op.Hear (Load p) r h =
     let E : DeviceView = record e { frame = d.frame; doing = Idle } in

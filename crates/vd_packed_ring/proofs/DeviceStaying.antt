@@ -1,4 +1,4 @@
--- What stays from one access of the device to the next: armed, asleep, shown.
+-- What stays from one access of the device to the next: armed, asleep, awake, shown.
 use Rattle.std.proofs.Common.{◌≡◌, ℕ, ◌+◌, ◌==◌, Bool, true, false, None, List, [], ◌∷◌, ◌++◌, length, if◌then◌else◌, refl}
 use Rattle.vd_words.specs.declared.access.Access.{Access}
 use Rattle.vd_words.specs.declared.access.Access.TheVariants.{Load, Store}
@@ -11,8 +11,8 @@ use Rattle.vd_ring.specs.declared.device.DeviceNow.TheVariants as now
 use Rattle.vd_ring.specs.declared.device.DeviceView.{DeviceView}
 use Rattle.vd_ring.specs.History.{takes}
 use Rattle.vd_ring.specs.Looks.{DeviceStays}
-use Rattle.vd_ring.proofs.Looking.{idle, disarming, busy, awake, other}
-use Rattle.vd_ring.proofs.Staying.{Kept, quiet, finds_none, finds_some, second_none, second_some, arms_at, hears_same}
+use Rattle.vd_ring.proofs.Looking.{idle, disarming, busy, other}
+use Rattle.vd_ring.proofs.Staying.{Kept, quiet, wakes, finds_none, finds_some, second_none, second_wakes, second_some, arms_at, hears_same}
 use Rattle.vd_ring.proofs.DeviceLooking.{told, stage, goes, device_stays_by}
 use Rattle.vd_packed_ring.specs.PackedChains.{is_whole, chain_of}
 use Rattle.vd_packed_ring.specs.PackedPositions.{take_position, later}
@@ -41,8 +41,8 @@ second : (v : DeviceView) (n m : ℕ) (tells : Type 0) (b c : Bool) → (tells �
     (if b then record v { seen = n; shown = true; armed = None; doing = if c then now.Idle else now.Disarming op.Arm } else record v
     { seen = m; shown = false; doing = now.Idle })
 second v n m tells false c t = second_none false tells _ _ _ _ _ _ t
-second v n m tells true true t = second_some false tells awake true _ _ _ _ _ _ refl
-second v n m tells true false t = second_some false tells other true _ _ _ _ _ _ refl
+second v n m tells true true t = second_wakes false tells true _ _ _ _ _
+second v n m tells true false t = second_some false tells true _ _ _ _ _ _
 
 -- a look at the bell
 hears : (v : DeviceView) (r : ℕ) (tells : Type 0) (more b c : Bool)
@@ -54,7 +54,7 @@ hears : (v : DeviceView) (r : ℕ) (tells : Type 0) (more b c : Bool)
           if c then now.Idle else now.Disarming op.Hear;
     })
 hears v r tells more true c = hears_same false tells more _ _ _ _
-hears v r tells more false true = quiet false idle op.Hear tells more awake true _ _ _ _ _ _ _ refl refl (λ g. refl)
+hears v r tells more false true = wakes false idle op.Hear tells more true _ _ _ _ _ refl
 hears v r tells more false false = quiet false idle op.Hear tells more other true _ _ _ _ _ _ _ refl refl (λ g. refl)
 
 -- a load of a chain's word
@@ -84,10 +84,10 @@ at now.Arming v op.Arm (Load p) r h = second v (later v.seen (take_position v.fr
     (later v.seen (take_position v.frame v.done)) _ (device_shows v r) v.frame.features.event_idx (λ t s. arm_shown v p r t s)
 at now.Idle v op.Hear (Load p) r h = hears v r _ _ (r == v.heard) v.frame.features.event_idx
 at now.Idle v op.Arm (Store p x) r h = arms_at false _ _ true _ _ _ (take_position v.frame v.done) _
-at (now.Disarming k) v op.Arm (Store p x) r h = quiet false (disarming k) op.Arm _ _ awake true _ _ _ _ _ _ _ refl refl (λ g. refl)
-at (now.Disarming k) v op.Hear (Store p x) r h = quiet false (disarming k) op.Hear _ _ awake true _ _ _ _ _ _ _ refl refl (λ g. refl)
-at now.Idle v op.Disarm (Store p x) r h = quiet false idle op.Disarm _ _ awake true _ _ _ _ _ _ _ refl refl (λ g. refl)
-at now.Idle v op.Disarm (Load p) r h = quiet false idle op.Disarm _ _ awake true _ _ _ _ _ _ _ refl refl (λ g. refl)
+at (now.Disarming k) v op.Arm (Store p x) r h = wakes false (disarming k) op.Arm _ _ true _ _ _ _ _ refl
+at (now.Disarming k) v op.Hear (Store p x) r h = wakes false (disarming k) op.Hear _ _ true _ _ _ _ _ refl
+at now.Idle v op.Disarm (Store p x) r h = wakes false idle op.Disarm _ _ true _ _ _ _ _ refl
+at now.Idle v op.Disarm (Load p) r h = wakes false idle op.Disarm _ _ true _ _ _ _ _ refl
 at now.Idle v op.Control (Store p x) r h = quiet false idle op.Control _ _ other true _ _ _ _ _ _ _ refl refl (λ g. refl)
 at now.Idle v op.Control (Load p) r h = quiet false idle op.Control _ _ other true _ _ _ _ _ _ _ refl refl (λ g. refl)
 at now.Idle v op.Rest (Store p x) r h = quiet false idle op.Rest _ _ other true _ _ _ _ _ _ _ refl refl (λ g. refl)

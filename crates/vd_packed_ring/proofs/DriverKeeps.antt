@@ -1,5 +1,5 @@
 -- Each access of the driver that is next keeps the ring invariant, and its answer tells what the view says.
-use Rattle.std.proofs.Common.{◌≡◌, ℕ, ◌<◌, Bool, Option, length, List, [], ◌∷◌, ◌++◌, if◌then◌else◌, slice_index, slice_set, refl, sym, ap, ◌∙◌, subst, arith, inl, inr}
+use Rattle.std.proofs.Common.{◌≡◌, ℕ, ◌<◌, Bool, None, length, List, [], ◌∷◌, ◌++◌, if◌then◌else◌, slice_index, slice_set, refl, sym, ap, ◌∙◌, subst, arith, inl, inr}
 use Rattle.std.proofs.lemmas.Bool.{eq-eqb, ne_eqb}
 use Rattle.std.proofs.lemmas.List.Elements.{All-nil}
 use Rattle.vd_words.specs.declared.access.Access.{Access}
@@ -60,11 +60,10 @@ offering ws d e puts p x r (inr h) =
 -- the disarming store that ends an arming or a hearing
 after_waking : (ws : List ℕ) (d : DriverView) (e : DeviceView) (o : Op) (p x : ℕ) → Ring ws (record d { doing = Disarming o }) e
     → StoresDisable d.frame (driver_event d.frame) p x
-    → (p < length ws) × Ring (slice_set ws p x) (record d { stored = slice_set d.stored p x; doing = Idle }) e
+    → (p < length ws) × Ring (slice_set ws p x) (record d { stored = slice_set d.stored p x; armed = None; doing = Idle }) e
 after_waking ws d e o p x r n = (
   omega (arith, r.words.wide, areas d.frame, n.place),
-  subst (λ (a : Option ℕ). Ring (slice_set ws p x) (record d { stored = slice_set d.stored p x; armed = a; doing = Idle }) e)
-      (sym r.driver_armed.0) (disarms ws d e (Disarming o) p x refl r r.kicks n),
+  disarms ws d e (Disarming o) p x refl r r.kicks n,
 )
 
 pub driver_keeps_at : (ws : List ℕ) (d : DriverView) (e : DeviceView) (now : DriverNow) (op : Op) (a : Access)

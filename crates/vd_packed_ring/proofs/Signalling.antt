@@ -69,8 +69,8 @@ driver_at (driver.Checking old new) v op.Offer (Load p) r other is = is
 driver_at (driver.Ringing old new) v op.Offer (Store p x) r other is = is
 driver_at driver.Idle v op.Arm (Store p x) r other is = absurd (other refl)
 driver_at driver.Arming v op.Arm (Load p) r other is = absurd (other refl)
-driver_at (driver.Disarming k) v op.Arm (Store p x) r other is = is
-driver_at (driver.Disarming k) v op.Hear (Store p x) r other is = is
+driver_at (driver.Disarming k) v op.Arm (Store p x) r other is = refl
+driver_at (driver.Disarming k) v op.Hear (Store p x) r other is = refl
 driver_at driver.Idle v op.Hear (Load p) r other is =
     either_driver None v (record v { heard = r; armed = None; doing = driver_wakes v.frame op.Hear }) (r == v.heard) is refl
 driver_at driver.Idle v op.Disarm (Store p x) r other is = refl
@@ -104,8 +104,8 @@ device_at (device.Checking old new) v op.Give (Load p) r other is = is
 device_at (device.Ringing old new) v op.Give (Store p x) r other is = is
 device_at device.Idle v op.Arm (Store p x) r other is = absurd (other refl)
 device_at device.Arming v op.Arm (Load p) r other is = absurd (other refl)
-device_at (device.Disarming k) v op.Arm (Store p x) r other is = is
-device_at (device.Disarming k) v op.Hear (Store p x) r other is = is
+device_at (device.Disarming k) v op.Arm (Store p x) r other is = refl
+device_at (device.Disarming k) v op.Hear (Store p x) r other is = refl
 device_at device.Idle v op.Hear (Load p) r other is =
     either_device None v (record v { heard = r; armed = None; doing = device_wakes v.frame op.Hear }) (r == v.heard) is refl
 device_at device.Idle v op.Disarm (Store p x) r other is = refl

@@ -138,6 +138,10 @@ abbrev pub seen_to : DeviceView → ℕ → ℕ
 seen_to v r = if is_available v.frame.size (take_position v.frame v.done) r then take_position v.frame v.done
     + 1 else take_position v.frame v.done
 
+-- the disarming store
+abbrev pub device_disarms : DeviceView → ℕ → ℕ → DeviceView
+device_disarms v p x = record v { stored = slice_set v.stored p x; armed = None; doing = Idle }
+
 -- its look is no look for a chain: what the last one showed stays, but no later look is before this one
 abbrev pub device_rests : DeviceView → ℕ → DeviceView
 device_rests v r = record v { done = Rest ∷ v.done; seen = later v.seen (seen_to v r); doing = Idle }
@@ -160,9 +164,9 @@ device_after_at (Checking old new) v op.Give (Load p) r = device_checks v old ne
 device_after_at (Ringing old new) v op.Give (Store p x) r = device_rings v p x
 device_after_at Idle v op.Arm (Store p x) r = device_arms v p x
 device_after_at Arming v op.Arm (Load p) r = device_looks_again v r
-device_after_at (Disarming o) v op.Arm (Store p x) r = device_stores v p x Idle
+device_after_at (Disarming o) v op.Arm (Store p x) r = device_disarms v p x
 device_after_at Idle v op.Hear (Load p) r = device_hears v r
-device_after_at (Disarming o) v op.Hear (Store p x) r = device_stores v p x Idle
+device_after_at (Disarming o) v op.Hear (Store p x) r = device_disarms v p x
 device_after_at Idle v op.Disarm (Store p x) r = record v { stored = slice_set v.stored p x; armed = None }
 device_after_at Idle v op.Disarm (Load p) r = record v { armed = None }
 device_after_at Idle v op.Rest (Store p x) r = record v { stored = slice_set v.stored p x; armed = None; doing = Resting }

@@ -152,6 +152,10 @@ driver_looks_again v r =
 abbrev pub driver_hears : DriverView → ℕ → DriverView
 driver_hears v r = if r == v.heard then v else record v { heard = r; armed = None; doing = driver_wakes v.frame op.Hear }
 
+-- the disarming store
+abbrev pub driver_disarms : DriverView → ℕ → ℕ → DriverView
+driver_disarms v p x = record v { stored = slice_set v.stored p x; armed = None; doing = Idle }
+
 abbrev pub driver_commands : DriverView → ℕ → ℕ → DriverView
 driver_commands v p x =
     record v {
@@ -171,9 +175,9 @@ driver_after_at (Ringing old new) v op.Offer (Store p x) r = driver_rings v p x
 driver_after_at Idle v op.Collect (Load p) r = driver_looks v r
 driver_after_at Idle v op.Arm (Store p x) r = driver_arms v p x
 driver_after_at Arming v op.Arm (Load p) r = driver_looks_again v r
-driver_after_at (Disarming o) v op.Arm (Store p x) r = stores v p x Idle
+driver_after_at (Disarming o) v op.Arm (Store p x) r = driver_disarms v p x
 driver_after_at Idle v op.Hear (Load p) r = driver_hears v r
-driver_after_at (Disarming o) v op.Hear (Store p x) r = stores v p x Idle
+driver_after_at (Disarming o) v op.Hear (Store p x) r = driver_disarms v p x
 driver_after_at Idle v op.Disarm (Store p x) r = record v { stored = slice_set v.stored p x; armed = None }
 driver_after_at Idle v op.Disarm (Load p) r = record v { armed = None }
 driver_after_at Idle v op.Control (Store p x) r = driver_commands v p x

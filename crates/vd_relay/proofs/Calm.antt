@@ -18,7 +18,7 @@ use Rattle.vd_relay.specs.Pairing.{ArePaired}
 use Rattle.vd_relay.specs.Pace.{idle_owes, take_owes, guest_owes, shadow_owes}
 use Rattle.vd_relay.specs.Stages.{is_rested, is_shadow, is_open, roused, GuestIs, ShadowIs, TakesFrom, OffersHand, InHand, OfferIs, BackIs, EndsIs, BeforeRest, GuestArmed, ShadowArmed, GuestShown, ShadowShown}
 use Rattle.vd_relay.specs.Tie.{Start, IsTied, since}
-use Rattle.vd_relay.specs.Relay.{Stuck, Stands, Stays, owes, IsRoused, IsFinished}
+use Rattle.vd_relay.specs.Relay.{Stands, Stays, owes, IsRoused, IsFinished}
 
 -- nothing is in progress at such a stage
 abbrev pub is_calm : Stage → Bool
@@ -205,7 +205,7 @@ module _ {E D : Type 0} (e : DeviceModel E) (d : DriverModel D) (law : IsLawfulD
     (r : State E D) (w : DeviceView) (v : DriverView) where
   -- it may stand at the stage
   pub settled : (st : Stage) → is_calm st ≡ true → Free e d z r w v → EndsIs st r.winding r.target w.done v.done
-      → GuestArmed (Stuck e d) st DeviceOp.idle w.doing w.armed → ShadowArmed (Stuck e d) st DriverOp.idle v.doing v.armed
+      → GuestArmed st DeviceOp.idle w.doing w.armed → ShadowArmed st DriverOp.idle v.doing v.armed
       → Stands e d z (at_stage r st) w v
   settled st calm f ends ga sa = record {
     serves = f.serves;
@@ -225,8 +225,8 @@ module _ {E D : Type 0} (e : DeviceModel E) (d : DriverModel D) (law : IsLawfulD
     offer = offers_none st (since z) v.frame v.done calm;
     to_give = subst (λ o. BackIs o []) (sym f.guest_idle) refl;
     ends = ends;
-    guest_armed = subst (λ o. GuestArmed (Stuck e d) st o w.doing w.armed) (sym f.guest_idle) ga;
-    shadow_armed = subst (λ o. ShadowArmed (Stuck e d) st o v.doing v.armed) (sym f.shadow_idle) sa;
+    guest_armed = subst (λ o. GuestArmed st o w.doing w.armed) (sym f.guest_idle) ga;
+    shadow_armed = subst (λ o. ShadowArmed st o v.doing v.armed) (sym f.shadow_idle) sa;
     guest_shown = subst (λ o. GuestShown o w.doing w.shown (e.left r.guest)) (sym f.guest_idle) tt;
     shadow_shown = subst (λ o. ShadowShown o v.doing v.shown (d.left r.shadow)) (sym f.shadow_idle) tt;
   }
@@ -298,8 +298,8 @@ module _ {E D : Type 0} (e : DeviceModel E) (d : DriverModel D) (law : IsLawfulD
   nothing_armed g s a b = unarmed_small (e.armed r.guest) (d.armed r.shadow) finished g s (device_unarmed e law r.guest w f.serves a)
       (driver_unarmed d ldr r.shadow v f.drives b)
 
-  pub turned_owes : (st : Stage) (g s : Bool) → is_open st ≡ true → GuestArmed (Stuck e d) st DeviceOp.idle w.doing w.armed
-      → ShadowArmed (Stuck e d) st DriverOp.idle v.doing v.armed → next_owes g s ≤ idle_owes true st g s
+  pub turned_owes : (st : Stage) (g s : Bool) → is_open st ≡ true → GuestArmed st DeviceOp.idle w.doing w.armed
+      → ShadowArmed st DriverOp.idle v.doing v.armed → next_owes g s ≤ idle_owes true st g s
   turned_owes stage.Taking g s o ga sa = nothing_armed g s ga sa
   turned_owes (stage.Collecting n) g s o ga sa = nothing_armed g s ga sa
   turned_owes stage.ArmingGuest g s o ga sa = nothing_armed g s ga sa
@@ -354,8 +354,8 @@ module _ {E D : Type 0} (e : DeviceModel E) (d : DriverModel D) (law : IsLawfulD
       → d.begun r.shadow ≡ DriverOp.idle → IsRoused e d r w v st → Stays e d z r (at_stage r st) w v
   turns h on opens gi si a =
       let f = freed e d law ldr z r w v h (open_calm r.stage opens) gi si in
-      let ga = subst (λ o. GuestArmed (Stuck e d) r.stage o w.doing w.armed) gi h.guest_armed in
-      let sa = subst (λ o. ShadowArmed (Stuck e d) r.stage o v.doing v.armed) si h.shadow_armed in
+      let ga = subst (λ o. GuestArmed r.stage o w.doing w.armed) gi h.guest_armed in
+      let sa = subst (λ o. ShadowArmed r.stage o v.doing v.armed) si h.shadow_armed in
       record {
         stands = stands_roused e d law ldr z r w v st f a;
         owes = omega (

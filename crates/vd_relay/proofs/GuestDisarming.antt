@@ -1,5 +1,5 @@
 -- A disarming of the guest's end.
-use Rattle.std.proofs.Common.{◌≡◌, ◌+◌, ◌≤◌, Bool, true, false, [], refl, sym, ap, subst, arith, inl, inr}
+use Rattle.std.proofs.Common.{◌≡◌, ◌+◌, ◌≤◌, Bool, true, false, [], refl, sym, ap, subst, arith, inl}
 use Rattle.vd_words.specs.declared.access.Op.TheVariants as op
 use Rattle.vd_words.specs.Model.{PortModel}
 use Rattle.vd_ring.specs.declared.act.DeviceAct.TheVariants as act
@@ -10,15 +10,16 @@ use Rattle.vd_ring.specs.Sleep.{device_woken}
 use Rattle.vd_layout.specs.Begun.{DeviceOp, IsDeviceOp}
 use Rattle.vd_layout.specs.Driver.{DriverModel, IsLawfulDriver}
 use Rattle.vd_layout.specs.Device.{DeviceModel, IsLawfulDevice, IsDeviceStep}
+use Rattle.vd_layout.specs.laws.Unarmed.{device_unarmed}
 use Rattle.vd_relay.specs.declared.counts.Turn.TheVariants.{Worked}
 use Rattle.vd_relay.specs.declared.stage.Stage.{Stage}
 use Rattle.vd_relay.specs.declared.stage.Stage.TheVariants as stage
 use Rattle.vd_relay.specs.declared.state.State.{State}
-use Rattle.vd_relay.specs.Pace.{guest_owes, idle_owes, take_owes, hear_owes}
+use Rattle.vd_relay.specs.Pace.{guest_owes, idle_owes, take_owes}
 use Rattle.vd_relay.specs.Stages.{roused, BackIs}
 use Rattle.vd_relay.specs.Tie.{Start}
-use Rattle.vd_relay.specs.Relay.{Stuck, Stands, GuestTurn, IsRoused}
-use Rattle.vd_relay.proofs.Calm.{at_stage, settled, stands_roused}
+use Rattle.vd_relay.specs.Relay.{Stands, GuestTurn, IsRoused}
+use Rattle.vd_relay.proofs.Calm.{at_stage, stands_roused}
 use Rattle.vd_relay.proofs.GuestTurns.{next_at, with_guest}
 use Rattle.vd_relay.proofs.GuestWakes.{awake_at, woke_to}
 
@@ -39,12 +40,6 @@ disarmed_small false false false finished g g' s a f = omega (arith, less_shown 
 disarmed_small false false true false g g' s a f = omega arith
 disarmed_small false false true true g g' s a f = omega arith
 
-stuck_small : (winding g s : Bool) → hear_owes winding + 1 ≤ 2 + take_owes winding g s
-stuck_small true g s = omega arith
-stuck_small false true s = omega arith
-stuck_small false false true = omega arith
-stuck_small false false false = omega arith
-
 module _ {P E D : Type 0} (port : PortModel P) (e : DeviceModel E) (d : DriverModel D) (law : IsLawfulDevice e) (ldr : IsLawfulDriver d)
     (z : Start) (p q : P) (r : State E D) (w : DeviceView) (v : DriverView) (b : E) where
   -- what was shown stays shown
@@ -56,12 +51,14 @@ module _ {P E D : Type 0} (port : PortModel P) (e : DeviceModel E) (d : DriverMo
 
   pub disarming_woke : (st' : Stage) → e.begun r.guest ≡ DeviceOp.disarm → (h : Stands e d z (at_stage r stage.DisarmingGuest) w v)
       → (s : IsDeviceStep port e p q w r.guest b act.Awake)
-      → IsRoused e d (with_guest r b) (e.side.after w s.op s.access s.got) v st' → e.armed b ≡ false
+      → IsRoused e d (with_guest r b) (e.side.after w s.op s.access s.got) v st'
       → GuestTurn port e d z p q (at_stage r stage.DisarmingGuest) (next_at r b st') w v Worked
-  disarming_woke st' is h s a unarmed =
+  disarming_woke st' is h s a =
       let w' : DeviceView = e.side.after w s.op s.access s.got in
       let back : h.back ≡ [] = subst (λ o. BackIs o h.back) is h.to_give in
       let f = awake_at port e d law ldr z p q r w v b stage.DisarmingGuest refl refl h back s in
+      let unarmed : e.armed b ≡ false =
+      device_unarmed e law b w' s.now_stands (law.stays.awake w s.op s.access s.got s.was_next (sym s.is_answer)) in
       woke_to port e d law ldr z p q r w v b stage.DisarmingGuest st' Worked refl refl h back s
       (stands_roused e d law ldr z (with_guest r b) w' v st' f a) refl
       (λ y. cc y) (λ y. cc y) (sym (ap (λ o. device_woken o act.Awake) (disarming_of s is)))
@@ -69,28 +66,5 @@ module _ {P E D : Type 0} (port : PortModel P) (e : DeviceModel E) (d : DriverMo
         arith,
         ap (λ (x : Stage). idle_owes r.winding x w'.shown v.shown) a.is,
         disarmed_small (e.armed b) (d.armed r.shadow) r.winding a.finished w.shown w'.shown v.shown unarmed (still_shown s),
-        ap (λ o. guest_owes r.winding stage.DisarmingGuest o w.doing w.shown v.shown (e.left r.guest)) is,
-      ))
-
-  -- no layout leaves it armed
-  stuck_at : (s : IsDeviceStep port e p q w r.guest b act.Awake) → e.armed b ≡ true → Stuck e d
-  stuck_at s armed wakes =
-      let some = law.armed b (e.side.after w s.op s.access s.got) s.now_stands armed in
-      cc (some.1, wakes.guest w s.op s.access s.got s.was_next (sym s.is_answer))
-
-  pub stuck_woke : e.begun r.guest ≡ DeviceOp.disarm → (h : Stands e d z (at_stage r stage.DisarmingGuest) w v)
-      → (s : IsDeviceStep port e p q w r.guest b act.Awake) → e.armed b ≡ true
-      → GuestTurn port e d z p q (at_stage r stage.DisarmingGuest) (next_at r b stage.HearingGuest) w v Worked
-  stuck_woke is h s armed =
-      let w' : DeviceView = e.side.after w s.op s.access s.got in
-      let back : h.back ≡ [] = subst (λ o. BackIs o h.back) is h.to_give in
-      let f = awake_at port e d law ldr z p q r w v b stage.DisarmingGuest refl refl h back s in
-      let some = law.armed b w' s.now_stands armed in
-      woke_to port e d law ldr z p q r w v b stage.DisarmingGuest stage.HearingGuest Worked refl refl h back s
-      (settled e d law ldr z (with_guest r b) w' v stage.HearingGuest refl f tt (some.0, some.1) (inr (stuck_at s armed))) refl
-      (λ y. cc y) (λ y. cc y) (sym (ap (λ o. device_woken o act.Awake) (disarming_of s is)))
-      (omega (
-        arith,
-        stuck_small r.winding w.shown v.shown,
         ap (λ o. guest_owes r.winding stage.DisarmingGuest o w.doing w.shown v.shown (e.left r.guest)) is,
       ))

@@ -26,12 +26,12 @@ pub record Goes (o : Op) (v w : DeviceView) : Type 0 where
   pub other : o ≢ op.Disarm
 
 -- what holds after it
-pub record Went (Stuck : Type 0) (st : Stage) (winding : Bool) (hand : List (List Piece)) (back : List Used) (b : DeviceOp)
+pub record Went (st : Stage) (winding : Bool) (hand : List (List Piece)) (back : List Used) (b : DeviceOp)
     (w : DeviceView) (s : Bool) (left owed : ℕ) : Type 0 where
   pub is : GuestIs st b
   pub takes : TakesFrom b hand
   pub gives : BackIs b back
-  pub armed : GuestArmed Stuck st b w.doing w.armed
+  pub armed : GuestArmed st b w.doing w.armed
   pub shown : GuestShown b w.doing w.shown left
   pub paid : guest_owes winding st b w.doing w.shown s left + 1 ≤ owed
 
@@ -47,11 +47,11 @@ take_most false true s = omega arith
 take_most false false true = omega arith
 take_most false false false = omega arith
 
-module _ (Stuck : Type 0) (winding : Bool) (hand : List (List Piece)) (back : List Used) (o : Op) (v w : DeviceView) (s : Bool)
+module _ (winding : Bool) (hand : List (List Piece)) (back : List Used) (o : Op) (v w : DeviceView) (s : Bool)
     (left left' : ℕ) where
   taking : o ≡ op.Take → v.armed ≡ None → TakesFrom DeviceOp.take hand → BackIs DeviceOp.take back
       → GuestShown DeviceOp.take v.doing v.shown left → left' < left → Goes o v w
-      → Went Stuck stage.Taking winding hand back DeviceOp.take w s left' (taking_owes winding v.shown s left)
+      → Went stage.Taking winding hand back DeviceOp.take w s left' (taking_owes winding v.shown s left)
   taking of none t bk i less g =
       let sees : w.shown ≡ true = g.shown (elim i.0 [ inl idle ↦ inr (inl (of, idle)) | inr shown ↦ inl shown ]) in
       record {
@@ -64,7 +64,7 @@ module _ (Stuck : Type 0) (winding : Bool) (hand : List (List Piece)) (back : Li
       }
 
   giving : (k n : ℕ) → o ≡ op.Give → v.armed ≡ None → BackIs (DeviceOp.give k n) back → left' < left → Goes o v w
-      → Went Stuck stage.Giving winding hand back (DeviceOp.give k n) w s left' left
+      → Went stage.Giving winding hand back (DeviceOp.give k n) w s left' left
   giving k n of none bk less g = record {
     is = tt;
     takes = tt;
@@ -75,7 +75,7 @@ module _ (Stuck : Type 0) (winding : Bool) (hand : List (List Piece)) (back : Li
   }
 
   resting : o ≡ op.Rest → v.armed ≡ None → back ≡ [] → left' < left → Goes o v w
-      → Went Stuck stage.Resting winding hand back DeviceOp.rest w s left' left
+      → Went stage.Resting winding hand back DeviceOp.rest w s left' left
   resting of none bk less g = record {
     is = tt;
     takes = tt;
@@ -86,7 +86,7 @@ module _ (Stuck : Type 0) (winding : Bool) (hand : List (List Piece)) (back : Li
   }
 
   arming : o ≡ op.Arm → GuestArms DeviceOp.arm v.doing v.armed → back ≡ [] → left' < left → Goes o v w
-      → Went Stuck stage.ArmingGuest winding hand back DeviceOp.arm w s left' (left + (if winding then 6 else 42))
+      → Went stage.ArmingGuest winding hand back DeviceOp.arm w s left' (left + (if winding then 6 else 42))
   arming of a bk less g = record {
     is = tt;
     takes = tt;
@@ -105,7 +105,7 @@ module _ (Stuck : Type 0) (winding : Bool) (hand : List (List Piece)) (back : Li
   hears_less false = omega arith
 
   hearing : o ≡ op.Hear → GuestHears DeviceOp.hear v.doing v.armed → back ≡ [] → Goes o v w
-      → Went Stuck stage.HearingGuest winding hand back DeviceOp.hear w s left' (guest_hears winding v.doing)
+      → Went stage.HearingGuest winding hand back DeviceOp.hear w s left' (guest_hears winding v.doing)
   hearing of a bk g = elim a [
     | inl x ↦ (
         let d : w.doing ≡ now.Disarming op.Hear = g.heard of x.0 in
@@ -122,8 +122,8 @@ module _ (Stuck : Type 0) (winding : Bool) (hand : List (List Piece)) (back : Li
   ]
 
   signalled : (b : DeviceOp) → DevicePublished b → o ≡ op.Give → v.armed ≡ None → back ≡ [] → left' < left → Goes o v w
-      → Went Stuck stage.Taking winding hand back b w s left' (left + (if winding then 4 else 47))
-  signalled b (inl e) of none bk less g = subst (λ y. Went Stuck stage.Taking winding hand back y w s left'
+      → Went stage.Taking winding hand back b w s left' (left + (if winding then 4 else 47))
+  signalled b (inl e) of none bk less g = subst (λ y. Went stage.Taking winding hand back y w s left'
       (left + (if winding then 4 else 47))) (sym e) record {
         is = tt;
         takes = tt;
@@ -132,7 +132,7 @@ module _ (Stuck : Type 0) (winding : Bool) (hand : List (List Piece)) (back : Li
         shown = tt;
         paid = omega (arith, take_most winding w.shown s);
       }
-  signalled b (inr e) of none bk less g = subst (λ y. Went Stuck stage.Taking winding hand back y w s left'
+  signalled b (inr e) of none bk less g = subst (λ y. Went stage.Taking winding hand back y w s left'
       (left + (if winding then 4 else 47))) (sym e) record {
         is = tt;
         takes = tt;
@@ -142,37 +142,37 @@ module _ (Stuck : Type 0) (winding : Bool) (hand : List (List Piece)) (back : Li
         paid = omega arith;
       }
 
-  to_stage : (st x : Stage) (b' b : DeviceOp) (owed : ℕ) → st ≡ x → b' ≡ b → Went Stuck x winding hand back b w s left' owed
-      → Went Stuck st winding hand back b' w s left' owed
-  to_stage st x b' b owed e f h = subst (λ (y : Stage). Went Stuck y winding hand back b' w s left' owed) (sym e)
-      (subst (λ y. Went Stuck x winding hand back y w s left' owed) (sym f) h)
+  to_stage : (st x : Stage) (b' b : DeviceOp) (owed : ℕ) → st ≡ x → b' ≡ b → Went x winding hand back b w s left' owed
+      → Went st winding hand back b' w s left' owed
+  to_stage st x b' b owed e f h = subst (λ (y : Stage). Went y winding hand back b' w s left' owed) (sym e)
+      (subst (λ y. Went x winding hand back y w s left' owed) (sym f) h)
 
-  pub went : (st : Stage) (a b : DeviceOp) → GuestIs st a → IsDeviceOp a o → GuestArmed Stuck st a v.doing v.armed
+  pub went : (st : Stage) (a b : DeviceOp) → GuestIs st a → IsDeviceOp a o → GuestArmed st a v.doing v.armed
       → TakesFrom a hand → BackIs a back → GuestShown a v.doing v.shown left → DeviceGoesOn a b → left' < left → Goes o v w
-      → Went Stuck st winding hand back b w s left' (guest_owes winding st a v.doing v.shown s left)
+      → Went st winding hand back b w s left' (guest_owes winding st a v.doing v.shown s left)
   went st DeviceOp.take b h of ar t bk i goes less g =
       let e = at_take st h in
       to_stage st stage.Taking b DeviceOp.take (taking_owes winding v.shown s left) e goes (taking of (subst
-      (λ (y : Stage). GuestArmed Stuck y DeviceOp.take v.doing v.armed) e ar) t bk i less g)
+      (λ (y : Stage). GuestArmed y DeviceOp.take v.doing v.armed) e ar) t bk i less g)
   went st (DeviceOp.give k n) b h of ar t bk i goes less g =
       let e = at_give k n st h in
       to_stage st stage.Giving b (DeviceOp.give k n) left e goes (giving k n of (subst
-      (λ (y : Stage). GuestArmed Stuck y (DeviceOp.give k n) v.doing v.armed) e ar) bk less g)
+      (λ (y : Stage). GuestArmed y (DeviceOp.give k n) v.doing v.armed) e ar) bk less g)
   went st DeviceOp.rest b h of ar t bk i goes less g =
       let e = at_rest st h in
       to_stage st stage.Resting b DeviceOp.rest left e goes (resting of (subst
-      (λ (y : Stage). GuestArmed Stuck y DeviceOp.rest v.doing v.armed) e ar) bk less g)
+      (λ (y : Stage). GuestArmed y DeviceOp.rest v.doing v.armed) e ar) bk less g)
   went st DeviceOp.arm b h of ar t bk i goes less g =
       let e = at_guest_arm st h in
       to_stage st stage.ArmingGuest b DeviceOp.arm (left + (if winding then 6 else 42)) e goes (arming of (subst
-      (λ (y : Stage). GuestArmed Stuck y DeviceOp.arm v.doing v.armed) e ar) bk less g)
+      (λ (y : Stage). GuestArmed y DeviceOp.arm v.doing v.armed) e ar) bk less g)
   went st DeviceOp.hear b h of ar t bk i goes less g =
       let e = at_guest_hear st h in
       to_stage st stage.HearingGuest b DeviceOp.hear (guest_hears winding v.doing) e goes (hearing of (subst
-      (λ (y : Stage). GuestArmed Stuck y DeviceOp.hear v.doing v.armed) e ar) bk g)
+      (λ (y : Stage). GuestArmed y DeviceOp.hear v.doing v.armed) e ar) bk g)
   went st DeviceOp.signal b h of ar t bk i goes less g =
       let e = at_guest_signal st h in
       to_stage st stage.Taking b b (left + (if winding then 4 else 47)) e refl (signalled b goes of (subst
-      (λ (y : Stage). GuestArmed Stuck y DeviceOp.signal v.doing v.armed) e ar) bk less g)
+      (λ (y : Stage). GuestArmed y DeviceOp.signal v.doing v.armed) e ar) bk less g)
   went st DeviceOp.disarm b h of ar t bk i goes less g = absurd (g.other of)
   went st DeviceOp.idle b h of ar t bk i goes less g = absurd of

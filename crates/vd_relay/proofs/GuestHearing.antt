@@ -1,5 +1,5 @@
 -- A hearing of the guest's end: a bell wakes it, or it sleeps.
-use Rattle.std.proofs.Common.{◌≡◌, ◌⊎◌, ◌≤◌, Bool, true, false, [], refl, sym, ◌∙◌, ap, subst, arith, inl, inr}
+use Rattle.std.proofs.Common.{◌≡◌, ◌≤◌, Bool, true, false, [], refl, sym, ◌∙◌, ap, subst, arith, inl, inr}
 use Rattle.vd_words.specs.declared.access.Op.TheVariants as op
 use Rattle.vd_words.specs.Model.{PortModel}
 use Rattle.vd_ring.specs.declared.act.DeviceAct.TheVariants as act
@@ -14,11 +14,11 @@ use Rattle.vd_relay.specs.declared.counts.Turn.TheVariants.{Woke, Slept}
 use Rattle.vd_relay.specs.declared.stage.Stage.{Stage}
 use Rattle.vd_relay.specs.declared.stage.Stage.TheVariants as stage
 use Rattle.vd_relay.specs.declared.state.State.{State}
-use Rattle.vd_relay.specs.Pace.{guest_owes, guest_hears, idle_owes, hear_owes}
-use Rattle.vd_relay.specs.Stages.{is_rested, heard_next, GuestIs, BackIs, GuestHears, IsSome}
+use Rattle.vd_relay.specs.Pace.{guest_owes, guest_hears}
+use Rattle.vd_relay.specs.Stages.{heard_next, GuestIs, BackIs, GuestHears, IsSome}
 use Rattle.vd_relay.specs.Tie.{Start}
-use Rattle.vd_relay.specs.Relay.{Stuck, Stands, GuestTurn, IsRoused}
-use Rattle.vd_relay.proofs.Calm.{Free, at_stage, settled, owes_idle, stands_roused, hear_most}
+use Rattle.vd_relay.specs.Relay.{Stands, GuestTurn, IsRoused}
+use Rattle.vd_relay.proofs.Calm.{at_stage, settled, owes_idle, stands_roused, hear_most}
 use Rattle.vd_relay.proofs.Ops.{at_guest_hear}
 use Rattle.vd_relay.proofs.GuestTurns.{bag_same, made_at, next_at, not_woken, to_stage, with_guest}
 use Rattle.vd_relay.proofs.GuestFree.{freed_at}
@@ -74,51 +74,29 @@ module _ {P E D : Type 0} (port : PortModel P) (e : DeviceModel E) (d : DriverMo
   hears_armed idle (inl x) = x.1
   hears_armed idle (inr x) = absurd (cc (x, idle))
 
-  sleeps : (ga sa : Bool) → d.armed r.shadow ≡ sa → (h : Stands e d z (at_stage r stage.HearingGuest) w v)
-      → IsDeviceStep port e p q w r.guest b act.Asleep
-      → GuestTurn port e d z p q (at_stage r stage.HearingGuest) (next_at r b (heard_next stage.HearingGuest ga sa)) w v Slept
-  sleeps ga sa is h s =
+  sleeps : (h : Stands e d z (at_stage r stage.HearingGuest) w v) → IsDeviceStep port e p q w r.guest b act.Asleep
+      → GuestTurn port e d z p q (at_stage r stage.HearingGuest) (next_at r b stage.HearingShadow) w v Slept
+  sleeps h s =
       let w' : DeviceView = e.side.after w s.op s.access s.got in
       let back : h.back ≡ [] = subst (λ o. BackIs o h.back) s.says.0 h.to_give in
       let f = freed_at port e d law ldr z p q r w v b act.Asleep s stage.HearingGuest refl refl h back s.says.2 s.says.1 s.rests in
       let idle = hears_idle s in
       let here : IsSome w.armed = hears_armed idle (subst (λ o. GuestHears o w.doing w.armed) s.says.0 h.guest_armed) in
       let some : IsSome w'.armed = (here.0, ap (λ (x : DeviceView). x.armed) (asleep_view s) ∙ here.1) in
-      let at : (x : Bool) → d.armed r.shadow ≡ x → Stands e d z
-      (next_at r b (heard_next stage.HearingGuest ga x)) w' v = λ x y. stands_to x y f some h.shadow_armed in
-      made_at port e d law ldr z p q r w v b act.Asleep s stage.HearingGuest (next_at r b (heard_next stage.HearingGuest ga sa)) Slept
-      (at sa is)
+      made_at port e d law ldr z p q r w v b act.Asleep s stage.HearingGuest (next_at r b stage.HearingShadow) Slept
+      (settled e d law ldr z (with_guest r b) w' v stage.HearingShadow refl f tt some h.shadow_armed)
       (bag_same port e d law ldr z p q r w v b act.Asleep s s.says.2) refl
-      (not_woken s.op act.Asleep (λ y. cc y)) ((λ y. refl), λ y. refl) (λ y. cc y) (λ y. live_to sa)
+      (not_woken s.op act.Asleep (λ y. cc y)) ((λ y. refl), λ y. refl) (λ y. cc y) (λ y. refl)
       (omega (
         arith,
-        owes_idle e d law ldr z (with_guest r b) w' v (heard_next stage.HearingGuest ga sa) f,
-        owes_to sa w'.shown v.shown,
+        owes_idle e d law ldr z (with_guest r b) w' v stage.HearingShadow f,
         ap (λ o. guest_owes r.winding stage.HearingGuest o w.doing w.shown v.shown (e.left r.guest)) s.says.0,
         ap (guest_hears r.winding) idle,
       ))
-    where
-      stands_to : (x : Bool) → d.armed r.shadow ≡ x → Free e d z (with_guest r b) (e.side.after w s.op s.access s.got) v
-          → IsSome (e.side.after w s.op s.access s.got).armed → IsSome v.armed ⊎ Stuck e d
-          → Stands e d z (next_at r b (heard_next stage.HearingGuest ga x)) (e.side.after w s.op s.access s.got) v
-      stands_to true y f some o = settled e d law ldr z (with_guest r b)
-          (e.side.after w s.op s.access s.got) v stage.HearingShadow refl f tt
-          (inl some) (ldr.armed r.shadow v f.drives y)
-      stands_to false y f some o = settled e d law ldr z (with_guest r b)
-          (e.side.after w s.op s.access s.got) v stage.HearingGuest refl f tt some o
 
-      live_to : (x : Bool) → is_rested (heard_next stage.HearingGuest ga x) ≡ false
-      live_to true = refl
-      live_to false = refl
-
-      owes_to : (x : Bool) (i j : Bool) → idle_owes r.winding (heard_next stage.HearingGuest ga x) i j ≡ hear_owes r.winding
-      owes_to true i j = refl
-      owes_to false i j = refl
-
-  pub slept_at : (ga sa : Bool) → d.armed r.shadow ≡ sa → Stands e d z r w v → IsDeviceStep port e p q w r.guest b act.Asleep
-      → GuestTurn port e d z p q r (next_at r b (heard_next r.stage ga sa)) w v Slept
-  slept_at ga sa is h s =
+  pub slept_at : Stands e d z r w v → IsDeviceStep port e p q w r.guest b act.Asleep
+      → GuestTurn port e d z p q r (next_at r b (heard_next r.stage)) w v Slept
+  slept_at h s =
       let at = at_guest_hear r.stage (subst (λ o. GuestIs r.stage o) s.says.0 h.guest) in
-      subst (λ (x : Stage). GuestTurn port e d z p q r (next_at r b (heard_next x ga sa)) w v Slept) (sym at)
-      (to_stage port e d law ldr z p q r w v b stage.HearingGuest (next_at r b (heard_next stage.HearingGuest ga sa)) Slept at
-      (λ x. sleeps ga sa is x s) h)
+      subst (λ (x : Stage). GuestTurn port e d z p q r (next_at r b (heard_next x)) w v Slept) (sym at)
+      (to_stage port e d law ldr z p q r w v b stage.HearingGuest (next_at r b stage.HearingShadow) Slept at (λ x. sleeps x s) h)

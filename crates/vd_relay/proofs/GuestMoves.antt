@@ -14,7 +14,7 @@ use Rattle.vd_relay.specs.declared.counts.Turn.TheVariants.{Worked}
 use Rattle.vd_relay.specs.declared.state.State.{State}
 use Rattle.vd_relay.specs.Stages.{is_rested, is_shadow, BeforeRest}
 use Rattle.vd_relay.specs.Tie.{Start}
-use Rattle.vd_relay.specs.Relay.{Stuck, Stands, GuestTurn}
+use Rattle.vd_relay.specs.Relay.{Stands, GuestTurn}
 use Rattle.vd_relay.proofs.GuestGoing.{Goes, went}
 use Rattle.vd_relay.proofs.Turns.{worked_only}
 use Rattle.vd_relay.proofs.GuestTurns.{bag_same, framed_at, made_at, not_woken, owes_here, with_guest}
@@ -61,7 +61,7 @@ module _ {P E D : Type 0} (port : PortModel P) (e : DeviceModel E) (d : DriverMo
   went_on live side h s =
       let w' : DeviceView = e.side.after w s.op s.access s.got in
       let done : w'.done ≡ w.done = s.says.1 in
-      let g = went (Stuck e d) r.winding h.hand h.back s.op w w' v.shown (e.left r.guest) (e.left b) r.stage (e.begun r.guest) (e.begun b)
+      let g = went r.winding h.hand h.back s.op w w' v.shown (e.left r.guest) (e.left b) r.stage (e.begun r.guest) (e.begun b)
       h.guest s.of_it h.guest_armed h.takes h.to_give h.guest_shown s.says.0 s.left (goes_of s) in
       made_at port e d law ldr z p q r w v b act.Moved s r.stage (with_guest r b) Worked (record {
         serves = s.now_stands;

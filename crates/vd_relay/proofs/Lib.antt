@@ -10,6 +10,7 @@ pub mod GuestFree
 pub mod GuestMoves
 pub mod GuestNothing
 pub mod GuestWakes
+pub mod GuestArmed
 pub mod GuestArming
 pub mod GuestHearing
 pub mod GuestDisarming

@@ -48,7 +48,7 @@ module _ {P E D : Type 0} (port : PortModel P) (e : DeviceModel E) (d : DriverMo
       let f = freed_at port e d law ldr z p q r w v b act.Armed s stage.ArmingShadow refl refl h s.says.2 s.says.1 in
       let some = armed_at s (subst (λ o. ShadowArms o v.doing v.armed) s.says.0 h.shadow_armed) in
       made_at port e d law ldr z p q r w v b act.Armed s stage.ArmingShadow (next_at r b stage.HearingGuest) Worked
-      (settled e d law ldr z (with_shadow r b) w v' stage.HearingGuest refl f tt h.guest_armed (inl some)) refl
+      (settled e d law ldr z (with_shadow r b) w v' stage.HearingGuest refl f tt h.guest_armed some) refl
       (not_woken s.op act.Armed (λ y. cc y)) (worked_only act.Armed (λ y. cc y))
       (once port e d law ldr z p q r w v b act.Armed Worked (λ y. cc y) (λ y. cc y)) refl
       (omega (

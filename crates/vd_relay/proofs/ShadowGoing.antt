@@ -25,11 +25,11 @@ pub record Goes (o : Op) (v w : DriverView) : Type 0 where
   pub other : o ≢ op.Disarm
 
 -- what holds after it
-pub record Went (Stuck : Type 0) (st : Stage) (winding : Bool) (hand : List (List Piece)) (b : DriverOp) (w : DriverView) (g : Bool)
+pub record Went (st : Stage) (winding : Bool) (hand : List (List Piece)) (b : DriverOp) (w : DriverView) (g : Bool)
     (left owed : ℕ) : Type 0 where
   pub is : ShadowIs st b
   pub offers : OffersHand b hand
-  pub armed : ShadowArmed Stuck st b w.doing w.armed
+  pub armed : ShadowArmed st b w.doing w.armed
   pub shown : ShadowShown b w.doing w.shown left
   pub paid : shadow_owes winding st b w.doing g w.shown left + 1 ≤ owed
 
@@ -45,10 +45,10 @@ collect_most false none true = omega arith
 collect_most false true false = omega arith
 collect_most false false false = omega arith
 
-module _ (Stuck : Type 0) (winding : Bool) (hand : List (List Piece)) (o : Op) (v w : DriverView) (g : Bool) (left left' : ℕ) where
+module _ (winding : Bool) (hand : List (List Piece)) (o : Op) (v w : DriverView) (g : Bool) (left left' : ℕ) where
   collecting : (none : Bool) → o ≡ op.Collect → v.armed ≡ None → ShadowShown DriverOp.collect v.doing v.shown left → left' < left
       → Goes o v w
-      → Went Stuck (stage.Collecting none) winding hand DriverOp.collect w g left' (collecting_owes winding none v.shown left)
+      → Went (stage.Collecting none) winding hand DriverOp.collect w g left' (collecting_owes winding none v.shown left)
   collecting none of unarmed i less s =
       let sees : w.shown ≡ true = s.shown (elim i.0 [ inl idle ↦ inr (inl (of, idle)) | inr shown ↦ inl shown ]) in
       record {
@@ -60,7 +60,7 @@ module _ (Stuck : Type 0) (winding : Bool) (hand : List (List Piece)) (o : Op) (
       }
 
   offering : (number head : ℕ) (c : List Piece) → o ≡ op.Offer → v.armed ≡ None → hand ≡ c ∷ [] → left' < left → Goes o v w
-      → Went Stuck (stage.Offering number head) winding hand (DriverOp.offer c) w g left' left
+      → Went (stage.Offering number head) winding hand (DriverOp.offer c) w g left' left
   offering number head c of unarmed is less s = record {
     is = tt;
     offers = is;
@@ -70,7 +70,7 @@ module _ (Stuck : Type 0) (winding : Bool) (hand : List (List Piece)) (o : Op) (
   }
 
   arming : o ≡ op.Arm → ShadowArms DriverOp.arm v.doing v.armed → left' < left → Goes o v w
-      → Went Stuck stage.ArmingShadow winding hand DriverOp.arm w g left' (left + (if winding then 6 else 39))
+      → Went stage.ArmingShadow winding hand DriverOp.arm w g left' (left + (if winding then 6 else 39))
   arming of a less s = record {
     is = tt;
     offers = tt;
@@ -88,7 +88,7 @@ module _ (Stuck : Type 0) (winding : Bool) (hand : List (List Piece)) (o : Op) (
   hears_less false = omega arith
 
   hearing : o ≡ op.Hear → ShadowHears DriverOp.hear v.doing v.armed → Goes o v w
-      → Went Stuck stage.HearingShadow winding hand DriverOp.hear w g left' (shadow_hears winding v.doing)
+      → Went stage.HearingShadow winding hand DriverOp.hear w g left' (shadow_hears winding v.doing)
   hearing of a s = elim a [
     | inl x ↦ (
         let d : w.doing ≡ now.Disarming op.Hear = s.heard of x.0 in
@@ -104,8 +104,8 @@ module _ (Stuck : Type 0) (winding : Bool) (hand : List (List Piece)) (o : Op) (
   ]
 
   signalled : (none : Bool) (b : DriverOp) → DriverPublished b → o ≡ op.Offer → v.armed ≡ None → left' < left → Goes o v w
-      → Went Stuck (stage.Collecting none) winding hand b w g left' (left + (if winding then 4 else 48))
-  signalled none b (inl e) of unarmed less s = subst (λ y. Went Stuck (stage.Collecting none) winding hand y w g left'
+      → Went (stage.Collecting none) winding hand b w g left' (left + (if winding then 4 else 48))
+  signalled none b (inl e) of unarmed less s = subst (λ y. Went (stage.Collecting none) winding hand y w g left'
       (left + (if winding then 4 else 48))) (sym e) record {
         is = tt;
         offers = tt;
@@ -113,7 +113,7 @@ module _ (Stuck : Type 0) (winding : Bool) (hand : List (List Piece)) (o : Op) (
         shown = tt;
         paid = omega (arith, collect_most winding none w.shown);
       }
-  signalled none b (inr e) of unarmed less s = subst (λ y. Went Stuck (stage.Collecting none) winding hand y w g left'
+  signalled none b (inr e) of unarmed less s = subst (λ y. Went (stage.Collecting none) winding hand y w g left'
       (left + (if winding then 4 else 48))) (sym e) record {
         is = tt;
         offers = tt;
@@ -122,44 +122,44 @@ module _ (Stuck : Type 0) (winding : Bool) (hand : List (List Piece)) (o : Op) (
         paid = omega arith;
       }
 
-  to_op : (st x : Stage) (b' b : DriverOp) (owed owed' : ℕ) → st ≡ x → b' ≡ b → owed' ≡ owed → Went Stuck x winding hand b w g left' owed
-      → Went Stuck st winding hand b' w g left' owed'
-  to_op st x b' b owed owed' e f n h = subst (λ (y : Stage). Went Stuck y winding hand b' w g left' owed') (sym e)
-      (subst (λ y. Went Stuck x winding hand y w g left' owed') (sym f)
-      (subst (λ (y : ℕ). Went Stuck x winding hand b w g left' y) (sym n) h))
+  to_op : (st x : Stage) (b' b : DriverOp) (owed owed' : ℕ) → st ≡ x → b' ≡ b → owed' ≡ owed → Went x winding hand b w g left' owed
+      → Went st winding hand b' w g left' owed'
+  to_op st x b' b owed owed' e f n h = subst (λ (y : Stage). Went y winding hand b' w g left' owed') (sym e)
+      (subst (λ y. Went x winding hand y w g left' owed') (sym f)
+      (subst (λ (y : ℕ). Went x winding hand b w g left' y) (sym n) h))
 
-  pub went : (st : Stage) (a b : DriverOp) → ShadowIs st a → IsDriverOp a o → ShadowArmed Stuck st a v.doing v.armed
+  pub went : (st : Stage) (a b : DriverOp) → ShadowIs st a → IsDriverOp a o → ShadowArmed st a v.doing v.armed
       → OffersHand a hand → ShadowShown a v.doing v.shown left → DriverGoesOn a b → left' < left → Goes o v w
-      → Went Stuck st winding hand b w g left' (shadow_owes winding st a v.doing g v.shown left)
+      → Went st winding hand b w g left' (shadow_owes winding st a v.doing g v.shown left)
   went st DriverOp.collect b h of ar t i goes less s =
       let e = at_collect st h in
       to_op st (stage.Collecting e.none) b DriverOp.collect (collecting_owes winding e.none v.shown left)
       (shadow_owes winding st DriverOp.collect v.doing g v.shown left) e.is goes
       (ap (λ (y : Stage). shadow_owes winding y DriverOp.collect v.doing g v.shown left) e.is)
-      (collecting e.none of (subst (λ (y : Stage). ShadowArmed Stuck y DriverOp.collect v.doing v.armed) e.is ar) i less s)
+      (collecting e.none of (subst (λ (y : Stage). ShadowArmed y DriverOp.collect v.doing v.armed) e.is ar) i less s)
   went st (DriverOp.offer c) b h of ar t i goes less s =
       let e = at_offer c st h in
       to_op st (stage.Offering e.number e.head) b (DriverOp.offer c) left
       (shadow_owes winding st (DriverOp.offer c) v.doing g v.shown left) e.is goes
       (ap (λ (y : Stage). shadow_owes winding y (DriverOp.offer c) v.doing g v.shown left) e.is)
-      (offering e.number e.head c of (subst (λ (y : Stage). ShadowArmed Stuck y (DriverOp.offer c) v.doing v.armed) e.is ar) t less s)
+      (offering e.number e.head c of (subst (λ (y : Stage). ShadowArmed y (DriverOp.offer c) v.doing v.armed) e.is ar) t less s)
   went st DriverOp.arm b h of ar t i goes less s =
       let e = at_shadow_arm st h in
       to_op st stage.ArmingShadow b DriverOp.arm (left + (if winding then 6 else 39))
       (shadow_owes winding st DriverOp.arm v.doing g v.shown left) e goes
       (ap (λ (y : Stage). shadow_owes winding y DriverOp.arm v.doing g v.shown left) e)
-      (arming of (subst (λ (y : Stage). ShadowArmed Stuck y DriverOp.arm v.doing v.armed) e ar) less s)
+      (arming of (subst (λ (y : Stage). ShadowArmed y DriverOp.arm v.doing v.armed) e ar) less s)
   went st DriverOp.hear b h of ar t i goes less s =
       let e = at_shadow_hear st h in
       to_op st stage.HearingShadow b DriverOp.hear (shadow_hears winding v.doing)
       (shadow_owes winding st DriverOp.hear v.doing g v.shown left) e goes
       (ap (λ (y : Stage). shadow_owes winding y DriverOp.hear v.doing g v.shown left) e)
-      (hearing of (subst (λ (y : Stage). ShadowArmed Stuck y DriverOp.hear v.doing v.armed) e ar) s)
+      (hearing of (subst (λ (y : Stage). ShadowArmed y DriverOp.hear v.doing v.armed) e ar) s)
   went st DriverOp.signal b h of ar t i goes less s =
       let e = at_shadow_signal st h in
       to_op st (stage.Collecting e.none) b b (left + (if winding then 4 else 48))
       (shadow_owes winding st DriverOp.signal v.doing g v.shown left) e.is refl
       (ap (λ (y : Stage). shadow_owes winding y DriverOp.signal v.doing g v.shown left) e.is)
-      (signalled e.none b goes of (subst (λ (y : Stage). ShadowArmed Stuck y DriverOp.signal v.doing v.armed) e.is ar) less s)
+      (signalled e.none b goes of (subst (λ (y : Stage). ShadowArmed y DriverOp.signal v.doing v.armed) e.is ar) less s)
   went st DriverOp.disarm b h of ar t i goes less s = absurd (s.other of)
   went st DriverOp.idle b h of ar t i goes less s = absurd of

@@ -15,9 +15,9 @@ use Rattle.vd_relay.specs.declared.stage.Stage.{Stage}
 use Rattle.vd_relay.specs.declared.stage.Stage.TheVariants as stage
 use Rattle.vd_relay.specs.declared.state.State.{State}
 use Rattle.vd_relay.specs.Pace.{shadow_owes, shadow_hears, idle_owes, hear_owes}
-use Rattle.vd_relay.specs.Stages.{is_rested, heard_next, ShadowIs, ShadowHears, IsSome}
+use Rattle.vd_relay.specs.Stages.{heard_next, ShadowIs, ShadowHears, IsSome}
 use Rattle.vd_relay.specs.Tie.{Start}
-use Rattle.vd_relay.specs.Relay.{Stuck, Stands, ShadowTurn, IsRoused}
+use Rattle.vd_relay.specs.Relay.{Stands, ShadowTurn, IsRoused}
 use Rattle.vd_relay.proofs.Calm.{Free, at_stage, settled, owes_idle, stands_roused, hear_most}
 use Rattle.vd_relay.proofs.Ops.{at_shadow_hear}
 use Rattle.vd_relay.proofs.ShadowTurns.{made_at, next_at, not_woken, once, to_stage, with_shadow}
@@ -73,48 +73,28 @@ module _ {P E D : Type 0} (port : PortModel P) (e : DeviceModel E) (d : DriverMo
   hears_armed idle (inl x) = x.1
   hears_armed idle (inr x) = absurd (cc (x, idle))
 
-  sleeps : (ga sa : Bool) → e.armed r.guest ≡ ga → (h : Stands e d z (at_stage r stage.HearingShadow) w v)
-      → IsDriverStep port d p q v r.shadow b act.Asleep
-      → ShadowTurn port e d z p q (at_stage r stage.HearingShadow) (next_at r b (heard_next stage.HearingShadow ga sa)) w v Slept
-  sleeps ga sa is h s =
+  sleeps : (h : Stands e d z (at_stage r stage.HearingShadow) w v) → IsDriverStep port d p q v r.shadow b act.Asleep
+      → ShadowTurn port e d z p q (at_stage r stage.HearingShadow) (next_at r b stage.HearingGuest) w v Slept
+  sleeps h s =
       let v' : DriverView = d.side.after v s.op s.access s.got in
       let f = freed_at port e d law ldr z p q r w v b act.Asleep s stage.HearingShadow refl refl h s.says.2 s.says.1 in
       let idle = hears_idle s in
       let here : IsSome v.armed = hears_armed idle (subst (λ o. ShadowHears o v.doing v.armed) s.says.0 h.shadow_armed) in
       let some : IsSome v'.armed = (here.0, ap (λ (x : DriverView). x.armed) (asleep_view s) ∙ here.1) in
-      made_at port e d law ldr z p q r w v b act.Asleep s stage.HearingShadow (next_at r b (heard_next stage.HearingShadow ga sa)) Slept
-      (stands_to ga is f some h.guest_armed) refl
+      made_at port e d law ldr z p q r w v b act.Asleep s stage.HearingShadow (next_at r b stage.HearingGuest) Slept
+      (settled e d law ldr z (with_shadow r b) w v' stage.HearingGuest refl f tt h.guest_armed some) refl
       (not_woken s.op act.Asleep (λ y. cc y)) ((λ y. refl), λ y. refl)
-      (once port e d law ldr z p q r w v b act.Asleep Slept (λ y. cc y) (λ y. cc y)) (live_to ga)
+      (once port e d law ldr z p q r w v b act.Asleep Slept (λ y. cc y) (λ y. cc y)) refl
       (omega (
         arith,
-        owes_idle e d law ldr z (with_shadow r b) w v' (heard_next stage.HearingShadow ga sa) f,
-        owes_to ga w.shown v'.shown,
+        owes_idle e d law ldr z (with_shadow r b) w v' stage.HearingGuest f,
         ap (λ o. shadow_owes r.winding stage.HearingShadow o v.doing w.shown v.shown (d.left r.shadow)) s.says.0,
         ap (shadow_hears r.winding) idle,
       ))
-    where
-      stands_to : (x : Bool) → e.armed r.guest ≡ x → Free e d z (with_shadow r b) w (d.side.after v s.op s.access s.got)
-          → IsSome (d.side.after v s.op s.access s.got).armed → IsSome w.armed ⊎ Stuck e d
-          → Stands e d z (next_at r b (heard_next stage.HearingShadow x sa)) w (d.side.after v s.op s.access s.got)
-      stands_to true y f some o = settled e d law ldr z (with_shadow r b) w
-          (d.side.after v s.op s.access s.got) stage.HearingGuest refl f tt
-          (law.armed r.guest w f.serves y) (inl some)
-      stands_to false y f some o = settled e d law ldr z (with_shadow r b) w
-          (d.side.after v s.op s.access s.got) stage.HearingShadow refl f tt o some
 
-      live_to : (x : Bool) → is_rested (heard_next stage.HearingShadow x sa) ≡ false
-      live_to true = refl
-      live_to false = refl
-
-      owes_to : (x : Bool) (i j : Bool) → idle_owes r.winding (heard_next stage.HearingShadow x sa) i j ≡ hear_owes r.winding
-      owes_to true i j = refl
-      owes_to false i j = refl
-
-  pub slept_at : (ga sa : Bool) → e.armed r.guest ≡ ga → Stands e d z r w v → IsDriverStep port d p q v r.shadow b act.Asleep
-      → ShadowTurn port e d z p q r (next_at r b (heard_next r.stage ga sa)) w v Slept
-  slept_at ga sa is h s =
+  pub slept_at : Stands e d z r w v → IsDriverStep port d p q v r.shadow b act.Asleep
+      → ShadowTurn port e d z p q r (next_at r b (heard_next r.stage)) w v Slept
+  slept_at h s =
       let at = at_shadow_hear r.stage (subst (λ o. ShadowIs r.stage o) s.says.0 h.shadow) in
-      subst (λ (x : Stage). ShadowTurn port e d z p q r (next_at r b (heard_next x ga sa)) w v Slept) (sym at)
-      (to_stage port e d law ldr z p q r w v b stage.HearingShadow (next_at r b (heard_next stage.HearingShadow ga sa)) Slept at
-      (λ x. sleeps ga sa is x s) h)
+      subst (λ (x : Stage). ShadowTurn port e d z p q r (next_at r b (heard_next x)) w v Slept) (sym at)
+      (to_stage port e d law ldr z p q r w v b stage.HearingShadow (next_at r b stage.HearingGuest) Slept at (λ x. sleeps x s) h)

@@ -17,7 +17,7 @@ use Rattle.vd_relay.specs.declared.stage.Stage.{Stage}
 use Rattle.vd_relay.specs.declared.state.State.{State}
 use Rattle.vd_relay.specs.Stages.{is_shadow, OfferIs, EndsIs}
 use Rattle.vd_relay.specs.Tie.{Start, since}
-use Rattle.vd_relay.specs.Relay.{Stuck, Stands, ShadowTurn}
+use Rattle.vd_relay.specs.Relay.{Stands, ShadowTurn}
 use Rattle.vd_relay.proofs.ShadowGoing.{Goes, went}
 use Rattle.vd_relay.proofs.Turns.{worked_only}
 use Rattle.vd_relay.proofs.ShadowTurns.{framed_at, made_at, not_woken, once, owes_here, tied_after, with_shadow}
@@ -74,7 +74,7 @@ module _ {P E D : Type 0} (port : PortModel P) (e : DeviceModel E) (d : DriverMo
   went_on side h s =
       let v' : DriverView = d.side.after v s.op s.access s.got in
       let done : v'.done ≡ v.done = s.says.1 in
-      let g = went (Stuck e d) r.winding h.hand s.op v v' w.shown (d.left r.shadow) (d.left b) r.stage (d.begun r.shadow) (d.begun b)
+      let g = went r.winding h.hand s.op v v' w.shown (d.left r.shadow) (d.left b) r.stage (d.begun r.shadow) (d.begun b)
       h.shadow s.of_it h.shadow_armed h.offers h.shadow_shown s.says.0 s.left (goes_of s) in
       made_at port e d law ldr z p q r w v b act.Moved s r.stage (with_shadow r b) Worked (record {
         serves = h.serves;

@@ -1,5 +1,5 @@
 -- What the answer Awake of the shadow end leaves, by the operation that it ends.
-use Rattle.std.proofs.Common.{◌≡◌, true, refl, sym, ◌∙◌, ap, subst, inl, inr}
+use Rattle.std.proofs.Common.{◌≡◌, refl}
 use Rattle.vd_words.specs.Model.{PortModel}
 use Rattle.vd_ring.specs.declared.act.DriverAct.TheVariants as act
 use Rattle.vd_ring.specs.declared.driver.DriverView.{DriverView}
@@ -12,60 +12,45 @@ use Rattle.vd_relay.specs.declared.stage.Stage.{Stage}
 use Rattle.vd_relay.specs.declared.stage.Stage.TheVariants as stage
 use Rattle.vd_relay.specs.declared.state.State.{State}
 use Rattle.vd_relay.specs.Pace.{waking}
-use Rattle.vd_relay.specs.Stages.{is_shadow, ShadowIs}
+use Rattle.vd_relay.specs.Stages.{ShadowIs}
 use Rattle.vd_relay.specs.Tie.{Start}
-use Rattle.vd_relay.specs.Relay.{Stands, ShadowTurn, IsWoken}
+use Rattle.vd_relay.specs.Relay.{Stands, ShadowTurn, IsRoused}
 use Rattle.vd_relay.proofs.Ops.{at_shadow_arm, at_shadow_hear, at_shadow_disarm}
 use Rattle.vd_relay.proofs.ShadowTurns.{next_at, to_stage, with_shadow}
 use Rattle.vd_relay.proofs.ShadowWakes.{waking_at}
 use Rattle.vd_relay.proofs.ShadowArming.{arming_woke}
 use Rattle.vd_relay.proofs.ShadowHearing.{hearing_woke}
-use Rattle.vd_relay.proofs.ShadowDisarming.{disarming_woke, stuck_woke}
+use Rattle.vd_relay.proofs.ShadowDisarming.{disarming_woke}
 
 module _ {P E D : Type 0} (port : PortModel P) (e : DeviceModel E) (d : DriverModel D) (law : IsLawfulDevice e) (ldr : IsLawfulDriver d)
     (z : Start) (p q : P) (r : State E D) (w : DeviceView) (v : DriverView) (b : D) where
-  not_guest : is_shadow r.stage ≡ true → r.stage ≡ stage.DisarmingGuest → ⊥
-  not_guest side is = cc (ap is_shadow is, side)
-
-  woken : (a : DriverOp) (st' : Stage) → d.begun r.shadow ≡ a → is_shadow r.stage ≡ true → Stands e d z r w v
+  woken : (a : DriverOp) (st' : Stage) → d.begun r.shadow ≡ a → Stands e d z r w v
       → (s : IsDriverStep port d p q v r.shadow b act.Awake)
-      → IsWoken e d (with_shadow r b) w (d.side.after v s.op s.access s.got) st' → MayWake a → ShadowIs r.stage a
+      → IsRoused e d (with_shadow r b) w (d.side.after v s.op s.access s.got) st' → MayWake a → ShadowIs r.stage a
       → ShadowTurn port e d z p q r (next_at r b st') w v (waking r.stage)
-  woken DriverOp.arm st' is side h s (inl a) m g =
+  woken DriverOp.arm st' is h s a m g =
       let at = at_shadow_arm r.stage g in
       waking_at port e d law ldr z p q r w v b stage.ArmingShadow st' Worked at
       (to_stage port e d law ldr z p q r w v b stage.ArmingShadow (next_at r b st') Worked at
-      (λ x. arming_woke port e d law ldr z p q r w v b st' is x s a.0) h)
+      (λ x. arming_woke port e d law ldr z p q r w v b st' is x s a) h)
       refl
-  woken DriverOp.hear st' is side h s (inl a) m g =
+  woken DriverOp.hear st' is h s a m g =
       let at = at_shadow_hear r.stage g in
       waking_at port e d law ldr z p q r w v b stage.HearingShadow st' Woke at
       (to_stage port e d law ldr z p q r w v b stage.HearingShadow (next_at r b st') Woke at
-      (λ x. hearing_woke port e d law ldr z p q r w v b st' is x s a.0) h)
+      (λ x. hearing_woke port e d law ldr z p q r w v b st' is x s a) h)
       refl
-  woken DriverOp.disarm st' is side h s (inl a) m g =
+  woken DriverOp.disarm st' is h s a m g =
       let at = at_shadow_disarm r.stage g in
       waking_at port e d law ldr z p q r w v b stage.DisarmingShadow st' Worked at
       (to_stage port e d law ldr z p q r w v b stage.DisarmingShadow (next_at r b st') Worked at
-      (λ x. disarming_woke port e d law ldr z p q r w v b st' is x s a.0 (a.2 at)) h) refl
-  woken DriverOp.arm st' is side h s (inr (inr a)) m g =
-      let x : stage.ArmingShadow ≡ stage.DisarmingShadow = sym (at_shadow_arm r.stage g) ∙ a.0 in absurd (cc)
-  woken DriverOp.hear st' is side h s (inr (inr a)) m g =
-      let x : stage.HearingShadow ≡ stage.DisarmingShadow = sym (at_shadow_hear r.stage g) ∙ a.0 in absurd (cc)
-  woken DriverOp.disarm st' is side h s (inr (inr a)) m g =
-      subst (λ (x : Stage). ShadowTurn port e d z p q r (next_at r b x) w v (waking r.stage)) (sym a.2)
-      (waking_at port e d law ldr z p q r w v b stage.DisarmingShadow stage.HearingShadow Worked a.0
-      (to_stage port e d law ldr z p q r w v b stage.DisarmingShadow (next_at r b stage.HearingShadow) Worked a.0
-      (λ x. stuck_woke port e d law ldr z p q r w v b is x s a.1) h) refl)
-  woken DriverOp.arm st' is side h s (inr (inl a)) m g = absurd (not_guest side a.0)
-  woken DriverOp.hear st' is side h s (inr (inl a)) m g = absurd (not_guest side a.0)
-  woken DriverOp.disarm st' is side h s (inr (inl a)) m g = absurd (not_guest side a.0)
-  woken DriverOp.idle st' is side h s a m g = absurd m
-  woken (DriverOp.offer c) st' is side h s a m g = absurd m
-  woken DriverOp.collect st' is side h s a m g = absurd m
-  woken DriverOp.signal st' is side h s a m g = absurd m
+      (λ x. disarming_woke port e d law ldr z p q r w v b st' is x s a) h) refl
+  woken DriverOp.idle st' is h s a m g = absurd m
+  woken (DriverOp.offer c) st' is h s a m g = absurd m
+  woken DriverOp.collect st' is h s a m g = absurd m
+  woken DriverOp.signal st' is h s a m g = absurd m
 
-  pub woken_at : (st' : Stage) → is_shadow r.stage ≡ true → Stands e d z r w v → (s : IsDriverStep port d p q v r.shadow b act.Awake)
-      → IsWoken e d (with_shadow r b) w (d.side.after v s.op s.access s.got) st'
+  pub woken_at : (st' : Stage) → Stands e d z r w v → (s : IsDriverStep port d p q v r.shadow b act.Awake)
+      → IsRoused e d (with_shadow r b) w (d.side.after v s.op s.access s.got) st'
       → ShadowTurn port e d z p q r (next_at r b st') w v (waking r.stage)
-  woken_at st' side h s a = woken (d.begun r.shadow) st' refl side h s a s.says.0 h.shadow
+  woken_at st' h s a = woken (d.begun r.shadow) st' refl h s a s.says.0 h.shadow

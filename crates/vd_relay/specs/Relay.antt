@@ -28,14 +28,10 @@ use Rattle.vd_relay.specs.declared.counts.Turn.TheVariants.{Slept, Again}
 use Rattle.vd_relay.specs.declared.stage.Stage.{Stage}
 use Rattle.vd_relay.specs.declared.stage.Stage.TheVariants as stage
 use Rattle.vd_relay.specs.declared.state.State.{State}
-use Rattle.vd_relay.specs.Pairing.{ArePaired, Wakes}
+use Rattle.vd_relay.specs.Pairing.{ArePaired}
 use Rattle.vd_relay.specs.Pace.{raised, counted, handled, woke, guest_handled, shadow_handled, guest_owes, shadow_owes, KeepsPace}
 use Rattle.vd_relay.specs.Stages.{is_rested, is_shadow, roused, GuestIs, ShadowIs, TakesFrom, OffersHand, InHand, OfferIs, BackIs, EndsIs, BeforeRest, GuestArmed, ShadowArmed, GuestShown, ShadowShown}
 use Rattle.vd_relay.specs.Tie.{Start, IsTied, shift, since}
-
--- a layout in which an end that has woken may be armed still: none is
-abbrev pub Stuck : {E D : Type 0} → DeviceModel E → DriverModel D → Type 0
-Stuck e d = Wakes e d → ⊥
 
 -- the relay's ends stand for these views, and its acts on the two rings are tied
 pub record Stands {E D : Type 0} (e : DeviceModel E) (d : DriverModel D) (z : Start) (r : State E D) (w : DeviceView) (v : DriverView)
@@ -57,8 +53,8 @@ pub record Stands {E D : Type 0} (e : DeviceModel E) (d : DriverModel D) (z : St
   pub offer : OfferIs r.stage (since z) v.frame v.done
   pub to_give : BackIs (e.begun r.guest) back
   pub ends : EndsIs r.stage r.winding r.target acts v.done
-  pub guest_armed : GuestArmed (Stuck e d) r.stage (e.begun r.guest) w.doing w.armed
-  pub shadow_armed : ShadowArmed (Stuck e d) r.stage (d.begun r.shadow) v.doing v.armed
+  pub guest_armed : GuestArmed r.stage (e.begun r.guest) w.doing w.armed
+  pub shadow_armed : ShadowArmed r.stage (d.begun r.shadow) v.doing v.armed
   pub guest_shown : GuestShown (e.begun r.guest) w.doing w.shown (e.left r.guest)
   pub shadow_shown : ShadowShown (d.begun r.shadow) v.doing v.shown (d.left r.shadow)
 
@@ -86,13 +82,6 @@ pub record IsRoused {E D : Type 0} (e : DeviceModel E) (d : DriverModel D) (r : 
   pub finished : Bool
   pub is : st ≡ roused (e.armed r.guest) (d.armed r.shadow) r.winding finished
   pub exact : IsTrue finished ↔ IsFinished r w v
-
--- what comes next after Awake: an end that a disarming left armed, which no layout does, is heard
-abbrev pub IsWoken : {E D : Type 0} → DeviceModel E → DriverModel D → State E D → DeviceView → DriverView → Stage → Type 0
-IsWoken e d r w v st = (IsRoused e d r w v st × (r.stage ≡ stage.DisarmingGuest → e.armed r.guest ≡ false)
-    × (r.stage ≡ stage.DisarmingShadow → d.armed r.shadow ≡ false))
-    ⊎ ((r.stage ≡ stage.DisarmingGuest) × (e.armed r.guest ≡ true) × (st ≡ stage.HearingGuest))
-    ⊎ ((r.stage ≡ stage.DisarmingShadow) × (d.armed r.shadow ≡ true) × (st ≡ stage.HearingShadow))
 
 -- it stands on between the same views, and owes no more
 pub record Stays {E D : Type 0} (e : DeviceModel E) (d : DriverModel D) (z : Start) (r r' : State E D) (w : DeviceView) (v : DriverView)

@@ -135,22 +135,22 @@ abbrev pub ShadowDisarms : DriverOp → Option ℕ → Type 0
 ShadowDisarms DriverOp.disarm armed = Unit {0}
 ShadowDisarms _ armed = IsSome armed
 
--- a relay hears only where both ends are armed. `Stuck` is a layout in which an end that has woken may be armed still
-abbrev pub GuestArmed : Type 0 → Stage → DeviceOp → DeviceNow → Option ℕ → Type 0
-GuestArmed Stuck stage.ArmingGuest a d armed = GuestArms a d armed
-GuestArmed Stuck stage.ArmingShadow a d armed = IsSome armed
-GuestArmed Stuck stage.HearingGuest a d armed = GuestHears a d armed
-GuestArmed Stuck stage.HearingShadow a d armed = IsSome armed ⊎ Stuck
-GuestArmed Stuck stage.DisarmingGuest a d armed = GuestDisarms a armed
-GuestArmed Stuck _ a d armed = armed ≡ None
+-- a relay hears only where both ends are armed
+abbrev pub GuestArmed : Stage → DeviceOp → DeviceNow → Option ℕ → Type 0
+GuestArmed stage.ArmingGuest a d armed = GuestArms a d armed
+GuestArmed stage.ArmingShadow a d armed = IsSome armed
+GuestArmed stage.HearingGuest a d armed = GuestHears a d armed
+GuestArmed stage.HearingShadow a d armed = IsSome armed
+GuestArmed stage.DisarmingGuest a d armed = GuestDisarms a armed
+GuestArmed _ a d armed = armed ≡ None
 
-abbrev pub ShadowArmed : Type 0 → Stage → DriverOp → DriverNow → Option ℕ → Type 0
-ShadowArmed Stuck stage.ArmingShadow c d armed = ShadowArms c d armed
-ShadowArmed Stuck stage.HearingShadow c d armed = ShadowHears c d armed
-ShadowArmed Stuck stage.HearingGuest c d armed = IsSome armed ⊎ Stuck
-ShadowArmed Stuck stage.DisarmingShadow c d armed = ShadowDisarms c armed
-ShadowArmed Stuck stage.DisarmingGuest c d armed = Unit {0}
-ShadowArmed Stuck _ c d armed = armed ≡ None
+abbrev pub ShadowArmed : Stage → DriverOp → DriverNow → Option ℕ → Type 0
+ShadowArmed stage.ArmingShadow c d armed = ShadowArms c d armed
+ShadowArmed stage.HearingShadow c d armed = ShadowHears c d armed
+ShadowArmed stage.HearingGuest c d armed = IsSome armed
+ShadowArmed stage.DisarmingShadow c d armed = ShadowDisarms c armed
+ShadowArmed stage.DisarmingGuest c d armed = Unit {0}
+ShadowArmed _ c d armed = armed ≡ None
 
 -- ---- what was shown
 
@@ -177,10 +177,10 @@ roused false false true false = stage.Collecting false
 roused false false true true = stage.Resting
 
 -- the bells are heard in turn
-abbrev pub heard_next : Stage → Bool → Bool → Stage
-heard_next stage.HearingGuest guest_armed true = stage.HearingShadow
-heard_next stage.HearingShadow true shadow_armed = stage.HearingGuest
-heard_next st guest_armed shadow_armed = st
+abbrev pub heard_next : Stage → Stage
+heard_next stage.HearingGuest = stage.HearingShadow
+heard_next stage.HearingShadow = stage.HearingGuest
+heard_next st = st
 
 -- after a collect that showed nothing: where the take before it showed nothing either, it arms its ends
 abbrev pub none_next : Stage → Stage

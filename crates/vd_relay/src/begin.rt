@@ -6,7 +6,7 @@ ghost use Rattle.vd_layout.specs.Begun.{DeviceOp, DriverOp};
 ghost use Rattle.vd_relay.specs.declared.stage.Stage.TheVariants.{Taking, ArmingGuest, ArmingShadow};
 ghost use Rattle.vd_relay.specs.Stages.{is_rested, is_shadow, roused};
 ghost use Rattle.vd_relay.specs.Tie.{Start};
-ghost use Rattle.vd_relay.specs.Relay.{Stands, Stays, IsFinished, IsRoused, IsWoken, IsQuiet, IsKept};
+ghost use Rattle.vd_relay.specs.Relay.{Stands, Stays, IsFinished, IsRoused, IsQuiet, IsKept};
 
 use crate::stage::Stage;
 use crate::state::State;
@@ -38,7 +38,7 @@ fn rouse(guest: bool, shadow: bool, winding: bool, finished: bool) -> Stage
     }
 }
 
-/// What comes next where it sleeps no more.
+/// What comes next where it sleeps no more: an end that woke is armed no longer, and the other is disarmed.
 pub(crate) fn after_sleep<L: Layout>(state: &State<L::Device, L::Driver>) -> Stage
     ensures live { is_rested result ≡ false }
     ensures roused { (w : DeviceView) (v : DriverView) → L.Device.device.stands state.now.guest w
@@ -51,18 +51,6 @@ pub(crate) fn after_sleep<L: Layout>(state: &State<L::Device, L::Driver>) -> Sta
         state.winding,
         is_finished::<L>(state),
     )
-}
-
-/// What comes next after Awake. The end that a disarming was for is armed no longer; if it were, it would be heard.
-pub(crate) fn wake<L: Layout>(state: &State<L::Device, L::Driver>) -> Stage
-    ensures { (w : DeviceView) (v : DriverView) → L.Device.device.stands state.now.guest w → L.Driver.driver.stands state.now.shadow v
-        → IsWoken L.Device.device L.Driver.driver state.now w v result }
-{
-    match state.stage {
-        Stage::DisarmingGuest if state.guest.armed() => Stage::HearingGuest,
-        Stage::DisarmingShadow if state.shadow.armed() => Stage::HearingShadow,
-        _ => after_sleep::<L>(state),
-    }
 }
 
 /// A wind-up takes no further chain, and sleeps no more: between two operations it collects, until it rests.

@@ -9,7 +9,7 @@ ghost use Rattle.vd_relay.specs.Pace.{waking};
 ghost use Rattle.vd_relay.specs.Tie.{Start};
 ghost use Rattle.vd_relay.specs.Relay.{Stands, GuestTurn, IsQuiet, IsKept};
 
-use crate::begin::wake;
+use crate::begin::after_sleep;
 use crate::counts::Turn;
 use crate::stage::Stage;
 use crate::state::State;
@@ -30,12 +30,12 @@ pub(crate) fn waking(stage: Stage) -> Turn
 }
 
 /// Whose bell is heard next: they are heard in turn.
-pub(crate) fn hear_next(stage: Stage, guest: bool, shadow: bool) -> Stage
-    ensures { result ≡ heard_next stage guest shadow }
+pub(crate) fn hear_next(stage: Stage) -> Stage
+    ensures { result ≡ heard_next stage }
 {
     match stage {
-        Stage::HearingGuest if shadow => Stage::HearingShadow,
-        Stage::HearingShadow if guest => Stage::HearingGuest,
+        Stage::HearingGuest => Stage::HearingShadow,
+        Stage::HearingShadow => Stage::HearingGuest,
         _ => stage,
     }
 }
@@ -83,11 +83,11 @@ pub(crate) fn guest_turn<L: Layout, P: Port>(
         }
         DeviceAct::Awake => {
             let turn = waking(state.stage);
-            state.stage = wake::<L>(state);
+            state.stage = after_sleep::<L>(state);
             turn
         }
         DeviceAct::Asleep => {
-            state.stage = hear_next(state.stage, state.guest.armed(), state.shadow.armed());
+            state.stage = hear_next(state.stage);
             Turn::Slept
         }
         DeviceAct::Rested => {

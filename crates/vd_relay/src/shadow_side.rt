@@ -9,7 +9,7 @@ ghost use Rattle.vd_relay.specs.Pace.{repeating};
 ghost use Rattle.vd_relay.specs.Tie.{Start};
 ghost use Rattle.vd_relay.specs.Relay.{Stands, ShadowTurn, IsQuiet, IsKept};
 
-use crate::begin::{after_sleep, wake};
+use crate::begin::after_sleep;
 use crate::counts::Turn;
 use crate::guest_side::{hear_next, waking};
 use crate::stage::Stage;
@@ -92,11 +92,11 @@ pub(crate) fn shadow_turn<L: Layout, Q: Port>(
         }
         DriverAct::Awake => {
             let turn = waking(state.stage);
-            state.stage = wake::<L>(state);
+            state.stage = after_sleep::<L>(state);
             turn
         }
         DriverAct::Asleep => {
-            state.stage = hear_next(state.stage, state.guest.armed(), state.shadow.armed());
+            state.stage = hear_next(state.stage);
             Turn::Slept
         }
         DriverAct::Moved => Turn::Worked,

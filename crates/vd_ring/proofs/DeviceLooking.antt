@@ -160,6 +160,7 @@ device_stays_by side act shows at = record {
       (stage_as (side.after w o a r).doing arming h.0, h.1, h.2);
   armed = λ w o a r n e. (at w o a r n).armed (ap told e);
   asleep = λ w o a r n e. (at w o a r n).asleep (ap told e);
+  awake = λ w o a r n e. (at w o a r n).awake (ap told e);
   shown = λ w o a r n g h. (at w o a r n).shown (goes_on_by (act w o a r) g) (elim h [ inl b ↦ inl b | inr l ↦ inr (look_to w o l) ]);
   again = λ w o a r n t l b. (at w o a r n).again t (look_to w o l) b;
 }

@@ -159,6 +159,7 @@ driver_stays_by side act shows at = record {
       (stage_as (side.after v o a r).doing arming h.0, h.1, h.2);
   armed = λ v o a r n e. (at v o a r n).armed (ap told e);
   asleep = λ v o a r n e. (at v o a r n).asleep (ap told e);
+  awake = λ v o a r n e. (at v o a r n).awake (ap told e);
   shown = λ v o a r n g h. (at v o a r n).shown (goes_on_by (act v o a r) g) (elim h [ inl b ↦ inl b | inr l ↦ inr (look_to v o l) ]);
   again = λ v o a r n t l b. (at v o a r n).again t (look_to v o l) b;
 }

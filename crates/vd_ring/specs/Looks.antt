@@ -1,5 +1,5 @@
 -- Exactly when a look, an arming or a hearing answers what it does, by the view before the access and the word that it loaded.
-use Rattle.std.specs.Prelude.{◌≡◌, ◌≢◌, ◌⊎◌, ◌↔◌, ℕ, Bool, true, false, Some}
+use Rattle.std.specs.Prelude.{◌≡◌, ◌≢◌, ◌⊎◌, ◌↔◌, ℕ, Bool, true, false, None, Some}
 use Rattle.vd_words.specs.declared.access.Access.{Access}
 use Rattle.vd_words.specs.declared.access.Op.{Op}
 use Rattle.vd_words.specs.declared.access.Op.TheVariants as op
@@ -64,8 +64,8 @@ DriverGoes driver_act.Moved = Unit {0}
 DriverGoes driver_act.Awake = Unit {0}
 DriverGoes _ = ⊥
 
--- an arming's store arms the side, and Armed leaves it so; a sleeper's look changes nothing; what a look showed stays shown until it is
--- collected, and the next look shows it too
+-- an arming's store arms the side, and Armed leaves it so; a sleeper's look changes nothing; a side that is awake is unarmed; what a look
+-- showed stays shown until it is collected, and the next look shows it too
 pub record DriverStays (side : SideModel DriverView) (act : DriverView → Op → Access → ℕ → DriverAct) (shows : DriverView → ℕ → Bool)
     : Type 0 where
   pub arms : (v : DriverView) (o : Op) (a : Access) (r : ℕ) → side.next v o a → o ≡ op.Arm → v.doing ≡ driver.Idle
@@ -73,6 +73,8 @@ pub record DriverStays (side : SideModel DriverView) (act : DriverView → Op �
   pub armed : (v : DriverView) (o : Op) (a : Access) (r : ℕ) → side.next v o a → act v o a r ≡ driver_act.Armed
       → (side.after v o a r).armed ≡ v.armed
   pub asleep : (v : DriverView) (o : Op) (a : Access) (r : ℕ) → side.next v o a → act v o a r ≡ driver_act.Asleep → side.after v o a r ≡ v
+  pub awake : (v : DriverView) (o : Op) (a : Access) (r : ℕ) → side.next v o a → act v o a r ≡ driver_act.Awake
+      → (side.after v o a r).armed ≡ None
   pub shown : (v : DriverView) (o : Op) (a : Access) (r : ℕ) → side.next v o a → DriverGoes (act v o a r)
       → (v.shown ≡ true) ⊎ DriverLooksNow v o → (side.after v o a r).shown ≡ true
   pub again : (v : DriverView) (o : Op) (a : Access) (r : ℕ) → side.next v o a → side.tells v o a r → DriverLooksNow v o → v.shown ≡ true
@@ -95,6 +97,8 @@ pub record DeviceStays (side : SideModel DeviceView) (act : DeviceView → Op �
   pub armed : (w : DeviceView) (o : Op) (a : Access) (r : ℕ) → side.next w o a → act w o a r ≡ device_act.Armed
       → (side.after w o a r).armed ≡ w.armed
   pub asleep : (w : DeviceView) (o : Op) (a : Access) (r : ℕ) → side.next w o a → act w o a r ≡ device_act.Asleep → side.after w o a r ≡ w
+  pub awake : (w : DeviceView) (o : Op) (a : Access) (r : ℕ) → side.next w o a → act w o a r ≡ device_act.Awake
+      → (side.after w o a r).armed ≡ None
   pub shown : (w : DeviceView) (o : Op) (a : Access) (r : ℕ) → side.next w o a → DeviceGoes (act w o a r)
       → (w.shown ≡ true) ⊎ DeviceLooksNow w o → (side.after w o a r).shown ≡ true
   pub again : (w : DeviceView) (o : Op) (a : Access) (r : ℕ) → side.next w o a → side.tells w o a r → DeviceLooksNow w o → w.shown ≡ true

@@ -1,4 +1,4 @@
--- What stays from one access of the device to the next: armed, asleep, shown.
+-- What stays from one access of the device to the next: armed, asleep, awake, shown.
 use Rattle.std.proofs.Common.{◌≡◌, ℕ, ◌==◌, Bool, true, false, not, None, List, [], ◌∷◌, ◌++◌, length, if◌then◌else◌, refl, ap}
 use Rattle.vd_words.specs.declared.access.Access.{Access}
 use Rattle.vd_words.specs.declared.access.Access.TheVariants.{Load, Store}
@@ -11,8 +11,8 @@ use Rattle.vd_ring.specs.declared.device.DeviceNow.TheVariants as now
 use Rattle.vd_ring.specs.declared.device.DeviceView.{DeviceView}
 use Rattle.vd_ring.specs.History.{takes}
 use Rattle.vd_ring.specs.Looks.{DeviceStays}
-use Rattle.vd_ring.proofs.Looking.{idle, disarming, busy, awake, other}
-use Rattle.vd_ring.proofs.Staying.{Kept, quiet, finds_none, finds_some, second_none, second_some, arms_at, hears_same}
+use Rattle.vd_ring.proofs.Looking.{idle, disarming, busy, other}
+use Rattle.vd_ring.proofs.Staying.{Kept, quiet, wakes, finds_none, finds_some, second_none, second_wakes, second_some, arms_at, hears_same}
 use Rattle.vd_ring.proofs.DeviceLooking.{told, stage, goes, device_stays_by}
 use Rattle.vd_split_ring.specs.SplitWords.{shows, shown_from, chain_of, is_whole}
 use Rattle.vd_split_ring.specs.SplitDevice.{device_shows, DeviceNextAt, DeviceTells, device_after_at, device_act_at, device_act, device_side, device_takes}
@@ -45,8 +45,8 @@ second : (v : DeviceView) (n : ℕ) (tells : Type 0) (b c : Bool) → (tells →
           if c then now.Idle else now.Disarming op.Arm;
     })
 second v n tells true c t = second_none false tells _ _ _ _ _ _ (λ x s. ap not (t x s))
-second v n tells false true t = second_some false tells awake true _ _ _ _ _ _ refl
-second v n tells false false t = second_some false tells other true _ _ _ _ _ _ refl
+second v n tells false true t = second_wakes false tells true _ _ _ _ _
+second v n tells false false t = second_some false tells true _ _ _ _ _ _
 
 -- a look at the bell
 hears : (v : DeviceView) (r : ℕ) (tells : Type 0) (more b c : Bool)
@@ -58,7 +58,7 @@ hears : (v : DeviceView) (r : ℕ) (tells : Type 0) (more b c : Bool)
           if c then now.Idle else now.Disarming op.Hear;
     })
 hears v r tells more true c = hears_same false tells more _ _ _ _
-hears v r tells more false true = quiet false idle op.Hear tells more awake true _ _ _ _ _ _ _ refl refl (λ g. refl)
+hears v r tells more false true = wakes false idle op.Hear tells more true _ _ _ _ _ refl
 hears v r tells more false false = quiet false idle op.Hear tells more other true _ _ _ _ _ _ _ refl refl (λ g. refl)
 
 -- a load of a chain's word
@@ -90,10 +90,10 @@ at now.Arming v op.Arm (Load p) r h =
     (λ t s. arm_shown v p r t s)
 at now.Idle v op.Hear (Load p) r h = hears v r _ _ (r == v.heard) v.frame.features.event_idx
 at now.Idle v op.Arm (Store p x) r h = arms_at false _ _ true _ _ _ (length (takes v.done)) _
-at (now.Disarming k) v op.Arm (Store p x) r h = quiet false (disarming k) op.Arm _ _ awake true _ _ _ _ _ _ _ refl refl (λ g. refl)
-at (now.Disarming k) v op.Hear (Store p x) r h = quiet false (disarming k) op.Hear _ _ awake true _ _ _ _ _ _ _ refl refl (λ g. refl)
-at now.Idle v op.Disarm (Store p x) r h = quiet false idle op.Disarm _ _ awake true _ _ _ _ _ _ _ refl refl (λ g. refl)
-at now.Idle v op.Disarm (Load p) r h = quiet false idle op.Disarm _ _ awake true _ _ _ _ _ _ _ refl refl (λ g. refl)
+at (now.Disarming k) v op.Arm (Store p x) r h = wakes false (disarming k) op.Arm _ _ true _ _ _ _ _ refl
+at (now.Disarming k) v op.Hear (Store p x) r h = wakes false (disarming k) op.Hear _ _ true _ _ _ _ _ refl
+at now.Idle v op.Disarm (Store p x) r h = wakes false idle op.Disarm _ _ true _ _ _ _ _ refl
+at now.Idle v op.Disarm (Load p) r h = wakes false idle op.Disarm _ _ true _ _ _ _ _ refl
 at now.Idle v op.Control (Store p x) r h = quiet false idle op.Control _ _ other true _ _ _ _ _ _ _ refl refl (λ g. refl)
 at now.Idle v op.Control (Load p) r h = quiet false idle op.Control _ _ other true _ _ _ _ _ _ _ refl refl (λ g. refl)
 at now.Idle v op.Rest (Store p x) r h = quiet false idle op.Rest _ _ other true _ _ _ _ _ _ _ refl refl (λ g. refl)

@@ -1,5 +1,5 @@
 -- Each access of the driver that is next keeps the ring invariant, and its answer tells what the view says.
-use Rattle.std.proofs.Common.{◌≡◌, ℕ, ◌+◌, ◌%◌, ◌≤◌, Bool, Option, List, [], ◌∷◌, ◌++◌, length, if◌then◌else◌, slice_index, slice_set, sym, ap, ◌∙◌, subst, arith, inl, inr}
+use Rattle.std.proofs.Common.{◌≡◌, ℕ, ◌+◌, ◌%◌, ◌≤◌, Bool, List, [], ◌∷◌, ◌++◌, length, if◌then◌else◌, slice_index, slice_set, sym, ap, ◌∙◌, subst, arith, inl, inr}
 use Rattle.std.proofs.lemmas.Bool.{eq-eqb, ne_eqb}
 use Rattle.std.proofs.lemmas.Nat.{mod_below}
 use Rattle.std.proofs.lemmas.List.Elements.{All-nil}
@@ -141,18 +141,14 @@ driver_keeps_at ws d e (Disarming o) op.Arm (Store p x) r h =
     let did = disarms ws d e (Disarming o) p x r r.kicks h.1 in
     record {
       inside = omega (arith, r.words.wide, areas d.frame, did.1);
-      keeps =
-          subst (λ (a : Option ℕ). Ring (slice_set ws p x) (record d { stored = slice_set d.stored p x; armed = a; doing = Idle }) e)
-          (sym r.driver_armed.0) did.0;
+      keeps = did.0;
       told = (tt, tt);
     }
 driver_keeps_at ws d e (Disarming o) op.Hear (Store p x) r h =
     let did = disarms ws d e (Disarming o) p x r r.kicks h.1 in
     record {
       inside = omega (arith, r.words.wide, areas d.frame, did.1);
-      keeps =
-          subst (λ (a : Option ℕ). Ring (slice_set ws p x) (record d { stored = slice_set d.stored p x; armed = a; doing = Idle }) e)
-          (sym r.driver_armed.0) did.0;
+      keeps = did.0;
       told = (tt, tt);
     }
 driver_keeps_at ws d e Idle op.Hear (Load p) r h =

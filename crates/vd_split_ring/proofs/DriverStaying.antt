@@ -1,4 +1,4 @@
--- What stays from one access of the driver to the next: armed, asleep, shown.
+-- What stays from one access of the driver to the next: armed, asleep, awake, shown.
 use Rattle.std.proofs.Common.{◌≡◌, ℕ, ◌==◌, Bool, true, false, not, None, [], ◌∷◌, length, if◌then◌else◌, refl, ap}
 use Rattle.vd_words.specs.declared.access.Access.{Access}
 use Rattle.vd_words.specs.declared.access.Access.TheVariants.{Load, Store}
@@ -11,8 +11,8 @@ use Rattle.vd_ring.specs.declared.driver.DriverNow.TheVariants as now
 use Rattle.vd_ring.specs.declared.driver.DriverView.{DriverView}
 use Rattle.vd_ring.specs.History.{collects}
 use Rattle.vd_ring.specs.Looks.{DriverStays}
-use Rattle.vd_ring.proofs.Looking.{idle, disarming, busy, awake, other}
-use Rattle.vd_ring.proofs.Staying.{Kept, quiet, finds_none, finds_some, second_none, second_some, arms_at, hears_same}
+use Rattle.vd_ring.proofs.Looking.{idle, disarming, busy, other}
+use Rattle.vd_ring.proofs.Staying.{Kept, quiet, wakes, finds_none, finds_some, second_none, second_wakes, second_some, arms_at, hears_same}
 use Rattle.vd_ring.proofs.DriverLooking.{told, stage, goes, driver_stays_by}
 use Rattle.vd_split_ring.specs.SplitWords.{shows, shown_from}
 use Rattle.vd_split_ring.specs.SplitDriver.{driver_shows, DriverNextAt, DriverTells, driver_after_at, driver_act_at, driver_act, driver_side}
@@ -45,8 +45,8 @@ second : (v : DriverView) (n : ℕ) (tells : Type 0) (b c : Bool) → (tells →
           if c then now.Idle else now.Disarming op.Arm;
     })
 second v n tells true c t = second_none true tells _ _ _ _ _ _ (λ x s. ap not (t x s))
-second v n tells false true t = second_some true tells awake true _ _ _ _ _ _ refl
-second v n tells false false t = second_some true tells other true _ _ _ _ _ _ refl
+second v n tells false true t = second_wakes true tells true _ _ _ _ _
+second v n tells false false t = second_some true tells true _ _ _ _ _ _
 
 -- a look at the bell
 hears : (v : DriverView) (r : ℕ) (tells : Type 0) (more b c : Bool)
@@ -58,7 +58,7 @@ hears : (v : DriverView) (r : ℕ) (tells : Type 0) (more b c : Bool)
           if c then now.Idle else now.Disarming op.Hear;
     })
 hears v r tells more true c = hears_same true tells more _ _ _ _
-hears v r tells more false true = quiet true idle op.Hear tells more awake true _ _ _ _ _ _ _ refl refl (λ g. refl)
+hears v r tells more false true = wakes true idle op.Hear tells more true _ _ _ _ _ refl
 hears v r tells more false false = quiet true idle op.Hear tells more other true _ _ _ _ _ _ _ refl refl (λ g. refl)
 
 -- what a look tells
@@ -82,10 +82,10 @@ at now.Arming v op.Arm (Load p) r h =
     (λ t s. arm_shown v p r t s)
 at now.Idle v op.Hear (Load p) r h = hears v r _ _ (r == v.heard) v.frame.features.event_idx
 at now.Idle v op.Arm (Store p x) r h = arms_at true _ _ true _ _ _ (length (collects v.done)) _
-at (now.Disarming k) v op.Arm (Store p x) r h = quiet true (disarming k) op.Arm _ _ awake true _ _ _ _ _ _ _ refl refl (λ g. refl)
-at (now.Disarming k) v op.Hear (Store p x) r h = quiet true (disarming k) op.Hear _ _ awake true _ _ _ _ _ _ _ refl refl (λ g. refl)
-at now.Idle v op.Disarm (Store p x) r h = quiet true idle op.Disarm _ _ awake true _ _ _ _ _ _ _ refl refl (λ g. refl)
-at now.Idle v op.Disarm (Load p) r h = quiet true idle op.Disarm _ _ awake true _ _ _ _ _ _ _ refl refl (λ g. refl)
+at (now.Disarming k) v op.Arm (Store p x) r h = wakes true (disarming k) op.Arm _ _ true _ _ _ _ _ refl
+at (now.Disarming k) v op.Hear (Store p x) r h = wakes true (disarming k) op.Hear _ _ true _ _ _ _ _ refl
+at now.Idle v op.Disarm (Store p x) r h = wakes true idle op.Disarm _ _ true _ _ _ _ _ refl
+at now.Idle v op.Disarm (Load p) r h = wakes true idle op.Disarm _ _ true _ _ _ _ _ refl
 at now.Idle v op.Control (Store p x) r h = quiet true idle op.Control _ _ other true _ _ _ _ _ _ _ refl refl (λ g. refl)
 at now.Idle v op.Control (Load p) r h = quiet true idle op.Control _ _ other true _ _ _ _ _ _ _ refl refl (λ g. refl)
 at now.Idle v op.Offer (Store p x) r h = quiet true idle op.Offer _ _ other true _ _ _ _ _ _ _ refl refl (λ g. refl)

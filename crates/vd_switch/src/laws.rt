@@ -13,7 +13,6 @@ ghost use Rattle.vd_bus.specs.declared.device.Attached.{Attached};
 ghost use Rattle.vd_relay.specs.declared.state.State.{State};
 ghost use Rattle.vd_relay.specs.declared.counts.Counts.{Counts};
 ghost use Rattle.vd_layout.specs.Begun.{DeviceOp, DriverOp};
-ghost use Rattle.vd_relay.specs.Pairing.{Wakes};
 ghost use Rattle.vd_relay.specs.Relay.{Stands, IsRelayStep};
 ghost use Rattle.vd_relay.specs.Stages.{is_hearing};
 ghost use Rattle.vd_ring.specs.Signals.{nothing};
@@ -168,10 +167,10 @@ pub fn passing_guest_law<L: Layout, G: Guest<L>, P: Port>()
 {}
 
 /// A relay that hears and doesn't wind up keeps nothing: each chain taken is offered, each entry collected is given, and both its ends
-/// are armed, in a layout in which an end that has woken is armed no longer.
+/// are armed.
 pub fn sleeping_law<L: Layout>()
     ensures { (z : Start) (r : State L.Device L.Driver) (w : DeviceView) (v : DriverView)
-        → Stands L.Device.device L.Driver.driver z r w v → Wakes L.Device.device L.Driver.driver → r.winding ≡ false
+        → Stands L.Device.device L.Driver.driver z r w v → r.winding ≡ false
         → is_hearing r.stage ≡ true → L.Device.device.begun r.guest ≡ DeviceOp.idle → L.Driver.driver.begun r.shadow ≡ DriverOp.idle
         → Sleeps z w v }
 {}

@@ -68,7 +68,7 @@ unfolding driver_finished
 driver_did port law d e l lawful fr p q ws x x' y answer plain on f = (
   driver_finished port law d e l lawful fr p q ws x x' y answer plain on f,
   f.says,
-  record { same_device = refl; made = f.made; run = f.run; words = refl; unarmed = f.unarmed; at = f.at },
+  record { same_device = refl; made = f.made; run = f.run; words = refl; unarmed = f.unarmed; leaves = f.leaves; at = f.at },
 )
 
 pub device_finished : {P D E : Type 0} (port : PortModel P) (law : IsLawfulPort port) (d : DriverModel D) (e : DeviceModel E)
@@ -101,7 +101,7 @@ unfolding device_finished
 device_did port law d e l lawful fr p q ws x y y' answer plain on f = (
   device_finished port law d e l lawful fr p q ws x y y' answer plain on f,
   f.says,
-  record { same_driver = refl; made = f.made; run = f.run; words = refl; unarmed = f.unarmed; at = f.at },
+  record { same_driver = refl; made = f.made; run = f.run; words = refl; unarmed = f.unarmed; leaves = f.leaves; at = f.at },
 )
 
 pub driver_owns : {P D E : Type 0} (port : PortModel P) (law : IsLawfulPort port) (d : DriverModel D) (e : DeviceModel E)

@@ -1,5 +1,5 @@
 -- Lemmas: an operation of a device's end made to its end, step by step.
-use Rattle.std.proofs.Common.{Bool, false, ◌≡◌, ◌≢◌, ◌⊎◌, List, [], ◌∷◌, sym, ap, ◌∙◌, subst, refl, inl, inr}
+use Rattle.std.proofs.Common.{Bool, false, ◌≡◌, ◌≢◌, ◌⊎◌, ℕ, Option, List, [], ◌∷◌, sym, ap, ◌∙◌, subst, refl, inl, inr}
 use Rattle.vd_words.specs.declared.access.Op.{Op}
 use Rattle.vd_words.specs.declared.access.Op.TheVariants.{Arm}
 use Rattle.vd_words.specs.Model.{PortModel}
@@ -12,7 +12,8 @@ use Rattle.vd_layout.specs.Begun.{DeviceOp, DevicePublished, DeviceGoesOn, Devic
 use Rattle.vd_layout.specs.Control.{ControlWords}
 use Rattle.vd_layout.specs.Device.{DeviceModel, DeviceSays, IsDeviceStep, IsLawfulDevice, is_rested}
 use Rattle.vd_layout.specs.Run.{IsToldAt}
-use Rattle.vd_layout.specs.DeviceFinish.{IsDeviceWork, device_told, IsDeviceFinish, DeviceToldStage, DeviceGoing}
+use Rattle.vd_layout.specs.DeviceFinish.{IsDeviceWork, device_told, IsDeviceFinish, DeviceToldStage, DeviceGoing, DeviceLeaves, DeviceSignals}
+use Rattle.vd_layout.specs.laws.DeviceLeaves.{device_way, device_on, device_leaves}
 
 pub device_starts : {P E : Type 0} (port : PortModel P) (m : DeviceModel E) (p : P) (v : DeviceView) (e : E) → m.stands e v
     → DeviceGoing port m (m.begun e) p v p e act.Moved
@@ -24,7 +25,7 @@ device_starts port m p v e stands = record {
   framed = refl;
   unarmed =
       λ other none. none;
-  phase = inl (refl, refl, refl);
+  phase = inl (refl, refl, refl, λ idle. device_way (m.begun e) v idle);
 }
 
 -- what one step's answer says, where nothing was told before it
@@ -44,7 +45,7 @@ said words (act.Taken k c) b b' f s s' r w h e = inr (λ z. cc, inl (h.2, e), (h
 said words (act.Given k) b b' f s s' r w h e =
     inr (
       λ z. cc,
-      elim h.3 as (λ _. DeviceToldStage (act.Given k) b' r) [ inl i ↦ inl (i, e) | inr i ↦ inr (i, refl) ],
+      elim h.3 as (λ _. DeviceToldStage (act.Given k) b' r) [ inl i ↦ inl (i, e) | inr i ↦ inr (i, tt) ],
       (h.0, h.1, h.2, inl refl, h.4, h.5),
     )
 said words act.Rested b b' f s s' r w h e = inr (λ z. cc, inl (h.1, e), (h.0, refl, h.2, h.3))
@@ -63,6 +64,15 @@ signalled words act.Rested b b' f s s' is h = absurd (cc (is, h.0))
 signalled words act.Armed b b' f s s' is h = absurd (cc (is, h.0))
 signalled words act.Awake b b' f s s' is h = absurd (subst (λ y. DeviceMayWake y) is h.0)
 signalled words act.Asleep b b' f s s' is h = absurd (cc (is, h.0))
+
+-- which only a give leaves
+not_rested : (x : DeviceAct) → DeviceSignals x → is_rested x ≡ false
+not_rested (act.Given k) h = refl
+not_rested _ h = absurd h
+
+still_leaves : (x : DeviceAct) (a a' : Option ℕ) → DeviceSignals x → DeviceLeaves x a a'
+still_leaves (act.Given k) a a' h = tt
+still_leaves _ a a' h = absurd h
 
 told_first : (x y : DeviceAct) → x ≡ act.Moved → y ≢ act.Moved → device_told x y ≡ y
 told_first x act.Moved is ne = absurd (ne refl)
@@ -101,13 +111,20 @@ device_goes {P} {E} port m law b p q q' v e e' answer x work g busy s =
           (g.unarmed other none);
       phase = elim g.phase [
         | inl a ↦ elim (said m.words x b (m.begun e') v.frame v.done u.done (m.resting e') work (at a.1 a.2) s.rests) [
-          | inl t ↦ inl (ap (device_told answer) t.0 ∙ a.0, t.1, t.2)
+          | inl t ↦ inl (
+            ap (device_told answer) t.0 ∙ a.0,
+            t.1,
+            t.2,
+            λ idle. device_on m law v w s.op s.access s.got s.was_next b (of_it a.1) idle (sym s.is_answer ∙ t.0) (a.3 idle),
+          )
           | inr t ↦ (
               let is = told_first answer x a.0 t.0 in
               inr (
                 λ z. t.0 (sym is ∙ z),
                 subst (λ y. DeviceToldStage y (m.begun e') (m.resting e')) (sym is) t.1,
                 subst (λ y. DeviceSays m.words y b DeviceOp.idle v.frame v.done u.done) (sym is) t.2,
+                λ idle. subst (λ y. DeviceLeaves y v.armed u.armed) (sym is)
+                    (device_leaves m law v w s.op s.access s.got s.was_next x b (of_it a.1) s.is_answer (a.3 idle)),
                 subst (λ y. IsToldAt port m.side m.act (λ u. u.done ≡ v.done) p v y) (sym is) (here a.2),
               )
               )
@@ -116,13 +133,14 @@ device_goes {P} {E} port m law b p q q' v e e' answer x work g busy s =
             let only = which a.1 in
             let t = signalled m.words x (m.begun e) (m.begun e') w.frame w.done u.done only.0 s.says in
             let is : device_told answer x ≡ answer = ap (device_told answer) t.0 in
-            let rests : m.resting e' ≡ is_rested answer = s.rests ∙ ap is_rested t.0 ∙ sym only.1 in
+            let rests : m.resting e' ≡ is_rested answer = s.rests ∙ ap is_rested t.0 ∙ sym (not_rested answer only.1) in
             inr (
               λ z. a.0 (sym is ∙ z),
               subst (λ y. DeviceToldStage y (m.begun e') (m.resting e')) (sym is) (left t.1 rests only.1),
               subst (λ y. DeviceSays m.words y b DeviceOp.idle v.frame v.done u.done) (sym is)
                   (subst (λ (s2 : List DeviceDone). DeviceSays m.words answer b DeviceOp.idle v.frame v.done s2) (sym t.2) a.2),
-              subst (λ y. IsToldAt port m.side m.act (λ u. u.done ≡ v.done) p v y) (sym is) a.3,
+              λ idle. subst (λ y. DeviceLeaves y v.armed u.armed) (sym is) (still_leaves answer v.armed u.armed only.1),
+              subst (λ y. IsToldAt port m.side m.act (λ u. u.done ≡ v.done) p v y) (sym is) a.4,
             )
             )
       ];
@@ -152,14 +170,17 @@ device_goes {P} {E} port m law b p q q' v e e' answer x work g busy s =
         (subst (λ (s2 : List DeviceDone). DeviceSays m.words x (m.begun e) (m.begun e') g.view.frame s2
         (m.side.after g.view s.op s.access s.got).done) same s.says))
 
-    which : DeviceToldStage answer (m.begun e) (m.resting e) → (m.begun e ≡ DeviceOp.signal) × (is_rested answer ≡ false)
+    of_it : m.begun e ≡ b → IsDeviceOp b s.op
+    of_it is = subst (λ y. IsDeviceOp y s.op) is s.of_it
+
+    which : DeviceToldStage answer (m.begun e) (m.resting e) → (m.begun e ≡ DeviceOp.signal) × DeviceSignals answer
     which (inl i) = absurd (busy i.0)
     which (inr i) = i
 
     goes_unarmed : b ≢ DeviceOp.arm → m.begun e ≢ DeviceOp.arm
     goes_unarmed other is = elim g.phase [ inl a ↦ other (sym a.1 ∙ is) | inr a ↦ absurd (cc ((which a.1).0, is)) ]
 
-    left : DevicePublished (m.begun e') → m.resting e' ≡ is_rested answer → is_rested answer ≡ false
+    left : DevicePublished (m.begun e') → m.resting e' ≡ is_rested answer → DeviceSignals answer
         → DeviceToldStage answer (m.begun e') (m.resting e')
     left (inl i) rests none = inl (i, rests)
     left (inr i) rests none = inr (i, none)
@@ -180,7 +201,8 @@ device_ends port m p q v e e' answer work g idle = elim g.phase [
     rests =
         at_end a.1;
     unarmed = g.unarmed;
-    at = a.3;
+    leaves = a.3;
+    at = a.4;
   }
 ]
   where

@@ -1,5 +1,5 @@
 -- Lemmas: an operation of a driver's end made to its end, step by step.
-use Rattle.std.proofs.Common.{◌≡◌, ◌≢◌, ◌⊎◌, List, [], ◌∷◌, sym, ap, ◌∙◌, subst, refl, inl, inr}
+use Rattle.std.proofs.Common.{◌≡◌, ◌≢◌, ◌⊎◌, ℕ, Option, List, [], ◌∷◌, sym, ap, ◌∙◌, subst, refl, inl, inr}
 use Rattle.vd_words.specs.declared.access.Op.{Op}
 use Rattle.vd_words.specs.declared.access.Op.TheVariants.{Arm}
 use Rattle.vd_words.specs.Model.{PortModel}
@@ -11,7 +11,8 @@ use Rattle.vd_ring.specs.declared.frame.Frame.{Frame}
 use Rattle.vd_layout.specs.Begun.{DriverOp, DriverPublished, DriverGoesOn, MayWake, IsDriverOp}
 use Rattle.vd_layout.specs.Driver.{DriverModel, DriverSays, IsDriverStep, IsLawfulDriver}
 use Rattle.vd_layout.specs.Run.{IsToldAt}
-use Rattle.vd_layout.specs.DriverFinish.{IsDriverWork, driver_told, IsDriverFinish, DriverGoing}
+use Rattle.vd_layout.specs.DriverFinish.{IsDriverWork, driver_told, IsDriverFinish, DriverGoing, DriverLeaves, DriverSignals}
+use Rattle.vd_layout.specs.laws.DriverLeaves.{driver_way, driver_on, driver_leaves}
 
 pub driver_starts : {P E : Type 0} (port : PortModel P) (m : DriverModel E) (p : P) (v : DriverView) (e : E) → m.stands e v
     → DriverGoing port m (m.begun e) p v p e driver_act.Moved
@@ -23,12 +24,12 @@ driver_starts port m p v e stands = record {
   framed = refl;
   unarmed =
       λ other none. none;
-  phase = inl (refl, refl, refl);
+  phase = inl (refl, refl, refl, λ idle. driver_way (m.begun e) v idle);
 }
 
 -- what one step's answer says, where nothing was told before it
 said : (x : DriverAct) (b b' : DriverOp) (f : Frame) (o o' : List DriverDone) → IsDriverWork b → DriverSays x b b' f o o'
-    → ((x ≡ driver_act.Moved) × (b' ≡ b) × (o' ≡ o)) ⊎ ((x ≢ driver_act.Moved) × DriverPublished b' × DriverSays x b DriverOp.idle f o o')
+    → ((x ≡ driver_act.Moved) × (b' ≡ b) × (o' ≡ o)) ⊎ ((x ≢ driver_act.Moved) × DriverSignals x b' × DriverSays x b DriverOp.idle f o o')
 said driver_act.Moved (DriverOp.offer c) b' f o o' w s = inl (refl, s.0, s.1)
 said driver_act.Moved DriverOp.collect b' f o o' w s = inl (refl, s.0, s.1)
 said driver_act.Moved DriverOp.arm b' f o o' w s = inl (refl, s.0, s.1)
@@ -36,12 +37,12 @@ said driver_act.Moved DriverOp.hear b' f o o' w s = inl (refl, s.0, s.1)
 said driver_act.Moved DriverOp.disarm b' f o o' w s = inl (refl, s.0, s.1)
 said driver_act.Moved DriverOp.idle b' f o o' w s = absurd w
 said driver_act.Moved DriverOp.signal b' f o o' w s = absurd w
-said driver_act.Nothing b b' f o o' w s = inr (λ e. cc, inl s.1, (s.0, refl, s.2))
+said driver_act.Nothing b b' f o o' w s = inr (λ e. cc, s.1, (s.0, refl, s.2))
 said (driver_act.Offered k) b b' f o o' w s = inr (λ e. cc, s.2, (s.0, s.1, inl refl, s.3, s.4, s.5))
-said (driver_act.Collected k n h) b b' f o o' w s = inr (λ e. cc, inl s.2, (s.0, s.1, refl, s.3, s.4, s.5))
-said driver_act.Armed b b' f o o' w s = inr (λ e. cc, inl s.1, (s.0, refl, s.2))
-said driver_act.Awake b b' f o o' w s = inr (λ e. cc, inl s.1, (s.0, refl, s.2))
-said driver_act.Asleep b b' f o o' w s = inr (λ e. cc, inl s.1, (s.0, refl, s.2))
+said (driver_act.Collected k n h) b b' f o o' w s = inr (λ e. cc, s.2, (s.0, s.1, refl, s.3, s.4, s.5))
+said driver_act.Armed b b' f o o' w s = inr (λ e. cc, s.1, (s.0, refl, s.2))
+said driver_act.Awake b b' f o o' w s = inr (λ e. cc, s.1, (s.0, refl, s.2))
+said driver_act.Asleep b b' f o o' w s = inr (λ e. cc, s.1, (s.0, refl, s.2))
 
 -- once it was told only a signal is made
 signalled : (x : DriverAct) (b b' : DriverOp) (f : Frame) (o o' : List DriverDone) → b ≡ DriverOp.signal → DriverSays x b b' f o o'
@@ -53,6 +54,19 @@ signalled (driver_act.Collected k n h) b b' f o o' is s = absurd (cc (is, s.1))
 signalled driver_act.Armed b b' f o o' is s = absurd (cc (is, s.0))
 signalled driver_act.Awake b b' f o o' is s = absurd (subst (λ y. MayWake y) is s.0)
 signalled driver_act.Asleep b b' f o o' is s = absurd (cc (is, s.0))
+
+-- which only an offer leaves
+still : (x : DriverAct) (b b' : DriverOp) → DriverSignals x b → b ≡ DriverOp.signal → DriverPublished b' → DriverSignals x b'
+still (driver_act.Offered k) b b' h is next = next
+still _ b b' h is next = absurd (cc (h, is))
+
+still_leaves : (x : DriverAct) (b : DriverOp) (a a' : Option ℕ) → DriverSignals x b → b ≡ DriverOp.signal → DriverLeaves x a a'
+still_leaves (driver_act.Offered k) b a a' h is = tt
+still_leaves _ b a a' h is = absurd (cc (h, is))
+
+only_signal : (x : DriverAct) (b : DriverOp) → DriverSignals x b → DriverPublished b
+only_signal (driver_act.Offered k) b h = h
+only_signal _ b h = inl h
 
 told_first : (x y : DriverAct) → x ≡ driver_act.Moved → y ≢ driver_act.Moved → driver_told x y ≡ y
 told_first x driver_act.Moved is ne = absurd (ne refl)
@@ -89,13 +103,20 @@ driver_goes {P} {E} port m law b p q q' v e e' answer x work g busy s =
           (g.unarmed other none);
       phase = elim g.phase [
         | inl a ↦ elim (said x b (m.begun e') v.frame v.done u.done work (at a.1 a.2)) [
-          | inl t ↦ inl (ap (driver_told answer) t.0 ∙ a.0, t.1, t.2)
+          | inl t ↦ inl (
+            ap (driver_told answer) t.0 ∙ a.0,
+            t.1,
+            t.2,
+            λ idle. driver_on m law v w s.op s.access s.got s.was_next b (of_it a.1) idle (sym s.is_answer ∙ t.0) (a.3 idle),
+          )
           | inr t ↦ (
               let is = told_first answer x a.0 t.0 in
               inr (
                 λ z. t.0 (sym is ∙ z),
-                t.1,
+                subst (λ y. DriverSignals y (m.begun e')) (sym is) t.1,
                 subst (λ y. DriverSays y b DriverOp.idle v.frame v.done u.done) (sym is) t.2,
+                λ idle. subst (λ y. DriverLeaves y v.armed u.armed) (sym is)
+                    (driver_leaves m law v w s.op s.access s.got s.was_next x b (of_it a.1) s.is_answer (a.3 idle)),
                 subst (λ y. IsToldAt port m.side m.act (λ u. u.done ≡ v.done) p v y) (sym is) (here a.2),
               )
               )
@@ -105,10 +126,12 @@ driver_goes {P} {E} port m law b p q q' v e e' answer x work g busy s =
             let is : driver_told answer x ≡ answer = ap (driver_told answer) t.0 in
             inr (
               λ z. a.0 (sym is ∙ z),
-              t.1,
+              subst (λ y. DriverSignals y (m.begun e')) (sym is) (still answer (m.begun e) (m.begun e') a.1 (which a.1) t.1),
               subst (λ y. DriverSays y b DriverOp.idle v.frame v.done u.done) (sym is)
                   (subst (λ (o : List DriverDone). DriverSays answer b DriverOp.idle v.frame v.done o) (sym t.2) a.2),
-              subst (λ y. IsToldAt port m.side m.act (λ u. u.done ≡ v.done) p v y) (sym is) a.3,
+              λ idle. subst (λ y. DriverLeaves y v.armed u.armed) (sym is)
+                  (still_leaves answer (m.begun e) v.armed u.armed a.1 (which a.1)),
+              subst (λ y. IsToldAt port m.side m.act (λ u. u.done ≡ v.done) p v y) (sym is) a.4,
             )
             )
       ];
@@ -136,9 +159,11 @@ driver_goes {P} {E} port m law b p q q' v e e' answer x work g busy s =
         (subst (λ (o : List DriverDone). DriverSays x (m.begun e) (m.begun e') g.view.frame o
         (m.side.after g.view s.op s.access s.got).done) same s.says))
 
-    which : DriverPublished (m.begun e) → m.begun e ≡ DriverOp.signal
-    which (inl is) = absurd (busy is)
-    which (inr is) = is
+    of_it : m.begun e ≡ b → IsDriverOp b s.op
+    of_it is = subst (λ y. IsDriverOp y s.op) is s.of_it
+
+    which : DriverSignals answer (m.begun e) → m.begun e ≡ DriverOp.signal
+    which h = elim (only_signal answer (m.begun e) h) [ inl is ↦ absurd (busy is) | inr is ↦ is ]
 
     goes_unarmed : b ≢ DriverOp.arm → m.begun e ≢ DriverOp.arm
     goes_unarmed other is = elim g.phase [ inl a ↦ other (sym a.1 ∙ is) | inr a ↦ absurd (cc (which a.1, is)) ]
@@ -158,7 +183,8 @@ driver_ends port m p q v e e' answer work g idle = elim g.phase [
     says = a.2;
     unarmed =
         g.unarmed;
-    at = a.3;
+    leaves = a.3;
+    at = a.4;
   }
 ]
   where

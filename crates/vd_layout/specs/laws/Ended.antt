@@ -56,6 +56,7 @@ module _ {P D E : Type 0} (port : PortModel P) (law : IsLawfulPort port) (d : Dr
       same_device = beside.same_device;
       says = says;
       unarmed = beside.unarmed;
+      leaves = beside.leaves;
       nothing =
           driver_nothing a.view a.device_view answer plain a.ring beside.at;
     };
@@ -74,6 +75,7 @@ module _ {P D E : Type 0} (port : PortModel P) (law : IsLawfulPort port) (d : Dr
       same_driver = beside.same_driver;
       says = says;
       unarmed = beside.unarmed;
+      leaves = beside.leaves;
       nothing =
           device_nothing a.view a.device_view answer plain a.ring beside.at;
     };

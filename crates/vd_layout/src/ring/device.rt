@@ -68,11 +68,12 @@ impl<L: Layout> PlainRing<L> {
         Some(answer)
     }
 
-    /// Arms the device, where it neither rests nor is armed.
+    /// Arms the device, where it neither rests nor is armed. Awake leaves it unarmed.
     #[inline(always)]
     pub fn arm_device(&mut self) -> Option<DeviceAct>
         ensures can { IsSome result ↔ IsAtWork self.old }
         ensures made { IfSome result (λ a. IsDeviceArm a) }
+        ensures armed { IfSome result (λ a. (a ≡ device_act.Armed) ↔ (self.new.device_armed ≡ true)) }
         ensures same { IsDeviceMove self.old self.new × ((self.new.resting ≡ self.old.resting) × (self.new.lists ≡ self.old.lists)) }
         ensures none { IsNone result → self.new ≡ self.old }
     {
@@ -84,11 +85,12 @@ impl<L: Layout> PlainRing<L> {
         Some(answer)
     }
 
-    /// Hears the driver's bell, where the device is armed.
+    /// Hears the driver's bell, where the device is armed. Asleep leaves it so, Awake not.
     #[inline(always)]
     pub fn hear_device(&mut self) -> Option<DeviceAct>
         ensures can { IsSome result ↔ Sleeps self.old }
         ensures made { IfSome result (λ a. IsDeviceHear a) }
+        ensures armed { IfSome result (λ a. (a ≡ device_act.Asleep) ↔ (self.new.device_armed ≡ true)) }
         ensures same { IsDeviceMove self.old self.new × ((self.new.resting ≡ self.old.resting) × (self.new.lists ≡ self.old.lists)) }
         ensures none { IsNone result → self.new ≡ self.old }
     {
@@ -104,7 +106,7 @@ impl<L: Layout> PlainRing<L> {
     #[inline(always)]
     pub fn disarm_device(&mut self) -> Option<DeviceAct>
         ensures can { IsSome result ↔ Sleeps self.old }
-        ensures made { IfSome result (λ a. a ≡ device_act.Awake) }
+        ensures made { IfSome result (λ a. (a ≡ device_act.Awake) × (self.new.device_armed ≡ false)) }
         ensures same { IsDeviceMove self.old self.new × ((self.new.resting ≡ self.old.resting) × (self.new.lists ≡ self.old.lists)) }
         ensures none { IsNone result → self.new ≡ self.old }
     {

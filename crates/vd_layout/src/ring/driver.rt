@@ -66,11 +66,12 @@ impl<L: Layout> PlainRing<L> {
         Some(answer)
     }
 
-    /// Arms the driver, where it isn't armed.
+    /// Arms the driver, where it isn't armed. Awake leaves it so.
     #[inline(always)]
     pub fn arm_driver(&mut self) -> Option<DriverAct>
         ensures can { IsSome result ↔ (self.old.driver_armed ≡ false) }
         ensures made { IfSome result (λ a. IsDriverArm a) }
+        ensures armed { IfSome result (λ a. (a ≡ driver_act.Armed) ↔ (self.new.driver_armed ≡ true)) }
         ensures same { IsDriverMove self.old self.new × (self.new.lists ≡ self.old.lists) }
         ensures none { IsNone result → self.new ≡ self.old }
     {
@@ -82,11 +83,12 @@ impl<L: Layout> PlainRing<L> {
         Some(answer)
     }
 
-    /// Hears the device's bell, where the driver is armed.
+    /// Hears the device's bell, where the driver is armed. Asleep leaves it so, Awake not.
     #[inline(always)]
     pub fn hear_driver(&mut self) -> Option<DriverAct>
         ensures can { IsSome result ↔ (self.old.driver_armed ≡ true) }
         ensures made { IfSome result (λ a. IsDriverHear a) }
+        ensures armed { IfSome result (λ a. (a ≡ driver_act.Asleep) ↔ (self.new.driver_armed ≡ true)) }
         ensures same { IsDriverMove self.old self.new × (self.new.lists ≡ self.old.lists) }
         ensures none { IsNone result → self.new ≡ self.old }
     {
@@ -102,7 +104,7 @@ impl<L: Layout> PlainRing<L> {
     #[inline(always)]
     pub fn disarm_driver(&mut self) -> Option<DriverAct>
         ensures can { IsSome result ↔ (self.old.driver_armed ≡ true) }
-        ensures made { IfSome result (λ a. a ≡ driver_act.Awake) }
+        ensures made { IfSome result (λ a. (a ≡ driver_act.Awake) × (self.new.driver_armed ≡ false)) }
         ensures same { IsDriverMove self.old self.new × (self.new.lists ≡ self.old.lists) }
         ensures none { IsNone result → self.new ≡ self.old }
     {

@@ -122,9 +122,12 @@ wake_at : (t : DeviceStep) (e : SplitDevice) (v : DeviceView) (o : Op) (r x : �
 wake_at step.WakeArming e v o r x is wakes idx st word =
     let p : ℕ = used_from v.frame + 0 in
     let n = subst (λ t. DeviceStepStands t e.pieces.items e.addr v.frame v.done v.doing) is st.doing in
-    let off : e.armed ≡ false = subst (λ t. DeviceStepArmed t e.armed) is st.signals.awake in
     let few : e.bells + 0 ≤ e.given = subst (λ t. e.bells + device_owes t ≤ e.given) is st.signals.few in
-    let is_after : device_after v op.Arm (Store p x) r ≡ record v { stored = slice_set v.stored p x; doing = now.Idle } =
+    let is_after : device_after v op.Arm (Store p x) r ≡ record v {
+      stored = slice_set v.stored p x;
+      armed = None;
+      doing = now.Idle;
+    } =
     ap (λ t. device_after_at t v op.Arm (Store p x) r) n.0 in
     subst (λ (k : Op). Goes e (record e { area = with_item e.area 0 x; armed = false; doing = step.Idle }) v k (Store p x) r act.Awake)
     (sym wakes) record {
@@ -133,7 +136,7 @@ wake_at step.WakeArming e v o r x is wakes idx st word =
         record { flagged = n.1; place = (let y : used_from v.frame + 0 ≡ used_from v.frame = omega arith in y); word = word },
       );
       stands = subst (λ w. DeviceStands (record e { area = with_item e.area 0 x; armed = false; doing = step.Idle }) w) (sym is_after)
-          (stands_with e v 0 x step.Idle false now.Idle v.armed st (omega arith) (not_armed e v st off) few tt refl);
+          (stands_with e v 0 x step.Idle false now.Idle None st (omega arith) refl few tt refl);
       is = sym (ap (λ t. device_act_at t v op.Arm (Store p x) r) n.0);
       of_it = subst (λ t. IsDeviceOp (device_begun t) op.Arm) (sym is) refl;
       left = subst (λ t. 0 < device_left t (length e.pieces.items)) (sym is) (let z : 0 < 1 = omega arith in z);
@@ -144,9 +147,12 @@ wake_at step.WakeArming e v o r x is wakes idx st word =
 wake_at step.WakeHearing e v o r x is wakes idx st word =
     let p : ℕ = used_from v.frame + 0 in
     let n = subst (λ t. DeviceStepStands t e.pieces.items e.addr v.frame v.done v.doing) is st.doing in
-    let off : e.armed ≡ false = subst (λ t. DeviceStepArmed t e.armed) is st.signals.awake in
     let few : e.bells + 0 ≤ e.given = subst (λ t. e.bells + device_owes t ≤ e.given) is st.signals.few in
-    let is_after : device_after v op.Hear (Store p x) r ≡ record v { stored = slice_set v.stored p x; doing = now.Idle } =
+    let is_after : device_after v op.Hear (Store p x) r ≡ record v {
+      stored = slice_set v.stored p x;
+      armed = None;
+      doing = now.Idle;
+    } =
     ap (λ t. device_after_at t v op.Hear (Store p x) r) n.0 in
     subst (λ (k : Op). Goes e (record e { area = with_item e.area 0 x; armed = false; doing = step.Idle }) v k (Store p x) r act.Awake)
     (sym wakes) record {
@@ -155,7 +161,7 @@ wake_at step.WakeHearing e v o r x is wakes idx st word =
         record { flagged = n.1; place = (let y : used_from v.frame + 0 ≡ used_from v.frame = omega arith in y); word = word },
       );
       stands = subst (λ w. DeviceStands (record e { area = with_item e.area 0 x; armed = false; doing = step.Idle }) w) (sym is_after)
-          (stands_with e v 0 x step.Idle false now.Idle v.armed st (omega arith) (not_armed e v st off) few tt refl);
+          (stands_with e v 0 x step.Idle false now.Idle None st (omega arith) refl few tt refl);
       is = sym (ap (λ t. device_act_at t v op.Hear (Store p x) r) n.0);
       of_it = subst (λ t. IsDeviceOp (device_begun t) op.Hear) (sym is) refl;
       left = subst (λ t. 0 < device_left t (length e.pieces.items)) (sym is) (let z : 0 < 1 = omega arith in z);

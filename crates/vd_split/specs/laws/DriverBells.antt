@@ -131,18 +131,21 @@ wake_at : (t : DriverStep) (e : SplitDriver) (v : DriverView) (o : Op) (r x : �
 wake_at step.WakeArming e v o r x is wakes idx st word =
     let p : ℕ = avail_from v.frame + 0 in
     let n = subst (λ t. DriverStepStands t e.pieces.items v.frame v.done v.doing) is st.doing in
-    let off : e.armed ≡ false = subst (λ t. DriverStepArmed t e.armed) is st.signals.awake in
     let few : e.bells + 0 ≤ e.offered = subst (λ t. e.bells + driver_owes t ≤ e.offered) is st.signals.few in
-    let is_after : driver_after v op.Arm (Store p x) r ≡ record v { stored = slice_set v.stored p x; doing = now.Idle } =
+    let is_after : driver_after v op.Arm (Store p x) r ≡ record v {
+      stored = slice_set v.stored p x;
+      armed = None;
+      doing = now.Idle;
+    } =
     ap (λ t. driver_after_at t v op.Arm (Store p x) r) n.0 in
     subst (λ (k : Op). Goes e (record e { area = with_item e.area 0 x; armed = false; doing = step.Idle }) v k (Store p x) r act.Awake)
     (sym wakes) record {
       next = subst (λ t. DriverNextAt t v op.Arm (Store p x)) (sym n.0) (refl, record { flagged = n.1; place = refl; word = word });
       stands = subst (λ w. DriverStands (record e { area = with_item e.area 0 x; armed = false; doing = step.Idle }) w) (sym is_after)
           (stands_with e (record e { area = with_item e.area 0 x }) v step.Idle false e.shown e.heard e.bells
-          (slice_set v.stored p x) now.Idle v.armed v.heard v.bells v.seen v.shown st
+          (slice_set v.stored p x) now.Idle None v.heard v.bells v.seen v.shown st
           (copies_set (avail_from v.frame) ((v.frame.size + 6) / 4) e.area.items v.stored 0 x st.area (omega arith)
-          (omega (arith, st.wide, areas v.frame))) (length-set v.stored p x ∙ st.wide) (not_armed e v st off) st.signals.hears
+          (omega (arith, st.wide, areas v.frame))) (length-set v.stored p x ∙ st.wide) refl st.signals.hears
           st.signals.rings st.shown few tt refl);
       is = sym (ap (λ t. driver_act_at t v op.Arm (Store p x) r) n.0);
       of_it = subst (λ t. IsDriverOp (driver_begun t e.pieces.items) op.Arm) (sym is) refl;
@@ -153,18 +156,21 @@ wake_at step.WakeArming e v o r x is wakes idx st word =
 wake_at step.WakeHearing e v o r x is wakes idx st word =
     let p : ℕ = avail_from v.frame + 0 in
     let n = subst (λ t. DriverStepStands t e.pieces.items v.frame v.done v.doing) is st.doing in
-    let off : e.armed ≡ false = subst (λ t. DriverStepArmed t e.armed) is st.signals.awake in
     let few : e.bells + 0 ≤ e.offered = subst (λ t. e.bells + driver_owes t ≤ e.offered) is st.signals.few in
-    let is_after : driver_after v op.Hear (Store p x) r ≡ record v { stored = slice_set v.stored p x; doing = now.Idle } =
+    let is_after : driver_after v op.Hear (Store p x) r ≡ record v {
+      stored = slice_set v.stored p x;
+      armed = None;
+      doing = now.Idle;
+    } =
     ap (λ t. driver_after_at t v op.Hear (Store p x) r) n.0 in
     subst (λ (k : Op). Goes e (record e { area = with_item e.area 0 x; armed = false; doing = step.Idle }) v k (Store p x) r act.Awake)
     (sym wakes) record {
       next = subst (λ t. DriverNextAt t v op.Hear (Store p x)) (sym n.0) (refl, record { flagged = n.1; place = refl; word = word });
       stands = subst (λ w. DriverStands (record e { area = with_item e.area 0 x; armed = false; doing = step.Idle }) w) (sym is_after)
           (stands_with e (record e { area = with_item e.area 0 x }) v step.Idle false e.shown e.heard e.bells
-          (slice_set v.stored p x) now.Idle v.armed v.heard v.bells v.seen v.shown st
+          (slice_set v.stored p x) now.Idle None v.heard v.bells v.seen v.shown st
           (copies_set (avail_from v.frame) ((v.frame.size + 6) / 4) e.area.items v.stored 0 x st.area (omega arith)
-          (omega (arith, st.wide, areas v.frame))) (length-set v.stored p x ∙ st.wide) (not_armed e v st off) st.signals.hears
+          (omega (arith, st.wide, areas v.frame))) (length-set v.stored p x ∙ st.wide) refl st.signals.hears
           st.signals.rings st.shown few tt refl);
       is = sym (ap (λ t. driver_act_at t v op.Hear (Store p x) r) n.0);
       of_it = subst (λ t. IsDriverOp (driver_begun t e.pieces.items) op.Hear) (sym is) refl;

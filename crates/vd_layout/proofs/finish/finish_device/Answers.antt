@@ -3,7 +3,7 @@ use Rattle.vd_ring.specs.declared.device.DeviceView.{DeviceView}
 use Rattle.vd_layout.specs.Begun.{DeviceOp}
 use Rattle.vd_layout.specs.laws.Run.{own_run}
 use Rattle.vd_layout.specs.DeviceFinish.{DeviceGoing}
-use Rattle.vd_layout.specs.laws.DeviceFinish.{device_goes, device_ends}
+use Rattle.vd_layout.specs.laws.DeviceFinish.{device_starts, device_goes, device_ends}
 use Rattle.vd_layout.proofs.finish.finish_device.Goals as goal
 
 -- the port is the end's own at the view to which it came
@@ -16,6 +16,10 @@ step_device-requires-clause-own g c =
       own_run g.P.Port.port g.E.DeviceEnd.device.side at.made c.args.port.now c.loop-end.port v at.view
           c.requires.own.2 at.run,
     )
+
+pub loop-end-init : goal.loop-end-init
+loop-end-init g c = λ v stands own.
+    device_starts g.P.Port.port g.E.DeviceEnd.device c.args.port.now v c.args.end.now stands
 
 pub loop-end-smaller : goal.loop-end-smaller
 loop-end-smaller g c =

@@ -57,15 +57,15 @@ returns-in-Awake-clause-turn g c = λ z w v h own.
     let s = c.in-Awake.ensures v h.drives own in
     rw c.waking-turn.ensures
     (woken_at g.Q.Port.port g.L.Device.DeviceEnd.device g.L.Driver.DriverEnd.driver law.device_end law.driver_end z c.args.port.now
-    c.step.new.port c.args.state.now w v c.step.new.self c.wake-state.result c.requires.side h s
-    (c.wake-state.ensures w _ h.serves s.now_stands))
+    c.step.new.port c.args.state.now w v c.step.new.self c.after_sleep-state-in-Awake.result h s
+    (c.after_sleep-state-in-Awake.ensures.roused w _ h.serves s.now_stands))
 
 pub returns-in-Asleep-clause-turn : goal.returns-in-Asleep-clause-turn
 returns-in-Asleep-clause-turn g c = λ z w v h own.
     let law = g.met.L.Layout.lawful in
     rw c.hear_next-state.ensures
     (slept_at g.Q.Port.port g.L.Device.DeviceEnd.device g.L.Driver.DriverEnd.driver law.device_end law.driver_end z c.args.port.now
-    c.step.new.port c.args.state.now w v c.step.new.self c.armed.result c.armed-in-Asleep.result (sym c.armed.ensures) h
+    c.step.new.port c.args.state.now w v c.step.new.self h
     (c.in-Asleep.ensures v h.drives own))
 
 pub put-requires-clause-inside : goal.put-requires-clause-inside

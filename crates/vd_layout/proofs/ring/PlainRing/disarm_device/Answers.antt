@@ -1,6 +1,6 @@
 use Rattle.std.proofs.Common.{◌≡◌, ◌∙◌, sym, refl, rules}
 use Rattle.vd_layout.specs.PlainRing.{PlainView, frame_at}
-use Rattle.vd_layout.proofs.PlainRings.{device_begun, device_kept, device_moved, device_awake, device_same}
+use Rattle.vd_layout.proofs.PlainRings.{device_begun, device_kept, device_moved, device_awake, device_same, device_disarms_on}
 use Rattle.vd_layout.proofs.RingSteps.{device_disarmed}
 use Rattle.vd_layout.proofs.ring.PlainRing.disarm_device.Goals as goal
 
@@ -52,8 +52,12 @@ returns-clause-made g c =
     let z = c.end_device-answer.ensures.did (frame_at d l c.self.inside.driver c.self.inside.words)
     (device_begun d e l _ c.self.inside.driver c.self.inside.device c.begin_disarm.new.self c.self.inside.words.words i.on stands) in
     let did = device_disarmed e.words c.end_device-answer.result (e.begun c.begin_disarm.new.self) i.on.device_view.frame
-    i.on.device_view.done z.on.device_view.done c.begin_disarm.ensures.begun z.says in
-    did.0
+    i.on.device_view.done z.on.device_view.done c.begin_disarm.ensures.begun z.says in (
+      did.0,
+      device_disarms_on d e l law c.self.inside.driver c.self.inside.device c.begin_disarm.new.self c.end_device-answer.new.device
+          c.self.inside.words c.end_device-answer.new.words c.self.inside.history.lists c.self.inside.history.lists c.self.inside.count
+          c.self.inside.limit c.self.inside.resting c.end_device-answer.result i stands z did.0,
+    )
 
 pub returns-clause-same : goal.returns-clause-same
 returns-clause-same g c =

@@ -1,6 +1,6 @@
 use Rattle.std.proofs.Common.{◌≡◌, refl}
 use Rattle.vd_layout.specs.PlainRing.{PlainView, frame_at}
-use Rattle.vd_layout.proofs.PlainRings.{driver_begun, driver_kept, driver_same, driver_moved}
+use Rattle.vd_layout.proofs.PlainRings.{driver_begun, driver_kept, driver_same, driver_moved, driver_disarms_on}
 use Rattle.vd_layout.proofs.RingSteps.{driver_disarmed}
 use Rattle.vd_layout.proofs.ring.PlainRing.disarm_driver.Goals as goal
 
@@ -48,8 +48,12 @@ returns-clause-made g c =
     let z = c.end_driver-answer.ensures.did (frame_at d l c.self.inside.driver c.self.inside.words)
     (driver_begun d e l _ c.self.inside.driver c.begin_disarm.new.self c.self.inside.device c.self.inside.words.words i.on stands) in
     let did = driver_disarmed c.end_driver-answer.result (d.begun c.begin_disarm.new.self) i.on.view.frame i.on.view.done z.on.view.done
-    c.begin_disarm.ensures.begun z.says in
-    did.0
+    c.begin_disarm.ensures.begun z.says in (
+      did.0,
+      driver_disarms_on d e l law c.self.inside.driver c.begin_disarm.new.self c.end_driver-answer.new.driver c.self.inside.device
+          c.self.inside.words c.end_driver-answer.new.words c.self.inside.history.lists c.self.inside.history.lists c.self.inside.count
+          c.self.inside.limit c.self.inside.resting c.end_driver-answer.result i stands z did.0,
+    )
 
 pub returns-clause-same : goal.returns-clause-same
 returns-clause-same g c =
