@@ -50,7 +50,7 @@ module _ {P E D : Type 0} (port : PortModel P) (e : DeviceModel E) (d : DriverMo
         s.left,
         owes_idle e d law ldr z (with_guest r b) w' v stage.ArmingShadow f,
         ap (λ o. guest_owes r.winding stage.ArmingGuest o w.doing w.shown v.shown (e.left r.guest)) s.says.0,
-      ))
+      )) refl (λ y. absurd (cc y)) (λ y. absurd (cc y)) (λ n on at. absurd (cc at))
 
   pub armed_first : Stands e d z r w v → IsDeviceStep port e p q w r.guest b act.Armed
       → GuestTurn port e d z p q r (next_at r b stage.ArmingShadow) w v Worked

@@ -21,7 +21,7 @@ use Rattle.vd_relay.specs.Tie.{Start}
 use Rattle.vd_relay.specs.Relay.{Stands, GuestTurn, IsRoused}
 use Rattle.vd_relay.proofs.Calm.{at_stage, stands_roused, roused_most}
 use Rattle.vd_relay.proofs.GuestTurns.{next_at, with_guest}
-use Rattle.vd_relay.proofs.GuestWakes.{awake_at, roused_by, woke_to}
+use Rattle.vd_relay.proofs.GuestWakes.{awake_at, roused_by, roused_off, woke_to}
 
 shown_most : (winding g s : Bool) → g ≡ true → roused_most winding g s ≤ (if winding then 6 else 39)
 shown_most true g s is = omega arith
@@ -58,6 +58,7 @@ module _ {P E D : Type 0} (port : PortModel P) (e : DeviceModel E) (d : DriverMo
       woke_to port e d law ldr z p q r w v b stage.ArmingGuest st' Worked refl refl h back s
       (stands_roused e d law ldr z (with_guest r b) w' v st' f a) refl (λ y. cc y)
       (λ y. cc y) (sym (ap (λ o. device_woken o act.Awake) of))
+      (roused_off port e d law ldr z p q r w v b st' (a.finished, a.is))
       (omega (
         arith,
         s.left,

@@ -22,7 +22,7 @@ use Rattle.vd_relay.proofs.Calm.{at_stage, settled, owes_idle, stands_roused, he
 use Rattle.vd_relay.proofs.Ops.{at_guest_hear}
 use Rattle.vd_relay.proofs.GuestTurns.{bag_same, made_at, next_at, not_woken, to_stage, with_guest}
 use Rattle.vd_relay.proofs.GuestFree.{freed_at}
-use Rattle.vd_relay.proofs.GuestWakes.{awake_at, roused_by, woke_to}
+use Rattle.vd_relay.proofs.GuestWakes.{awake_at, roused_by, roused_off, woke_to}
 
 hears_some : (winding : Bool) (x : _) → 1 ≤ guest_hears winding x
 hears_some true now.Idle = omega arith
@@ -56,6 +56,7 @@ module _ {P E D : Type 0} (port : PortModel P) (e : DeviceModel E) (d : DriverMo
       woke_to port e d law ldr z p q r w v b stage.HearingGuest st' Woke refl refl h back s
       (stands_roused e d law ldr z (with_guest r b) w' v st' f a) refl (λ y. cc y)
       (λ y. cc y) (sym (ap (λ o. device_woken o act.Awake) of))
+      (roused_off port e d law ldr z p q r w v b st' (a.finished, a.is))
       (omega (
         arith,
         roused_by port e d law ldr z p q r w v b st' w'.shown v.shown (a.finished, a.is),
@@ -92,7 +93,9 @@ module _ {P E D : Type 0} (port : PortModel P) (e : DeviceModel E) (d : DriverMo
         owes_idle e d law ldr z (with_guest r b) w' v stage.HearingShadow f,
         ap (λ o. guest_owes r.winding stage.HearingGuest o w.doing w.shown v.shown (e.left r.guest)) s.says.0,
         ap (guest_hears r.winding) idle,
-      ))
+      )) refl (λ y. absurd (cc y))
+      (λ y. record { was = refl; is = refl; guest_idle = s.says.1; shadow_idle = f.shadow_idle })
+      (λ n. absurd (n refl))
 
   pub slept_at : Stands e d z r w v → IsDeviceStep port e p q w r.guest b act.Asleep
       → GuestTurn port e d z p q r (next_at r b (heard_next r.stage)) w v Slept

@@ -3,6 +3,7 @@ pub mod Shifts
 pub mod Ties
 pub mod Calm
 pub mod Ops
+pub mod Hearings
 pub mod Turns
 pub mod GuestGoing
 pub mod GuestTurns

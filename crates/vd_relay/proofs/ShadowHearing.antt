@@ -22,7 +22,7 @@ use Rattle.vd_relay.proofs.Calm.{Free, at_stage, settled, owes_idle, stands_rous
 use Rattle.vd_relay.proofs.Ops.{at_shadow_hear}
 use Rattle.vd_relay.proofs.ShadowTurns.{made_at, next_at, not_woken, once, to_stage, with_shadow}
 use Rattle.vd_relay.proofs.ShadowFree.{freed_at}
-use Rattle.vd_relay.proofs.ShadowWakes.{awake_at, roused_by, roused_on, woke_to}
+use Rattle.vd_relay.proofs.ShadowWakes.{awake_at, roused_by, roused_off, roused_on, woke_to}
 
 hears_some : (winding : Bool) (x : _) → 1 ≤ shadow_hears winding x
 hears_some true now.Idle = omega arith
@@ -55,6 +55,7 @@ module _ {P E D : Type 0} (port : PortModel P) (e : DeviceModel E) (d : DriverMo
       woke_to port e d law ldr z p q r w v b stage.HearingShadow st' Woke refl refl h s
       (stands_roused e d law ldr z (with_shadow r b) w v' st' f a) refl (λ y. cc y)
       (λ y. cc y) (sym (ap (λ o. driver_woken o act.Awake) of)) (roused_on port e d law ldr z p q r w v b st' (a.finished, a.is))
+      (roused_off port e d law ldr z p q r w v b st' (a.finished, a.is))
       (omega (
         arith,
         roused_by port e d law ldr z p q r w v b st' w.shown v'.shown (a.finished, a.is),
@@ -90,7 +91,9 @@ module _ {P E D : Type 0} (port : PortModel P) (e : DeviceModel E) (d : DriverMo
         owes_idle e d law ldr z (with_shadow r b) w v' stage.HearingGuest f,
         ap (λ o. shadow_owes r.winding stage.HearingShadow o v.doing w.shown v.shown (d.left r.shadow)) s.says.0,
         ap (shadow_hears r.winding) idle,
-      ))
+      )) refl (λ y. absurd (cc y))
+      (λ y. record { was = refl; is = refl; guest_idle = f.guest_idle; shadow_idle = s.says.1 })
+      (λ n. absurd (n refl))
 
   pub slept_at : Stands e d z r w v → IsDriverStep port d p q v r.shadow b act.Asleep
       → ShadowTurn port e d z p q r (next_at r b (heard_next r.stage)) w v Slept

@@ -9,6 +9,8 @@ use Rattle.vd_words.specs.Model.{PortModel}
 use Rattle.vd_words.specs.Own.{IsOwn}
 use Rattle.vd_ring.specs.declared.act.DriverAct.TheVariants as driver_act
 use Rattle.vd_ring.specs.declared.act.DeviceAct.TheVariants as device_act
+use Rattle.vd_ring.specs.declared.device.DeviceNow.TheVariants as device
+use Rattle.vd_ring.specs.declared.driver.DriverNow.TheVariants as driver
 use Rattle.vd_ring.specs.declared.frame.Used.{Used}
 use Rattle.vd_ring.specs.declared.driver.DriverDone.{DriverDone}
 use Rattle.vd_ring.specs.declared.driver.DriverView.{DriverView}
@@ -16,7 +18,7 @@ use Rattle.vd_ring.specs.declared.device.DeviceDone.{DeviceDone}
 use Rattle.vd_ring.specs.declared.device.DeviceView.{DeviceView}
 use Rattle.vd_ring.specs.History.{collects, takes, gives, running, occurs, IsWhole}
 use Rattle.vd_ring.specs.Sleep.{driver_woken, device_woken}
-use Rattle.vd_layout.specs.Begun.{DriverOp}
+use Rattle.vd_layout.specs.Begun.{DriverOp, DeviceOp}
 use Rattle.vd_layout.specs.Driver.{DriverModel}
 use Rattle.vd_layout.specs.Device.{DeviceModel}
 use Rattle.vd_layout.specs.declared.moves.Move.{Move}
@@ -30,7 +32,7 @@ use Rattle.vd_relay.specs.declared.stage.Stage.TheVariants as stage
 use Rattle.vd_relay.specs.declared.state.State.{State}
 use Rattle.vd_relay.specs.Pairing.{ArePaired}
 use Rattle.vd_relay.specs.Pace.{raised, counted, handled, woke, guest_handled, shadow_handled, guest_owes, shadow_owes, KeepsPace}
-use Rattle.vd_relay.specs.Stages.{is_rested, is_shadow, roused, GuestIs, ShadowIs, TakesFrom, OffersHand, InHand, OfferIs, BackIs, EndsIs, BeforeRest, GuestArmed, ShadowArmed, GuestShown, ShadowShown}
+use Rattle.vd_relay.specs.Stages.{is_rested, is_shadow, is_hearing, roused, GuestIs, ShadowIs, TakesFrom, OffersHand, InHand, OfferIs, BackIs, EndsIs, BeforeRest, GuestArmed, ShadowArmed, GuestShown, ShadowShown}
 use Rattle.vd_relay.specs.Tie.{Start, IsTied, shift, since}
 
 -- the relay's ends stand for these views, and its acts on the two rings are tied
@@ -64,11 +66,18 @@ owes e d r w v = if is_shadow r.stage
     then shadow_owes r.winding r.stage (d.begun r.shadow) v.doing w.shown v.shown (d.left r.shadow)
     else guest_owes r.winding r.stage (e.begun r.guest) w.doing w.shown v.shown (e.left r.guest)
 
--- and it keeps its pace
+-- a wind-up that is to hear a bell next has begun to
+abbrev pub HearsNone : {E D : Type 0} → DeviceModel E → DriverModel D → State E D → Type 0
+HearsNone e d r = r.winding ≡ true → is_hearing r.stage ≡ true → e.begun r.guest ≡ DeviceOp.idle → d.begun r.shadow ≡ DriverOp.idle → ⊥
+
+-- it keeps its pace. Between two steps an end that hears is in its disarming store, and a wind-up is to hear no bell
 pub record Holds {E D : Type 0} (e : DeviceModel E) (d : DriverModel D) (z : Start) (r : State E D) (c : Counts) (w : DeviceView)
     (v : DriverView) : Type 0 where
   pub stands : Stands e d z r w v
   pub pace : KeepsPace c (owes e d r w v)
+  pub hears_guest : e.begun r.guest ≡ DeviceOp.hear → w.doing ≡ device.Idle → ⊥
+  pub hears_shadow : d.begun r.shadow ≡ DriverOp.hear → v.doing ≡ driver.Idle → ⊥
+  pub leaves : HearsNone e d r
 
 -- ---- what a call leaves
 
@@ -102,6 +111,13 @@ abbrev pub GivesOne : ℕ → List DeviceDone → List DriverDone → List Devic
 GivesOne b s o s' = (gives s' ≡ gives s)
     ⊎ ((u : Used) × (gives s' ≡ gives s ++ u ∷ []) × (1 ≤ occurs u.number (running s)) × Contains (map (shift b) (collects o)) u)
 
+-- a look at the one bell, after which the other's is next: no operation is in progress
+pub record IsGlance {E D : Type 0} (from to : Stage) (e : DeviceModel E) (d : DriverModel D) (r r' : State E D) : Type 0 where
+  pub was : r.stage ≡ from
+  pub is : r'.stage ≡ to
+  pub guest_idle : e.begun r'.guest ≡ DeviceOp.idle
+  pub shadow_idle : d.begun r'.shadow ≡ DriverOp.idle
+
 -- an access on the guest's ring
 pub record GuestTurn {P E D : Type 0} (port : PortModel P) (e : DeviceModel E) (d : DriverModel D) (z : Start) (p q : P)
     (r r' : State E D) (w : DeviceView) (v : DriverView) (t : Turn) : Type 0 where
@@ -117,6 +133,9 @@ pub record GuestTurn {P E D : Type 0} (port : PortModel P) (e : DeviceModel E) (
   pub slept : (t ≡ Slept) ↔ (e.act w op access got ≡ device_act.Asleep)
   pub once : t ≡ Again → ⊥
   pub live : t ≡ Slept → is_rested r'.stage ≡ false
+  pub hears : e.begun r'.guest ≡ DeviceOp.hear → (e.side.after w op access got).doing ≡ device.Idle → ⊥
+  pub look : t ≡ Slept → IsGlance stage.HearingGuest stage.HearingShadow e d r r'
+  pub leaves : (t ≡ Slept → ⊥) → HearsNone e d r'
   pub paid : owes e d r' (e.side.after w op access got) v + counted t
       ≤ owes e d r w v + 64 * (Rattle.vd_relay.specs.Pace.handled t + Rattle.vd_relay.specs.Pace.woke t)
 
@@ -134,13 +153,24 @@ pub record ShadowTurn {P E D : Type 0} (port : PortModel P) (e : DeviceModel E) 
   pub slept : (t ≡ Slept) ↔ (d.act v op access got ≡ driver_act.Asleep)
   pub again : (t ≡ Again) ↔ ((d.act v op access got ≡ driver_act.Nothing) × (r.winding ≡ true) × (IsFinished r w v → ⊥))
   pub live : is_rested r'.stage ≡ false
+  pub hears : d.begun r'.shadow ≡ DriverOp.hear → (d.side.after v op access got).doing ≡ driver.Idle → ⊥
+  pub look : t ≡ Slept → IsGlance stage.HearingShadow stage.HearingGuest e d r r'
+  pub leaves : (t ≡ Slept → ⊥) → HearsNone e d r'
   pub paid : owes e d r' w (d.side.after v op access got) + counted t
       ≤ owes e d r w v + 64 * (Rattle.vd_relay.specs.Pace.handled t + Rattle.vd_relay.specs.Pace.woke t)
+
+-- meanwhile the other end has no operation in progress, and begins no hearing
+abbrev pub ShadowWaits : {E D : Type 0} → DriverModel D → State E D → State E D → Type 0
+ShadowWaits d r r' = (d.begun r.shadow ≡ DriverOp.idle) × (d.begun r'.shadow ≡ DriverOp.hear → ⊥)
+
+abbrev pub GuestWaits : {E D : Type 0} → DeviceModel E → State E D → State E D → Type 0
+GuestWaits e r r' = (e.begun r.guest ≡ DeviceOp.idle) × (e.begun r'.guest ≡ DeviceOp.hear → ⊥)
 
 -- one access, on one of the two ports
 abbrev pub OneTurn : {P Q E D : Type 0} → PortModel P → PortModel Q → DeviceModel E → DriverModel D → Start → P → P → Q → Q → State E D
     → State E D → DeviceView → DriverView → Turn → Type 0
-OneTurn p q e d z a a' b b' r r' w v t = ((b' ≡ b) × GuestTurn p e d z a a' r r' w v t) ⊎ ((a' ≡ a) × ShadowTurn q e d z b b' r r' w v t)
+OneTurn p q e d z a a' b b' r r' w v t = ((b' ≡ b) × ShadowWaits d r r' × GuestTurn p e d z a a' r r' w v t)
+    ⊎ ((a' ≡ a) × GuestWaits e r r' × ShadowTurn q e d z b b' r r' w v t)
 
 -- ---- a step
 
@@ -153,6 +183,14 @@ pub record AreCounted (c c' : Counts) (i j k : ℕ) : Type 0 where
 abbrev pub unless : Bool → ℕ
 unless b = if b then 0 else 1
 
+-- a relay that sleeps looks at its two bells in turn: the one, and then the other. In a wind-up it doesn't sleep
+pub record IsLook {E D : Type 0} (from to : Stage) (e : DeviceModel E) (d : DriverModel D) (r r' : State E D) : Type 0 where
+  pub was : r.stage ≡ from
+  pub is : r'.stage ≡ to
+  pub guest_idle : e.begun r'.guest ≡ DeviceOp.idle
+  pub shadow_idle : d.begun r'.shadow ≡ DriverOp.idle
+  pub live : r.winding ≡ false
+
 -- an access on the guest's ring, and how it is counted
 pub record OnGuest {P E D : Type 0} (port : PortModel P) (e : DeviceModel E) (d : DriverModel D) (z : Start) (p q : P)
     (r r' : State E D) (c c' : Counts) (w : DeviceView) (v : DriverView) (said : Move) : Type 0 where
@@ -164,6 +202,7 @@ pub record OnGuest {P E D : Type 0} (port : PortModel P) (e : DeviceModel E) (d 
   pub holds : Holds e d z r' c' (e.side.after w op access got) v
   pub bag : GivesOne (since z) w.done v.done (e.side.after w op access got).done
   pub looked : (said ≡ move.Looked) ↔ (e.act w op access got ≡ device_act.Asleep)
+  pub look : said ≡ move.Looked → IsLook stage.HearingGuest stage.HearingShadow e d r r'
   pub slept : Bool
   pub asleep : IsTrue slept ↔ (said ≡ move.Looked)
   pub counts : AreCounted c c' (unless slept) (guest_handled (e.act w op access got)) (device_woken op (e.act w op access got))
@@ -178,6 +217,8 @@ pub record OnShadow {P E D : Type 0} (port : PortModel P) (e : DeviceModel E) (d
   pub moved : port.moves p op access got q
   pub holds : Holds e d z r' c' w (d.side.after v op access got)
   pub looked : (said ≡ move.Looked) ↔ (d.act v op access got ≡ driver_act.Asleep)
+  pub look : said ≡ move.Looked → IsLook stage.HearingShadow stage.HearingGuest e d r r'
+  pub free : d.act v op access got ≡ driver_act.Nothing → e.begun r.guest ≡ DeviceOp.idle
   pub left_out : Bool
   pub uncounted : IsTrue left_out ↔ ((said ≡ move.Looked)
       ⊎ ((d.act v op access got ≡ driver_act.Nothing) × (r.winding ≡ true) × (IsFinished r w v → ⊥)))
