@@ -93,7 +93,8 @@ module _ {P E D : Type 0} (port : PortModel P) (e : DeviceModel E) (d : DriverMo
     live = live;
     grown =
         subst (λ x. length (offers v.done) + length (collects v.done) + shadow_handled x
-        ≤ length (offers (d.side.after v s.op s.access s.got).done) + length (collects (d.side.after v s.op s.access s.got).done)) s.is_answer
+        ≤ length (offers (d.side.after v s.op s.access s.got).done) + length (collects (d.side.after v s.op s.access s.got).done))
+        s.is_answer
         (shadow_grown v.done (d.side.after v s.op s.access s.got).done v.frame answer (d.begun r.shadow) (d.begun b) s.says);
     hears = λ is.
         still_hears v.frame v.done (d.side.after v s.op s.access s.got).done _ answer (d.begun r.shadow) (d.begun b) s.says moves

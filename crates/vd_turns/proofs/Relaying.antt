@@ -118,7 +118,8 @@ module _ {P Q E D : Type 0} (port : PortModel P) (law : IsLawfulPort port) (othe
       subst (λ (x : ℕ). device_hearings w + device_woken o.op (e.act w o.op o.access x) ≤ device_hearings
       (e.side.after w o.op o.access x)) (sym k.answer) hears in
       let low = raised_low (device_woken o.op (e.act w o.op o.access o.got)) c.heard c'.heard (device_hearings w) _ o.counts.heard heard in
-      let handled = guest_did (is_rested r'.stage) c.handled c'.handled (guest_handled (e.act w o.op o.access o.got)) (length (takes w.done))
+      let handled = guest_did (is_rested r'.stage) c.handled c'.handled (guest_handled (e.act w o.op o.access o.got))
+      (length (takes w.done))
       (length (gives w.done)) (length (takes w'.done)) (length (gives w'.done)) (length (offers v.done)) (length (offers sv.done))
       (length (collects sv.done)) o.counts.handled o.grown few in
       record {
@@ -204,7 +205,8 @@ module _ {P Q E D : Type 0} (port : PortModel P) (law : IsLawfulPort port) (othe
       let heard : driver_hearings sv + driver_woken o.op (d.act sv o.op o.access o.got) ≤ driver_hearings sv' =
       subst (λ (x : ℕ). driver_hearings sv + driver_woken o.op (d.act sv o.op o.access x) ≤ driver_hearings
       (d.side.after sv o.op o.access x)) (sym k.answer) hears in
-      let low = raised_low (driver_woken o.op (d.act sv o.op o.access o.got)) c.heard c'.heard (driver_hearings sv) _ o.counts.heard heard in
+      let low = raised_low (driver_woken o.op (d.act sv o.op o.access o.got)) c.heard c'.heard (driver_hearings sv) _ o.counts.heard
+      heard in
       let handled = shadow_did (is_rested r'.stage) c.handled c'.handled (shadow_handled (d.act sv o.op o.access o.got))
       (length (takes w.done)) (length (gives w.done)) (length (offers v.done)) (length (offers sv.done)) (length (collects sv.done))
       (length (offers sv'.done)) (length (collects sv'.done)) o.counts.handled o.grown few in

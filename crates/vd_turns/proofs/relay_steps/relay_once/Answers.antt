@@ -10,7 +10,8 @@ returns-in-Looked-clause-turn g c = λ z old begun by v w sv sw is lane holds.
     holds in
     relay_looks l e d z old begun by v sw _ _ _ _ w sv c.args.lane.now.relay.state c.args.lane.now.relay.state
     c.relay_step.new.lane.relay.state c.args.lane.now.relay.counts c.args.lane.now.relay.counts c.relay_step.new.lane.relay.counts 0
-    c.relay_step.result r (c.relay_step.ensures.step z old begun by v r.run.view r.run.shadow_view sw is r.run.lane r.run.holds) c.in-Looked.is
+    c.relay_step.result r (c.relay_step.ensures.step z old begun by v r.run.view r.run.shadow_view sw is r.run.lane r.run.holds)
+    c.in-Looked.is
 
 pub returns-in-Finished-clause-turn : goal.returns-in-Finished-clause-turn
 returns-in-Finished-clause-turn g c = λ z old begun by v w sv sw is lane holds.
@@ -21,7 +22,8 @@ returns-in-Finished-clause-turn g c = λ z old begun by v w sv sw is lane holds.
     holds in
     relay_ends l e d z old begun by v sw _ _ _ _ w sv c.args.lane.now.relay.state c.args.lane.now.relay.state
     c.relay_step.new.lane.relay.state c.args.lane.now.relay.counts c.args.lane.now.relay.counts c.relay_step.new.lane.relay.counts 0
-    c.relay_step.result r (c.relay_step.ensures.step z old begun by v r.run.view r.run.shadow_view sw is r.run.lane r.run.holds) (λ looked. cc (looked, c.in-Finished.is))
+    c.relay_step.result r (c.relay_step.ensures.step z old begun by v r.run.view r.run.shadow_view sw is r.run.lane r.run.holds)
+    (λ looked. cc (looked, c.in-Finished.is))
 
 pub returns-in-Worked-clause-turn : goal.returns-in-Worked-clause-turn
 returns-in-Worked-clause-turn g c = λ z old begun by v w sv sw is lane holds.
@@ -32,4 +34,5 @@ returns-in-Worked-clause-turn g c = λ z old begun by v w sv sw is lane holds.
     holds in
     relay_ends l e d z old begun by v sw _ _ _ _ w sv c.args.lane.now.relay.state c.args.lane.now.relay.state
     c.relay_step.new.lane.relay.state c.args.lane.now.relay.counts c.args.lane.now.relay.counts c.relay_step.new.lane.relay.counts 0
-    c.relay_step.result r (c.relay_step.ensures.step z old begun by v r.run.view r.run.shadow_view sw is r.run.lane r.run.holds) (λ looked. cc (looked, c.in-Worked.is))
+    c.relay_step.result r (c.relay_step.ensures.step z old begun by v r.run.view r.run.shadow_view sw is r.run.lane r.run.holds)
+    (λ looked. cc (looked, c.in-Worked.is))
