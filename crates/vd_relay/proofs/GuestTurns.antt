@@ -1,5 +1,5 @@
 -- What a turn of the guest's end owes to what its answer says.
-use Rattle.std.proofs.Common.{◌≡◌, ◌≢◌, ◌↔◌, ℕ, ◌+◌, ◌*◌, ◌≤◌, Bool, false, List, if◌then◌else◌, refl, sym, ◌∙◌, ap, subst, inl, inr}
+use Rattle.std.proofs.Common.{◌≡◌, ◌≢◌, ◌↔◌, ℕ, ◌+◌, ◌*◌, ◌≤◌, Bool, false, List, length, if◌then◌else◌, refl, sym, ◌∙◌, ap, subst, inl, inr}
 use Rattle.vd_words.specs.declared.access.Op.{Op}
 use Rattle.vd_words.specs.declared.access.Op.TheVariants as op
 use Rattle.vd_words.specs.Model.{PortModel}
@@ -10,12 +10,12 @@ use Rattle.vd_ring.specs.declared.driver.DriverView.{DriverView}
 use Rattle.vd_ring.specs.declared.device.DeviceDone.{DeviceDone}
 use Rattle.vd_ring.specs.declared.device.DeviceNow.TheVariants as now
 use Rattle.vd_ring.specs.declared.device.DeviceView.{DeviceView}
-use Rattle.vd_ring.specs.History.{gives}
+use Rattle.vd_ring.specs.History.{takes, gives}
 use Rattle.vd_ring.specs.Sleep.{device_woken}
 use Rattle.vd_layout.specs.Driver.{DriverModel, IsLawfulDriver}
 use Rattle.vd_layout.specs.Begun.{DeviceOp}
 use Rattle.vd_layout.specs.Control.{ControlWords}
-use Rattle.vd_layout.specs.Device.{DeviceModel, IsLawfulDevice, IsDeviceStep, DeviceSays}
+use Rattle.vd_layout.specs.Device.{DeviceModel, IsLawfulDevice, IsDeviceStep, DeviceSays, is_rested as is_rested_act}
 use Rattle.vd_relay.specs.declared.counts.Turn.{Turn}
 use Rattle.vd_relay.specs.declared.counts.Turn.TheVariants.{Slept, Again}
 use Rattle.vd_relay.specs.declared.stage.Stage.{Stage}
@@ -27,6 +27,7 @@ use Rattle.vd_relay.specs.Stages.{is_rested, is_shadow}
 use Rattle.vd_relay.specs.Tie.{Start, since}
 use Rattle.vd_relay.specs.Relay.{Stands, GuestTurn, GivesOne, HearsNone, IsGlance, owes}
 use Rattle.vd_relay.proofs.Calm.{at_stage}
+use Rattle.vd_relay.proofs.Growth.{guest_grown}
 
 abbrev pub with_guest : {E D : Type 0} → State E D → E → State E D
 with_guest r b = record { guest = b; shadow = r.shadow; table = r.table; stage = r.stage; winding = r.winding; target = r.target }
@@ -91,7 +92,18 @@ module _ {P E D : Type 0} (port : PortModel P) (e : DeviceModel E) (d : DriverMo
     slept = subst (λ x. (t ≡ Slept) ↔ (x ≡ act.Asleep)) s.is_answer sleeps;
     once = once;
     live = live;
-    hears = λ is. still_hears e.words w.frame w.done (e.side.after w s.op s.access s.got).done _ answer (e.begun r.guest) (e.begun b) s.says moves (ap e.begun (sym same) ∙ is);
+    grown =
+        let rests : is_rested_act answer ≡ is_rested r'.stage = sym s.rests ∙ ap e.resting (sym same) ∙ stands.rests in
+        subst (λ x. length (takes w.done) + length (gives w.done) + guest_handled x
+        ≤ (if is_rested r'.stage then length (takes w.done) else length (takes (e.side.after w s.op s.access s.got).done))
+        + length (gives (e.side.after w s.op s.access s.got).done)) s.is_answer
+        (subst (λ (x : Bool). length (takes w.done) + length (gives w.done) + guest_handled answer
+        ≤ (if x then length (takes w.done) else length (takes (e.side.after w s.op s.access s.got).done))
+        + length (gives (e.side.after w s.op s.access s.got).done)) rests
+        (guest_grown w.done (e.side.after w s.op s.access s.got).done e.words w.frame answer (e.begun r.guest) (e.begun b) s.says));
+    hears = λ is.
+        still_hears e.words w.frame w.done (e.side.after w s.op s.access s.got).done _ answer (e.begun r.guest) (e.begun b) s.says moves
+        (ap e.begun (sym same) ∙ is);
     look = look;
     leaves = leaves;
     paid = paid;

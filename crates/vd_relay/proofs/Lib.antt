@@ -5,6 +5,7 @@ pub mod Calm
 pub mod Ops
 pub mod Hearings
 pub mod Turns
+pub mod Growth
 pub mod GuestGoing
 pub mod GuestTurns
 pub mod GuestFree

@@ -89,8 +89,8 @@ module _ {P E D : Type 0} (port : PortModel P) (e : DeviceModel E) (d : DriverMo
 
   goes_to : r.stage ≡ stage.HearingShadow → Stands e d z r w v → IsDriverStep port d p q v r.shadow b act.Moved
       → d.begun b ≡ DriverOp.idle → ⊥
-  goes_to at h s idle = shadow_goes_on (d.begun r.shadow) (d.begun b) s.op (subst (λ (x : Stage). ShadowIs x (d.begun r.shadow)) at h.shadow)
-      s.of_it s.says.0 idle
+  goes_to at h s idle = shadow_goes_on (d.begun r.shadow) (d.begun b) s.op
+      (subst (λ (x : Stage). ShadowIs x (d.begun r.shadow)) at h.shadow) s.of_it s.says.0 idle
 
   pub went_on : is_shadow r.stage ≡ true → Stands e d z r w v → IsDriverStep port d p q v r.shadow b act.Moved
       → ShadowTurn port e d z p q r (with_shadow r b) w v Worked

@@ -1,5 +1,5 @@
 -- What a turn of the shadow end owes to what its answer says.
-use Rattle.std.proofs.Common.{◌≡◌, ◌≢◌, ◌↔◌, ℕ, ◌+◌, ◌*◌, ◌≤◌, Bool, true, false, Option, List, if◌then◌else◌, refl, sym, ◌∙◌, ap, subst, inl, inr}
+use Rattle.std.proofs.Common.{◌≡◌, ◌≢◌, ◌↔◌, ℕ, ◌+◌, ◌*◌, ◌≤◌, Bool, true, false, Option, List, length, if◌then◌else◌, refl, sym, ◌∙◌, ap, subst, inl, inr}
 use Rattle.vd_model.specs.declared.chain.Piece.{Piece}
 use Rattle.vd_words.specs.declared.access.Op.{Op}
 use Rattle.vd_words.specs.declared.access.Op.TheVariants as op
@@ -13,6 +13,7 @@ use Rattle.vd_ring.specs.declared.driver.DriverNow.TheVariants as now
 use Rattle.vd_ring.specs.declared.driver.DriverView.{DriverView}
 use Rattle.vd_ring.specs.declared.device.DeviceDone.{DeviceDone}
 use Rattle.vd_ring.specs.declared.device.DeviceView.{DeviceView}
+use Rattle.vd_ring.specs.History.{offers, collects}
 use Rattle.vd_ring.specs.Sleep.{driver_woken}
 use Rattle.vd_layout.specs.Begun.{DriverOp}
 use Rattle.vd_layout.specs.Driver.{DriverModel, IsLawfulDriver, IsDriverStep, DriverSays}
@@ -29,6 +30,7 @@ use Rattle.vd_relay.specs.Stages.{is_rested, is_shadow}
 use Rattle.vd_relay.specs.Tie.{Start, IsTied}
 use Rattle.vd_relay.specs.Relay.{Stands, ShadowTurn, HearsNone, IsGlance, owes, IsFinished}
 use Rattle.vd_relay.proofs.Calm.{at_stage}
+use Rattle.vd_relay.proofs.Growth.{shadow_grown}
 
 abbrev pub with_shadow : {E D : Type 0} → State E D → D → State E D
 with_shadow r b = record { guest = r.guest; shadow = b; table = r.table; stage = r.stage; winding = r.winding; target = r.target }
@@ -89,7 +91,14 @@ module _ {P E D : Type 0} (port : PortModel P) (e : DeviceModel E) (d : DriverMo
     slept = subst (λ x. (t ≡ Slept) ↔ (x ≡ act.Asleep)) s.is_answer sleeps;
     again = subst (λ x. (t ≡ Again) ↔ ((x ≡ act.Nothing) × (r.winding ≡ true) × (IsFinished r w v → ⊥))) s.is_answer agains;
     live = live;
-    hears = λ is. still_hears v.frame v.done (d.side.after v s.op s.access s.got).done _ answer (d.begun r.shadow) (d.begun b) s.says moves (ap d.begun (sym same) ∙ is);
+    grown =
+        subst (λ x. length (offers v.done) + length (collects v.done) + shadow_handled x
+        ≤ length (offers (d.side.after v s.op s.access s.got).done) + length (collects (d.side.after v s.op s.access s.got).done))
+        s.is_answer
+        (shadow_grown v.done (d.side.after v s.op s.access s.got).done v.frame answer (d.begun r.shadow) (d.begun b) s.says);
+    hears = λ is.
+        still_hears v.frame v.done (d.side.after v s.op s.access s.got).done _ answer (d.begun r.shadow) (d.begun b) s.says moves
+        (ap d.begun (sym same) ∙ is);
     look = look;
     leaves = leaves;
     paid = paid;

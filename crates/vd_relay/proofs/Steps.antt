@@ -53,6 +53,7 @@ module _ {P E D : Type 0} (port : PortModel P) (e : DeviceModel E) (d : DriverMo
     slept = h.slept;
     once = h.once;
     live = h.live;
+    grown = h.grown;
     hears = h.hears;
     look = λ i. glanced stage.HearingGuest stage.HearingShadow refl same (h.look i);
     leaves = h.leaves;
@@ -79,6 +80,7 @@ module _ {P E D : Type 0} (port : PortModel P) (e : DeviceModel E) (d : DriverMo
       λ x. h.again.1 (x.0, k.0 ∙ x.1, λ f. x.2 ((same_finished k).0 f)),
     );
     live = h.live;
+    grown = h.grown;
     hears = h.hears;
     look = λ i. glanced stage.HearingShadow stage.HearingGuest refl same (h.look i);
     leaves = h.leaves;
@@ -258,6 +260,7 @@ module _ {P E D : Type 0} (port : PortModel P) (e : DeviceModel E) (d : DriverMo
       leaves = leaves_on e d z r r' c w v holds t (λ i. (guest_looks law holds h i).live) kept.0 h.leaves;
     };
     bag = h.bag;
+    grown = h.grown;
     looked = both (looked_is said t b is) h.slept;
     look = λ i. guest_looks law holds h ((looked_is said t b is).0 i);
     slept = is_slept t;
@@ -290,6 +293,7 @@ module _ {P E D : Type 0} (port : PortModel P) (e : DeviceModel E) (d : DriverMo
       hears_shadow = h.hears;
       leaves = leaves_on e d z r r' c w v holds t (λ i. (shadow_looks law holds h i).live) kept.0 h.leaves;
     };
+    grown = h.grown;
     looked = both (looked_is said t b is) h.slept;
     look = λ i. shadow_looks law holds h ((looked_is said t b is).0 i);
     free = λ i. waits.0;

@@ -16,7 +16,7 @@ use Rattle.vd_ring.specs.declared.driver.DriverDone.{DriverDone}
 use Rattle.vd_ring.specs.declared.driver.DriverView.{DriverView}
 use Rattle.vd_ring.specs.declared.device.DeviceDone.{DeviceDone}
 use Rattle.vd_ring.specs.declared.device.DeviceView.{DeviceView}
-use Rattle.vd_ring.specs.History.{collects, takes, gives, running, occurs, IsWhole}
+use Rattle.vd_ring.specs.History.{offers, collects, takes, gives, running, occurs, IsWhole}
 use Rattle.vd_ring.specs.Sleep.{driver_woken, device_woken}
 use Rattle.vd_layout.specs.Begun.{DriverOp, DeviceOp}
 use Rattle.vd_layout.specs.Driver.{DriverModel}
@@ -133,6 +133,9 @@ pub record GuestTurn {P E D : Type 0} (port : PortModel P) (e : DeviceModel E) (
   pub slept : (t ≡ Slept) ↔ (e.act w op access got ≡ device_act.Asleep)
   pub once : t ≡ Again → ⊥
   pub live : t ≡ Slept → is_rested r'.stage ≡ false
+  pub grown : length (takes w.done) + length (gives w.done) + guest_handled (e.act w op access got)
+      ≤ (if is_rested r'.stage then length (takes w.done) else length (takes (e.side.after w op access got).done))
+      + length (gives (e.side.after w op access got).done)
   pub hears : e.begun r'.guest ≡ DeviceOp.hear → (e.side.after w op access got).doing ≡ device.Idle → ⊥
   pub look : t ≡ Slept → IsGlance stage.HearingGuest stage.HearingShadow e d r r'
   pub leaves : (t ≡ Slept → ⊥) → HearsNone e d r'
@@ -153,6 +156,8 @@ pub record ShadowTurn {P E D : Type 0} (port : PortModel P) (e : DeviceModel E) 
   pub slept : (t ≡ Slept) ↔ (d.act v op access got ≡ driver_act.Asleep)
   pub again : (t ≡ Again) ↔ ((d.act v op access got ≡ driver_act.Nothing) × (r.winding ≡ true) × (IsFinished r w v → ⊥))
   pub live : is_rested r'.stage ≡ false
+  pub grown : length (offers v.done) + length (collects v.done) + shadow_handled (d.act v op access got)
+      ≤ length (offers (d.side.after v op access got).done) + length (collects (d.side.after v op access got).done)
   pub hears : d.begun r'.shadow ≡ DriverOp.hear → (d.side.after v op access got).doing ≡ driver.Idle → ⊥
   pub look : t ≡ Slept → IsGlance stage.HearingShadow stage.HearingGuest e d r r'
   pub leaves : (t ≡ Slept → ⊥) → HearsNone e d r'
@@ -191,7 +196,7 @@ pub record IsLook {E D : Type 0} (from to : Stage) (e : DeviceModel E) (d : Driv
   pub shadow_idle : d.begun r'.shadow ≡ DriverOp.idle
   pub live : r.winding ≡ false
 
--- an access on the guest's ring, and how it is counted
+-- an access on the guest's ring, and how it is counted. What was taken and given grows by it; a rest takes back what was not given
 pub record OnGuest {P E D : Type 0} (port : PortModel P) (e : DeviceModel E) (d : DriverModel D) (z : Start) (p q : P)
     (r r' : State E D) (c c' : Counts) (w : DeviceView) (v : DriverView) (said : Move) : Type 0 where
   pub op : Op
@@ -201,6 +206,9 @@ pub record OnGuest {P E D : Type 0} (port : PortModel P) (e : DeviceModel E) (d 
   pub moved : port.moves p op access got q
   pub holds : Holds e d z r' c' (e.side.after w op access got) v
   pub bag : GivesOne (since z) w.done v.done (e.side.after w op access got).done
+  pub grown : length (takes w.done) + length (gives w.done) + guest_handled (e.act w op access got)
+      ≤ (if is_rested r'.stage then length (takes w.done) else length (takes (e.side.after w op access got).done))
+      + length (gives (e.side.after w op access got).done)
   pub looked : (said ≡ move.Looked) ↔ (e.act w op access got ≡ device_act.Asleep)
   pub look : said ≡ move.Looked → IsLook stage.HearingGuest stage.HearingShadow e d r r'
   pub slept : Bool
@@ -216,6 +224,8 @@ pub record OnShadow {P E D : Type 0} (port : PortModel P) (e : DeviceModel E) (d
   pub was_next : d.side.next v op access
   pub moved : port.moves p op access got q
   pub holds : Holds e d z r' c' w (d.side.after v op access got)
+  pub grown : length (offers v.done) + length (collects v.done) + shadow_handled (d.act v op access got)
+      ≤ length (offers (d.side.after v op access got).done) + length (collects (d.side.after v op access got).done)
   pub looked : (said ≡ move.Looked) ↔ (d.act v op access got ≡ driver_act.Asleep)
   pub look : said ≡ move.Looked → IsLook stage.HearingShadow stage.HearingGuest e d r r'
   pub free : d.act v op access got ≡ driver_act.Nothing → e.begun r.guest ≡ DeviceOp.idle
@@ -231,6 +241,7 @@ pub record IsRelayStep {P Q E D : Type 0} (p : PortModel P) (q : PortModel Q) (e
   pub kept : IsKept r r'
   pub quiet : IsQuiet d r r'
   pub finished : (said ≡ move.Finished) ↔ (is_rested r'.stage ≡ true)
+  pub still : said ≡ move.Looked → c' ≡ c
   -- a relay that goes on looking in place of sleeping would not keep it
   pub pace : KeepsPace c' 0
 

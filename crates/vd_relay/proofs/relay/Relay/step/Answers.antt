@@ -1,5 +1,5 @@
 use Rattle.std.proofs.Common.{inl, inr}
-use Rattle.vd_relay.proofs.Steps.{Noted, on_guest, on_shadow, finished_at, pace_less}
+use Rattle.vd_relay.proofs.Steps.{Noted, on_guest, on_shadow, looked_is, finished_at, pace_less}
 use Rattle.vd_relay.proofs.relay.Relay.step.Goals as goal
 
 pub returns-clause-step : goal.returns-clause-step
@@ -25,6 +25,7 @@ returns-clause-step g c = λ z w v h is own other.
             kept = m.ensures.kept;
             quiet = m.ensures.quiet;
             finished = finished_at c.move_of.result t b _ said c.is_rested.ensures x.2.live;
+            still = λ i. c.note.ensures.slept ((looked_is c.move_of.result t b said).0 i);
             pace = pace_less c.note.new.self _ o.holds.pace;
           }
           )
@@ -36,6 +37,7 @@ returns-clause-step g c = λ z w v h is own other.
             kept = m.ensures.kept;
             quiet = m.ensures.quiet;
             finished = finished_at c.move_of.result t b _ said c.is_rested.ensures (λ i. x.2.live);
+            still = λ i. c.note.ensures.slept ((looked_is c.move_of.result t b said).0 i);
             pace = pace_less c.note.new.self _ o.holds.pace;
           }
           )

@@ -1,0 +1,11 @@
+//! One party's turn in a play of single accesses: a guest's and a device's over the plain words of a ring, and a relay's over those of
+//! its two rings.
+#![tactic(auto)]
+
+mod draws;
+mod relay_steps;
+mod turn;
+
+pub use draws::Draws;
+pub use relay_steps::relay_turn;
+pub use turn::{device_turn, guest_turn};
