@@ -17,7 +17,7 @@ use Rattle.vd_play.specs.Lane.{IsKept, events_before, begun_at}
 use Rattle.vd_play.specs.Progress.{IsPaced, IsStopped, IsPassing, InEpochWith, steps}
 use Rattle.vd_play.specs.Rounds.{IsSuspended}
 use Rattle.vd_play.specs.Setting.{Setting, IsLawful}
-use Rattle.vd_play.specs.Turns.{CanDrive, GuestTurn, GuestTurns, DeviceTurn}
+use Rattle.vd_turns.specs.Turns.{CanDrive, GuestTurn, GuestTurns, DeviceTurn}
 use Rattle.vd_play.proofs.Bounds.{Bounded, bounded, flat_more}
 use Rattle.vd_play.proofs.Keep.{kept_guest, kept_device, kept_still, begun_of, base_of}
 use Rattle.vd_play.proofs.Pace.{guest_paced, device_paced, attaches_more}

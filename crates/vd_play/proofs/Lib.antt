@@ -2,7 +2,6 @@ pub mod Switches
 pub mod Lists
 pub mod Bounds
 pub mod Each
-pub mod Turning
 pub mod InMap
 pub mod Quiet
 pub mod Pace

@@ -112,18 +112,18 @@ pub record CanServe {E : Type 0} (e : DeviceModel E) (plan : Plan) (end : E) : T
   pub still : IsStill e end
   pub lawful : is_lawful_base plan.packed plan.size (e.base end) ≡ true
 
-abbrev pub AllServe : {E : Type 0} → DeviceModel E → Plan → List (Lane E) → Type 0
-AllServe e plan lanes = (q : ℕ) (lane : Lane _) (end : _) → slice_get lanes q ≡ Some lane → lane.still ≡ Some end → CanServe e plan end
+abbrev pub AllServe : {L D E : Type 0} → DeviceModel E → Plan → List (Lane L D E) → Type 0
+AllServe e plan lanes = (q : ℕ) (lane : Lane _ _ _) (end : _) → slice_get lanes q ≡ Some lane → lane.still ≡ Some end → CanServe e plan end
 
 -- the base of a queue is that of its lane's end
 abbrev pub HasBase : {E : Type 0} → DeviceModel E → Option E → Vring → Type 0
 HasBase e still v = (end : _) → still ≡ Some end → v.base ≡ e.base end
 
-abbrev pub HasBases : {E : Type 0} → DeviceModel E → Plan → List (Lane E) → BusState → Type 0
-HasBases e plan lanes b = (q : ℕ) (lane : Lane _) → slice_get lanes q ≡ Some lane → HasBase e lane.still (vring_at plan b q)
+abbrev pub HasBases : {L D E : Type 0} → DeviceModel E → Plan → List (Lane L D E) → BusState → Type 0
+HasBases e plan lanes b = (q : ℕ) (lane : Lane _ _ _) → slice_get lanes q ≡ Some lane → HasBase e lane.still (vring_at plan b q)
 
 -- the bus as it is set up for an epoch: each ring is served from where its end rests
-pub record IsReady {E : Type 0} (e : DeviceModel E) (plan : Plan) (lanes : List (Lane E)) (b : BusState) : Type 0 where
+pub record IsReady {L D E : Type 0} (e : DeviceModel E) (plan : Plan) (lanes : List (Lane L D E)) (b : BusState) : Type 0 where
   pub up : IsUp plan b
   pub rings : HasRings plan b
   pub bases : HasBases e plan lanes b

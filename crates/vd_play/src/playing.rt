@@ -9,13 +9,13 @@ ghost use Rattle.vd_play.specs.Rounds.{AllDone, IsLast, Halts};
 ghost use Rattle.vd_play.specs.Setting.{setting_of};
 
 use crate::bench::Bench;
-use crate::draws::Draws;
 use crate::epoch::{PlayFault, attach_all};
 use crate::floor::Floor;
 use crate::rounds::{drain, run_epoch};
 use crate::setup::{bring_up, set_up};
 use vd_bus::{Device, Guest};
 use vd_layout::Layout;
+use vd_turns::Draws;
 use vd_machine::Machine;
 
 /// Halts each guest; all are done.
@@ -58,7 +58,7 @@ pub fn play_machine<L: Layout, G: Guest<L>, V: Device<L>>(
     let mut bus = bring_up(m);
     let mut made = 0;
     for epoch in 0..m.switches.len() + 2 {
-        set_up(m, epoch, &mut bus, floor.lanes.as_slice());
+        set_up::<L>(m, epoch, &mut bus, floor.lanes.as_slice());
         attach_all::<L, G, V>(m, epoch, &mut bus, &mut floor, bench)?;
         made += run_epoch::<L, G, V>(&mut floor, bench, &mut draws);
     }

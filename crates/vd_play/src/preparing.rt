@@ -11,13 +11,15 @@ ghost use Rattle.vd_play.specs.Progress.{Stopped};
 ghost use Rattle.vd_play.specs.Setting.{setting_of};
 
 use crate::bench::Bench;
-use crate::floor::{Floor, Lane};
-use crate::order::chain_count;
+use crate::floor::{Floor, Lane, ShadowRing};
+use crate::order::{chain_count, mode_of};
+use crate::tree::lay;
 use std::alloc::{AllocError, Global};
 use vd_bus::{Device, Guest};
 use vd_layout::Layout;
 use vd_machine::Machine;
-use vd_model::Run;
+use vd_model::{Mode, Run};
+use vd_switch::Kit;
 use vd_words::PlainWords;
 
 /// Tells what each run's chain is by its type.
@@ -29,6 +31,38 @@ fn tell_chains(runs: &[Run])
     }
 }
 
+/// Makes the shadow rings of a queue, one for each epoch of the mode shadow, the first one last.
+fn make_kits<L: Layout>(
+    alloc: Global,
+    m: &Machine,
+    queue: u32,
+) -> Result<Vec<ShadowRing<L>>, AllocError>
+{
+    let mut kits = Vec::new(alloc);
+    let epochs = m.switches.len() + 2;
+    for i in 0..epochs {
+        let epoch = epochs - 1 - i;
+        if mode_of(m, epoch) == Mode::Shadow {
+            kits.push(make_shadow_ring::<L>(alloc, m, queue, epoch as u32)?)?;
+        }
+    }
+    Ok(kits)
+}
+
+/// Makes the shadow ring of a queue for an epoch.
+fn make_shadow_ring<L: Layout>(
+    alloc: Global,
+    m: &Machine,
+    queue: u32,
+    epoch: u32,
+) -> Result<ShadowRing<L>, AllocError>
+{
+    let words = L::words(m.size, m.features, false);
+    let words = PlainWords::new(alloc, 16 * (epoch + 1) + queue, words)?;
+    let kit = Kit::make(alloc, m.size, m.features, false)?;
+    Ok(ShadowRing { words, kit })
+}
+
 /// Makes the ring of a queue, loads its guest, makes room in its device's journal, and boots the guest.
 fn make_lane<L: Layout, G: Guest<L>, V: Device<L>>(
     alloc: Global,
@@ -36,7 +70,7 @@ fn make_lane<L: Layout, G: Guest<L>, V: Device<L>>(
     queue: usize,
     guest: &mut G,
     device: &mut V,
-) -> Result<Lane<L::Device>, AllocError>
+) -> Result<Lane<L>, AllocError>
     requires layout { IsOfLayout L.layout (view m.now) }
     requires queue { queue < length m.now.queues }
     requires guest { IsEmptyGuest G.party guest.old }
@@ -54,10 +88,14 @@ fn make_lane<L: Layout, G: Guest<L>, V: Device<L>>(
     let events = 2 * (m.switches.len() as u32 + 2);
     device.reserve(alloc, m.window, events, chain_count(script.runs.as_slice()))?;
     guest.load(alloc, script)?;
+    let kits = make_kits::<L>(alloc, m, queue as u32)?;
     guest.boot(driver);
     Ok(Lane {
         words,
         still: Some(end),
+        relaying: None,
+        kits,
+        relayed: 0,
     })
 }
 
@@ -76,10 +114,11 @@ pub fn prepare<L: Layout, G: Guest<L>, V: Device<L>>(
     ensures keeps { KeepsBench V.party (length m.now.queues) bench.old bench.new }
     ensures untouched { IsUntouched G.party V.party bench.old bench.new }
 {
+    let tree = lay(alloc, m)?;
     let mut lanes = Vec::with_capacity(alloc, m.queues.len())?;
     for i in 0..m.queues.len() {
         let lane = make_lane::<L, G, V>(alloc, m, i, &mut bench.guests[i], &mut bench.devices[i])?;
         lanes.push_reserved(lane);
     }
-    Ok(Floor { lanes })
+    Ok(Floor { lanes, tree })
 }

@@ -8,7 +8,7 @@ use crate::floor::Lane;
 use crate::messages::{map_regions, unmap_regions};
 use crate::ring_addr::ring_addr;
 use vd_bus::Bus;
-use vd_layout::DeviceEnd;
+use vd_layout::{DeviceEnd, Layout};
 use vd_machine::Machine;
 use vd_uapi::VringState;
 
@@ -48,45 +48,45 @@ pub(crate) fn bring_up(m: &Machine) -> Bus
 }
 
 /// Sets up the bus for an epoch: the first begins it, and before a later one the device is suspended.
-pub(crate) fn set_up<E: DeviceEnd>(m: &Machine, epoch: usize, bus: &mut Bus, lanes: &[Lane<E>])
+pub(crate) fn set_up<L: Layout>(m: &Machine, epoch: usize, bus: &mut Bus, lanes: &[Lane<L>])
     requires before { IsBefore (view m.now) epoch bus.old }
     requires many { length lanes.now ≡ length m.now.queues }
-    requires ends { AllServe E.device (view m.now) lanes.now }
-    ensures { IsReady E.device (view m.now) lanes.now bus.new }
+    requires ends { AllServe L.Device.device (view m.now) lanes.now }
+    ensures { IsReady L.Device.device (view m.now) lanes.now bus.new }
 {
     if epoch == 0 {
-        begin(m, bus, lanes);
+        begin::<L>(m, bus, lanes);
     } else {
-        switch(m, bus, lanes);
+        switch::<L>(m, bus, lanes);
     }
 }
 
 /// Messages for the map, bases, DRIVER_OK.
-fn begin<E: DeviceEnd>(m: &Machine, bus: &mut Bus, lanes: &[Lane<E>])
+fn begin<L: Layout>(m: &Machine, bus: &mut Bus, lanes: &[Lane<L>])
     requires brought { IsBrought (view m.now) bus.old }
     requires rings { HasRings (view m.now) bus.old }
     requires many { length lanes.now ≡ length m.now.queues }
-    requires ends { AllServe E.device (view m.now) lanes.now }
-    ensures { IsReady E.device (view m.now) lanes.now bus.new }
+    requires ends { AllServe L.Device.device (view m.now) lanes.now }
+    ensures { IsReady L.Device.device (view m.now) lanes.now bus.new }
 {
     map_regions(m, bus);
-    set_bases(m, bus, lanes);
+    set_bases::<L>(m, bus, lanes);
     set_status(bus, 15);
 }
 
 /// While the device is suspended: addresses, messages for the map, bases.
-fn switch<E: DeviceEnd>(m: &Machine, bus: &mut Bus, lanes: &[Lane<E>])
+fn switch<L: Layout>(m: &Machine, bus: &mut Bus, lanes: &[Lane<L>])
     requires up { IsUp (view m.now) bus.old }
     requires rings { HasRings (view m.now) bus.old }
     requires many { length lanes.now ≡ length m.now.queues }
-    requires ends { AllServe E.device (view m.now) lanes.now }
-    ensures { IsReady E.device (view m.now) lanes.now bus.new }
+    requires ends { AllServe L.Device.device (view m.now) lanes.now }
+    ensures { IsReady L.Device.device (view m.now) lanes.now bus.new }
 {
     suspend(bus);
     set_addrs(m, bus);
     unmap_regions(m, bus);
     map_regions(m, bus);
-    set_bases(m, bus, lanes);
+    set_bases::<L>(m, bus, lanes);
     resume(bus);
 }
 
@@ -103,14 +103,14 @@ fn set_addrs(m: &Machine, bus: &mut Bus)
 }
 
 /// Sets the base of each queue to that of its lane's end.
-fn set_bases<E: DeviceEnd>(m: &Machine, bus: &mut Bus, lanes: &[Lane<E>])
+fn set_bases<L: Layout>(m: &Machine, bus: &mut Bus, lanes: &[Lane<L>])
     requires stands { Stands (view m.now) bus.old }
     requires rings { HasRings (view m.now) bus.old }
     requires many { length lanes.now ≡ length m.now.queues }
-    requires ends { AllServe E.device (view m.now) lanes.now }
+    requires ends { AllServe L.Device.device (view m.now) lanes.now }
     ensures same { bus.new ≡ with_vrings bus.old bus.new.vrings }
     ensures rings { HasRings (view m.now) bus.new }
-    ensures bases { HasBases E.device (view m.now) lanes.now bus.new }
+    ensures bases { HasBases L.Device.device (view m.now) lanes.now bus.new }
 {
     for q in 0..m.queues.len() {
         if let Some(end) = &lanes[q].still {

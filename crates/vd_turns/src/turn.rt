@@ -2,7 +2,7 @@
 ghost use Rattle.std.specs.Prelude.{◌≡◌, ◌≤◌, ℕ, List};
 ghost use Rattle.vd_ring.specs.declared.device.DeviceView.{DeviceView};
 ghost use Rattle.vd_ring.specs.declared.driver.DriverView.{DriverView};
-ghost use Rattle.vd_play.specs.Turns.{CanDrive, CanServe, GuestOn, GuestSteps, GuestTurns, DeviceOn, DeviceSteps, DeviceTurns};
+ghost use Rattle.vd_turns.specs.Turns.{CanDrive, CanServe, GuestOn, GuestSteps, GuestTurns, DeviceOn, DeviceSteps, DeviceTurns};
 
 use crate::draws::Draws;
 use vd_bus::{Device, Guest};
@@ -132,7 +132,7 @@ fn device_once<L: Layout, V: Device<L>>(words: &mut PlainWords, device: &mut V) 
 }
 
 /// A guest's turn. It answers how many of its steps were no look of a sleeper.
-pub(crate) fn guest_turn<L: Layout, G: Guest<L>>(
+pub fn guest_turn<L: Layout, G: Guest<L>>(
     words: &mut PlainWords,
     guest: &mut G,
     draws: &mut Draws,
@@ -150,7 +150,7 @@ pub(crate) fn guest_turn<L: Layout, G: Guest<L>>(
 }
 
 /// The turn of a device that is not done. It answers how many of its steps were no look of a sleeper.
-pub(crate) fn device_turn<L: Layout, V: Device<L>>(
+pub fn device_turn<L: Layout, V: Device<L>>(
     words: &mut PlainWords,
     device: &mut V,
     draws: &mut Draws,

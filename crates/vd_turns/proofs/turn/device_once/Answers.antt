@@ -1,6 +1,6 @@
 use Rattle.std.proofs.Common.{arith}
-use Rattle.vd_play.proofs.Turning.{device_starts, device_goes, device_looks, device_ends, device_spent}
-use Rattle.vd_play.proofs.turn.device_once.Goals as goal
+use Rattle.vd_turns.proofs.Turning.{device_starts, device_goes, device_looks, device_ends, device_spent}
+use Rattle.vd_turns.proofs.turn.device_once.Goals as goal
 
 pub returns-in-Looked-clause-turn : goal.returns-in-Looked-clause-turn
 returns-in-Looked-clause-turn g c = λ v w ring holds.

@@ -1,6 +1,6 @@
 use Rattle.vd_layout.specs.laws.Plain.{own_plain_device}
-use Rattle.vd_play.proofs.Turning.{device_on}
-use Rattle.vd_play.proofs.turn.device_access.Goals as goal
+use Rattle.vd_turns.proofs.Turning.{device_on}
+use Rattle.vd_turns.proofs.turn.device_access.Goals as goal
 
 pub step-requires-clause-own : goal.step-requires-clause-own
 step-requires-clause-own g c =

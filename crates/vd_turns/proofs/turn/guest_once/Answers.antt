@@ -1,6 +1,6 @@
 use Rattle.std.proofs.Common.{rules, arith}
-use Rattle.vd_play.proofs.Turning.{guest_starts, guest_goes, guest_looks, guest_over, guest_ends, guest_spent}
-use Rattle.vd_play.proofs.turn.guest_once.Goals as goal
+use Rattle.vd_turns.proofs.Turning.{guest_starts, guest_goes, guest_looks, guest_over, guest_ends, guest_spent}
+use Rattle.vd_turns.proofs.turn.guest_once.Goals as goal
 
 pub returns-then-done-clause-turn : goal.returns-then-done-clause-turn
 returns-then-done-clause-turn g c = λ v w ring holds.

@@ -19,7 +19,7 @@ use Rattle.vd_ring.specs.History.{offers, collects, takes, gives}
 use Rattle.vd_bus.specs.Device.{DeviceParty, IsServed, HasServed, IsDeviceAccess}
 use Rattle.vd_bus.specs.Guest.{GuestParty, HasDriven, IsGuestAccess}
 use Rattle.vd_bus.specs.Pace.{last_count, raised, worked}
-use Rattle.vd_play.specs.Turns.{GuestOn, GuestStepped, GuestRun, GuestWay, GuestTurn, DeviceOn, DeviceStepped, DeviceRun, DeviceWay, DeviceTurn}
+use Rattle.vd_turns.specs.Turns.{GuestOn, GuestStepped, GuestRun, GuestWay, GuestTurn, DeviceOn, DeviceStepped, DeviceRun, DeviceWay, DeviceTurn}
 
 pub raised_low : (k n m h h' : ℕ) → m ≡ raised k n → h + k ≤ h' → m + h ≤ n + h'
 raised_low k n m h h' is le = omega arith

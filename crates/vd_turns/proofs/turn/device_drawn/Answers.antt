@@ -1,6 +1,6 @@
 use Rattle.std.proofs.Common.{refl, ◌∙◌}
-use Rattle.vd_play.proofs.Turning.{device_starts, device_goes, device_looks, device_ends}
-use Rattle.vd_play.proofs.turn.device_drawn.Goals as goal
+use Rattle.vd_turns.proofs.Turning.{device_starts, device_goes, device_looks, device_ends}
+use Rattle.vd_turns.proofs.turn.device_drawn.Goals as goal
 
 pub loop-made-init : goal.loop-made-init
 loop-made-init g c = record {

@@ -1,8 +1,8 @@
 use Rattle.std.proofs.Common.{◌≡◌}
 use Rattle.vd_ring.specs.declared.device.DeviceView.{DeviceView}
 use Rattle.vd_ring.specs.declared.driver.DriverView.{DriverView}
-use Rattle.vd_play.specs.Turns.{GuestWay}
-use Rattle.vd_play.proofs.turn.guest_drawn.Given as goal
+use Rattle.vd_turns.specs.Turns.{GuestWay}
+use Rattle.vd_turns.proofs.turn.guest_drawn.Given as goal
 
 abbrev pub invariant-loop-made : goal.invariant-loop-made
 invariant-loop-made g l = record {

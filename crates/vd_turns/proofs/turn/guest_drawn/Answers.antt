@@ -1,7 +1,7 @@
 use Rattle.std.proofs.Common.{rules, ◌≡◌, ℕ, subst, arith, refl, ◌∙◌}
-use Rattle.vd_play.proofs.Turning.{guest_starts, guest_goes, guest_looks, guest_over, guest_ends, guest_spent}
-use Rattle.vd_play.specs.Turns.{GuestTurn}
-use Rattle.vd_play.proofs.turn.guest_drawn.Goals as goal
+use Rattle.vd_turns.proofs.Turning.{guest_starts, guest_goes, guest_looks, guest_over, guest_ends, guest_spent}
+use Rattle.vd_turns.specs.Turns.{GuestTurn}
+use Rattle.vd_turns.proofs.turn.guest_drawn.Goals as goal
 
 pub returns-then-done-clause-turn : goal.returns-then-done-clause-turn
 returns-then-done-clause-turn g c = λ v w ring holds.
