@@ -21,3 +21,4 @@ pub mod Passed
 pub mod Buses
 pub mod Maps
 pub mod Setups
+pub mod Rings

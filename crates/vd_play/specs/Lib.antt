@@ -11,3 +11,4 @@ pub mod Orders
 pub mod Prepared
 pub mod Rounds
 pub mod Setup
+pub mod Rings
