@@ -22,3 +22,4 @@ pub mod Buses
 pub mod Maps
 pub mod Setups
 pub mod Rings
+pub mod Chained

@@ -12,3 +12,4 @@ pub mod Prepared
 pub mod Rounds
 pub mod Setup
 pub mod Rings
+pub mod Switching
