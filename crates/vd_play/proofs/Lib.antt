@@ -23,3 +23,5 @@ pub mod Maps
 pub mod Setups
 pub mod Rings
 pub mod Chained
+pub mod Laying
+pub mod Trees

@@ -13,3 +13,4 @@ pub mod Rounds
 pub mod Setup
 pub mod Rings
 pub mod Switching
+pub mod Tree

@@ -15,6 +15,7 @@ mod ring_addr;
 mod rounds;
 mod setup;
 mod shadows;
+mod tree;
 mod turn;
 
 pub use bench::Bench;
