@@ -25,3 +25,4 @@ pub mod Rings
 pub mod Chained
 pub mod Laying
 pub mod Trees
+pub mod Moves

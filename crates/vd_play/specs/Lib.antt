@@ -14,3 +14,4 @@ pub mod Setup
 pub mod Rings
 pub mod Switching
 pub mod Tree
+pub mod Before
