@@ -1,10 +1,11 @@
 -- The tree of a shadow epoch, by which guest addresses become iovas and come back.
-use Rattle.std.specs.Prelude.{◌≡◌, ℕ, ◌+◌, ◌^◌, ◌<◌, ◌≤◌, true, false, List, length, slice_get, Some}
+use Rattle.std.specs.Prelude.{◌≡◌, ℕ, ◌+◌, ◌^◌, ◌<◌, ◌≤◌, false, List, length, slice_get, Some}
 use Rattle.std.specs.List.{All}
-use Rattle.vd_model.specs.declared.chain.Piece.{Piece}
 use Rattle.vd_model.specs.declared.map.Mapping.{Mapping}
-use Rattle.vd_model.specs.Maps.{to, back, lies_in}
+use Rattle.vd_model.specs.Maps.{to}
 use Rattle.vd_iova.specs.Ranges.{meets_iova}
+use Rattle.vd_relay.specs.Pairing.{Covers}
+use Rattle.vd_switch.specs.ShadowingLanes.{IsUndone}
 use Rattle.vd_machine.specs.File.{Plan}
 use Rattle.vd_machine.specs.declared.regions.Region.{Region}
 use Rattle.vd_play.specs.Journal.{pass_map, shadow_map}
@@ -21,6 +22,6 @@ pub record IsTreeOf (plan : Plan) (mappings : List Mapping) : Type 0 where
   -- a range that lies in one region has one iova by both
   pub same : (addr len : ℕ) → 0 < len → to mappings addr len ≡ to (shadow_map plan) addr len
   -- and comes back from there
-  pub undone : (addr len iova : ℕ) → 0 < len → to mappings addr len ≡ Some iova → back mappings iova len ≡ Some addr
+  pub undone : IsUndone mappings
   -- each piece that lies in the map of the mode pass has an iova
-  pub covers : (p : Piece) → lies_in (pass_map plan) p ≡ true → (lies_in mappings p ≡ true) × (p.addr < 2 ^ 63)
+  pub covers : Covers (pass_map plan) mappings
