@@ -20,3 +20,8 @@ pub mod Passed
 pub mod Buses
 pub mod Maps
 pub mod Setups
+pub mod Rings
+pub mod Chained
+pub mod Laying
+pub mod Trees
+pub mod Moves

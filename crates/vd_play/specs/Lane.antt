@@ -19,8 +19,9 @@ use Rattle.vd_machine.specs.File.{Plan}
 use Rattle.vd_machine.specs.declared.limits.TheConstants.{MOST_CHAINS}
 use Rattle.vd_play.specs.Before.{events_before, chains_before, begun_at}
 use Rattle.vd_play.specs.Epochs.{AreChained, AreNumbered, mode_at}
-use Rattle.vd_play.specs.Journal.{queue_script, queue_chains, queue_epochs, guest_frame, attach_event}
+use Rattle.vd_play.specs.Journal.{queue_script, queue_chains, queue_epochs, guest_frame, attach_event, tree_map}
 use Rattle.vd_play.specs.Setting.{Setting}
+use Rattle.vd_play.specs.Tree.{IsTreeOf}
 
 -- what the machine's rules and its ring's size say of a queue
 pub record IsQueue (l : LayoutModel) (plan : Plan) (q : ℕ) : Type 0 where
@@ -32,6 +33,7 @@ pub record IsQueue (l : LayoutModel) (plan : Plan) (q : ℕ) : Type 0 where
   pub epochs : length (queue_epochs plan q) ≤ 18
   pub chained : AreChained (length (queue_chains plan q)) (queue_epochs plan q)
   pub numbered : AreNumbered plan (queue_epochs plan q)
+  pub tree : IsTreeOf plan (tree_map plan)
   pub fits : All (Fits (guest_frame l plan q)) (queue_chains plan q)
 
 -- the guest's part: it has loaded the queue's script, and holds the driver's end of the queue's ring

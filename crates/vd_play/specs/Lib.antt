@@ -14,3 +14,5 @@ pub mod Prepared
 pub mod Rounds
 pub mod Setup
 pub mod Attaching
+pub mod Switching
+pub mod Tree

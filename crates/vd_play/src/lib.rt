@@ -14,6 +14,7 @@ mod relaying;
 mod ring_addr;
 mod rounds;
 mod setup;
+mod shadows;
 mod tree;
 
 pub use bench::Bench;
