@@ -18,6 +18,9 @@ pub mod Lasting
 pub mod Untouched
 pub mod Making
 pub mod Passed
+pub mod Modes
 pub mod Buses
+pub mod Rings
 pub mod Maps
+pub mod Mapped
 pub mod Setups

@@ -10,4 +10,5 @@ pub mod Played
 pub mod Orders
 pub mod Prepared
 pub mod Rounds
+pub mod Tree
 pub mod Setup

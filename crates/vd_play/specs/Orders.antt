@@ -1,5 +1,5 @@
 -- By what a lane's device is attached.
-use Rattle.std.specs.Prelude.{◌≡◌, ℕ, ◌+◌, ◌<◌, ◌≤◌, ◌^◌, List, length, min, slice_get, Option, None, IsSomeAnd}
+use Rattle.std.specs.Prelude.{◌≡◌, ℕ, ◌+◌, ◌*◌, ◌<◌, ◌≤◌, ◌^◌, List, length, min, slice_get, Option, None, IsSomeAnd}
 use Rattle.std.specs.Option.{option_map_or}
 use Rattle.vd_layout.specs.Device.{DeviceModel, IsStill}
 use Rattle.vd_layout.specs.Layout.{LayoutModel}

@@ -1,4 +1,5 @@
 //! The rings on which a machine is played.
+use vd_iova::IovaTree;
 use vd_layout::Layout;
 use vd_words::PlainWords;
 
@@ -9,8 +10,10 @@ pub struct Lane<E: Drop> {
     pub(crate) still: Option<E>,
 }
 
-/// The rings of all queues, in the machine's order. `prepare` makes it, and `play_machine` takes it.
+/// The rings of all queues, in the machine's order, and the tree that has the machine's regions. `prepare` makes it, and
+/// `play_machine` takes it.
 #[derive(Drop)]
 pub struct Floor<L: Layout> {
     pub(crate) lanes: Vec<Lane<L::Device>>,
+    pub(crate) tree: IovaTree,
 }

@@ -14,6 +14,7 @@ mod preparing;
 mod ring_addr;
 mod rounds;
 mod setup;
+mod tree;
 mod turn;
 
 pub use bench::Bench;

@@ -9,10 +9,12 @@ ghost use Rattle.vd_play.specs.Played.{KeepsBench};
 ghost use Rattle.vd_play.specs.Prepared.{IsOfLayout, IsEmptyGuest, IsEmptyDevice, IsEmptyBench, IsUnused, IsUntouched, IsPrepared};
 ghost use Rattle.vd_play.specs.Progress.{Stopped};
 ghost use Rattle.vd_play.specs.Setting.{setting_of};
+ghost use Rattle.vd_play.specs.Tree.{IsTreeOf};
 
 use crate::bench::Bench;
 use crate::floor::{Floor, Lane};
 use crate::order::chain_count;
+use crate::tree::lay;
 use std::alloc::{AllocError, Global};
 use vd_bus::{Device, Guest};
 use vd_layout::Layout;
@@ -73,13 +75,15 @@ pub fn prepare<L: Layout, G: Guest<L>, V: Device<L>>(
     requires empty { IsEmptyBench G.party V.party bench.old }
     ensures ok { IfOk result (λ floor. IsPrepared (setting_of L.Driver.driver L.Device.device L.layout G.party V.party) (view m.now)
         floor.lanes.items bench.new) }
+    ensures tree { IfOk result (λ floor. IsTreeOf (view m.now) floor.tree.mappings) }
     ensures keeps { KeepsBench V.party (length m.now.queues) bench.old bench.new }
     ensures untouched { IsUntouched G.party V.party bench.old bench.new }
 {
+    let tree = lay(alloc, m)?;
     let mut lanes = Vec::with_capacity(alloc, m.queues.len())?;
     for i in 0..m.queues.len() {
         let lane = make_lane::<L, G, V>(alloc, m, i, &mut bench.guests[i], &mut bench.devices[i])?;
         lanes.push_reserved(lane);
     }
-    Ok(Floor { lanes })
+    Ok(Floor { lanes, tree })
 }

@@ -51,6 +51,7 @@ fn round<L: Layout, G: Guest<L>, V: Device<L>>(
     requires few { length floor.old.lanes.items ≤ 8 }
     requires lanes { (plan : Plan) × (on : Bool) × (k : ℕ) × (r : ℕ)
         × AllInEpoch (setting_of L.Driver.driver L.Device.device L.layout G.party V.party) plan on k r floor.old.lanes.items bench.old }
+    ensures tree { floor.new.tree ≡ floor.old.tree }
     ensures many { length floor.new.lanes.items ≡ length floor.old.lanes.items }
     ensures few { result ≤ 64 }
     ensures keeps { KeepsBench V.party (length floor.old.lanes.items) bench.old bench.new }
@@ -80,6 +81,7 @@ pub(crate) fn run_epoch<L: Layout, G: Guest<L>, V: Device<L>>(
     requires few { length floor.old.lanes.items ≤ 8 }
     requires lanes { (plan : Plan) × (k : ℕ)
         × AllInEpoch (setting_of L.Driver.driver L.Device.device L.layout G.party V.party) plan true k 0 floor.old.lanes.items bench.old }
+    ensures tree { floor.new.tree ≡ floor.old.tree }
     ensures many { length floor.new.lanes.items ≡ length floor.old.lanes.items }
     ensures few { result ≤ 274877906944 }
     ensures keeps { KeepsBench V.party (length floor.old.lanes.items) bench.old bench.new }
