@@ -17,8 +17,11 @@ pub mod Lasting
 pub mod Untouched
 pub mod Making
 pub mod Passed
+pub mod Modes
 pub mod Buses
+pub mod RingsSet
 pub mod Maps
+pub mod Mapped
 pub mod Setups
 pub mod Rings
 pub mod Chained

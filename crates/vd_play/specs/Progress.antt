@@ -187,13 +187,13 @@ InEpochWith s plan q on k n words (Some end) (Some x) relayed guest device = ⊥
 pub record Stopped {L D E G X C : Type 0} (s : Setting D E G X C) (plan : Plan) (q k : ℕ) (lane : Lane L D E) (guest : G) (device : X)
     : Type 0 where
   pub held : StoppedWith s plan q k lane.words lane.still lane.relaying lane.relayed guest device
-  pub kits : HasKits s plan q k lane.kits.items
+  pub kits : HasKits s.driver s.device s.layout plan q k lane.kits.items
 
 -- the lane is passing or shadowing in epoch k, unless it is closed, or has come to its end; it has the shadow rings behind that
 pub record InEpoch {L D E G X C : Type 0} (s : Setting D E G X C) (plan : Plan) (q : ℕ) (on : Bool) (k n : ℕ) (lane : Lane L D E)
     (guest : G) (device : X) : Type 0 where
   pub held : InEpochWith s plan q on k n lane.words lane.still lane.relaying lane.relayed guest device
-  pub kits : HasKits s plan q (k + 1) lane.kits.items
+  pub kits : HasKits s.driver s.device s.layout plan q (k + 1) lane.kits.items
 
 -- ---- all lanes
 

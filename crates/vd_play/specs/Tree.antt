@@ -8,7 +8,7 @@ use Rattle.vd_relay.specs.Pairing.{Covers}
 use Rattle.vd_switch.specs.ShadowingLanes.{IsUndone}
 use Rattle.vd_machine.specs.File.{Plan}
 use Rattle.vd_machine.specs.declared.regions.Region.{Region}
-use Rattle.vd_play.specs.Journal.{pass_map, shadow_map}
+use Rattle.vd_play.specs.Journal.{pass_map, shadow_map, tree_map}
 
 -- the tree has each region at its lowest iova: where the map of a shadow epoch, in file order, has it
 pub record IsTreeOf (plan : Plan) (mappings : List Mapping) : Type 0 where
@@ -25,3 +25,8 @@ pub record IsTreeOf (plan : Plan) (mappings : List Mapping) : Type 0 where
   pub undone : IsUndone mappings
   -- each piece that lies in the map of the mode pass has an iova
   pub covers : Covers (pass_map plan) mappings
+
+-- it is the one that keeps the map of a shadow epoch in order of iova
+pub record IsLaid (plan : Plan) (mappings : List Mapping) : Type 0 where
+  pub mapped : mappings ≡ tree_map plan
+  pub tree : IsTreeOf plan mappings

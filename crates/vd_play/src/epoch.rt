@@ -5,12 +5,16 @@ ghost use Rattle.vd_bus.specs.BusRings.{enable_fault, order_fault, terms};
 ghost use Rattle.vd_bus.specs.Device.{IsAttach, IsRefused};
 ghost use Rattle.vd_machine.specs.File.{view};
 ghost use Rattle.vd_play.specs.Each.{EachLane, HasLanes};
+ghost use Rattle.vd_play.specs.Epochs.{mode_at};
+ghost use Rattle.vd_play.specs.Prepared.{IsOfLayout};
+ghost use Rattle.vd_play.specs.Tree.{IsLaid};
+ghost use Rattle.vd_play.specs.Epochs.{mode_at};
 ghost use Rattle.vd_play.specs.Orders.{CanAttach};
 ghost use Rattle.vd_play.specs.Attaching.{IsSameLane, CanShadow, HasShadowed, removed_last};
 ghost use Rattle.vd_play.specs.Played.{IsCut, KeepsBench, HasNoFault, IsFaultOf, faulty};
-ghost use Rattle.vd_play.specs.Progress.{AllStopped, AllInEpoch, all_steps};
+ghost use Rattle.vd_play.specs.Progress.{AllStopped, AllInEpoch, all_made};
 ghost use Rattle.vd_play.specs.Setting.{setting_of};
-ghost use Rattle.vd_play.specs.Setup.{on, serving, HasBase, IsReady, IsUp, HasRings};
+ghost use Rattle.vd_play.specs.Setup.{on, serving, HasBase, IsReady, IsUp, HasSizes};
 
 use crate::bench::Bench;
 use crate::calls::{enable, order};
@@ -138,16 +142,19 @@ pub(crate) fn attach_all<L: Layout, G: Guest<L>, V: Device<L>>(
     requires many { length floor.old.lanes.items ≡ length m.now.queues }
     requires parties { HasLanes (length m.now.queues) bench.old }
     requires epoch { epoch < length m.now.switches + 2 }
-    requires ready { IsReady L.Device.device (view m.now) floor.old.lanes.items bus.old }
+    requires ready { IsReady L.Device.device L.layout.fresh_base (view m.now) (mode_at (view m.now) epoch) epoch
+        floor.old.lanes.items bus.old }
     requires lanes { AllStopped (setting_of L.Driver.driver L.Device.device L.layout G.party V.party) (view m.now) epoch
         floor.old.lanes.items bench.old }
     ensures many { length floor.new.lanes.items ≡ length floor.old.lanes.items }
-    ensures up { OnOk result (IsUp (view m.now) bus.new × HasRings (view m.now) bus.new) }
+    ensures tree { floor.new.tree ≡ floor.old.tree }
+    ensures up { OnOk result (IsUp (view m.now) (mode_at (view m.now) epoch) bus.new × HasSizes (view m.now) bus.new) }
     ensures keeps { KeepsBench V.party (length m.now.queues) bench.old bench.new }
     ensures lanes { IfOk result (λ _. AllInEpoch (setting_of L.Driver.driver L.Device.device L.layout G.party V.party) (view m.now)
         true epoch 0 floor.new.lanes.items bench.new) }
-    ensures counted { IfOk result (λ _. all_steps (setting_of L.Driver.driver L.Device.device L.layout G.party V.party) bench.new
-        ≡ all_steps (setting_of L.Driver.driver L.Device.device L.layout G.party V.party) bench.old) }
+    ensures counted { IfOk result (λ _. all_made (setting_of L.Driver.driver L.Device.device L.layout G.party V.party)
+        floor.new.lanes.items bench.new
+        ≡ all_made (setting_of L.Driver.driver L.Device.device L.layout G.party V.party) floor.old.lanes.items bench.old) }
     ensures faults { IfOk result (λ _. HasNoFault V.party bench.old bench.new) }
     ensures cut { IfErr result (λ f. EachLane
         (λ q a b x. IsCut (setting_of L.Driver.driver L.Device.device L.layout G.party V.party) (view m.now) q b x)

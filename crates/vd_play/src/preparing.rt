@@ -7,8 +7,11 @@ ghost use Rattle.vd_machine.specs.File.{view};
 ghost use Rattle.vd_play.specs.Each.{HasLanes};
 ghost use Rattle.vd_play.specs.Played.{KeepsBench};
 ghost use Rattle.vd_play.specs.Prepared.{IsOfLayout, IsEmptyGuest, IsEmptyDevice, IsEmptyBench, IsUnused, IsUntouched, IsPrepared};
+ghost use Rattle.vd_play.specs.Journal.{tree_map};
+ghost use Rattle.vd_play.specs.Kits.{IsShadowRing, HasKits};
 ghost use Rattle.vd_play.specs.Progress.{Stopped};
 ghost use Rattle.vd_play.specs.Setting.{setting_of};
+ghost use Rattle.vd_play.specs.Tree.{IsLaid, IsTreeOf};
 
 use crate::bench::Bench;
 use crate::floor::{Floor, Lane, ShadowRing};
@@ -37,6 +40,9 @@ fn make_kits<L: Layout>(
     m: &Machine,
     queue: u32,
 ) -> Result<Vec<ShadowRing<L>>, AllocError>
+    requires layout { IsOfLayout L.layout (view m.now) }
+    requires queue { queue < 8 }
+    ensures { IfOk result (λ kits. HasKits L.Driver.driver L.Device.device L.layout (view m.now) queue 0 kits.items) }
 {
     let mut kits = Vec::new(alloc);
     let epochs = m.switches.len() + 2;
@@ -56,6 +62,10 @@ fn make_shadow_ring<L: Layout>(
     queue: u32,
     epoch: u32,
 ) -> Result<ShadowRing<L>, AllocError>
+    requires layout { IsOfLayout L.layout (view m.now) }
+    requires queue { queue < 8 }
+    requires epoch { epoch < 18 }
+    ensures { IfOk result (λ ring. IsShadowRing L.Driver.driver L.Device.device L.layout (view m.now) queue epoch ring) }
 {
     let words = L::words(m.size, m.features, false);
     let words = PlainWords::new(alloc, 16 * (epoch + 1) + queue, words)?;
@@ -72,6 +82,7 @@ fn make_lane<L: Layout, G: Guest<L>, V: Device<L>>(
     device: &mut V,
 ) -> Result<Lane<L>, AllocError>
     requires layout { IsOfLayout L.layout (view m.now) }
+    requires tree { IsTreeOf (view m.now) (tree_map (view m.now)) }
     requires queue { queue < length m.now.queues }
     requires guest { IsEmptyGuest G.party guest.old }
     requires device { IsEmptyDevice V.party device.old }
@@ -111,6 +122,7 @@ pub fn prepare<L: Layout, G: Guest<L>, V: Device<L>>(
     requires empty { IsEmptyBench G.party V.party bench.old }
     ensures ok { IfOk result (λ floor. IsPrepared (setting_of L.Driver.driver L.Device.device L.layout G.party V.party) (view m.now)
         floor.lanes.items bench.new) }
+    ensures tree { IfOk result (λ floor. IsLaid (view m.now) floor.tree.mappings) }
     ensures keeps { KeepsBench V.party (length m.now.queues) bench.old bench.new }
     ensures untouched { IsUntouched G.party V.party bench.old bench.new }
 {

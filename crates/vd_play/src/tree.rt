@@ -2,6 +2,7 @@
 ghost use Rattle.std.specs.Prelude.{◌≡◌, IfOk};
 ghost use Rattle.vd_iova.specs.Trees.{IsKept};
 ghost use Rattle.vd_machine.specs.File.{view};
+ghost use Rattle.vd_play.specs.Journal.{tree_map};
 ghost use Rattle.vd_play.specs.Tree.{IsTreeOf};
 
 use std::alloc::{AllocError, Global};
@@ -12,6 +13,7 @@ use vd_machine::Machine;
 /// so only memory can run out.
 pub(crate) fn lay(alloc: Global, m: &Machine) -> Result<IovaTree, AllocError>
     ensures laid { IfOk result (λ t. IsTreeOf (view m.now) t.mappings) }
+    ensures mapped { IfOk result (λ t. t.mappings ≡ tree_map (view m.now)) }
     ensures kept { IfOk result (λ t. IsKept t) }
     ensures first { IfOk result (λ t. t.first ≡ m.now.first) }
     ensures last { IfOk result (λ t. t.last ≡ m.now.last) }
