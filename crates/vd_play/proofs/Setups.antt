@@ -22,7 +22,7 @@ use Rattle.vd_play.specs.declared.floor.Lane.{Lane}
 use Rattle.vd_play.specs.declared.bench.Bench.{Bench}
 use Rattle.vd_play.specs.Each.{HasLanes}
 use Rattle.vd_play.specs.Journal.{map_in, ring_in, guest_frame, queue_chains}
-use Rattle.vd_play.specs.Lane.{begun_at}
+use Rattle.vd_play.specs.Before.{begun_at}
 use Rattle.vd_play.specs.Orders.{pass_order, shadow_order}
 use Rattle.vd_play.specs.Prepared.{IsOfLayout}
 use Rattle.vd_play.specs.Progress.{AllStopped, IsStopped, StoppedWith}
@@ -61,7 +61,7 @@ pub driver_ok : (plan : Plan) (ms : List Mapping) (b : BusState) → b ≡ set_u
     → list_all is_ready b.vrings ≡ true → status_fault b 15 ≡ None
 driver_ok plan ms b is ready = subst (λ (c : BusState). status_fault c 15 ≡ None) (sym is) (rw ready refl)
 
-pub ready_first : {E : Type 0} (e : DeviceModel E) (base : ℕ) (plan : Plan) (m : Mode) (k : ℕ) (lanes : List (Lane E)) (b c : BusState)
+pub ready_first : {E : Type 0} (e : DeviceModel E) (base : ℕ) (plan : Plan) (m : Mode) (k : ℕ) (lanes : List (Lane L D E)) (b c : BusState)
     → b ≡ set_up plan 11 false b.vrings (map_in plan m) → HasRings plan m k b → HasBases e base plan m lanes b
     → c ≡ after_status b 15 → IsReady e base plan m k lanes c
 ready_first e base plan m k lanes b c is rings bases set = subst (λ (z : BusState). IsReady e base plan m k lanes z) (sym set) (record {
@@ -99,7 +99,7 @@ next_base : {E : Type 0} (e : DeviceModel E) (base : ℕ) (m : Mode) (still : Op
 next_base e base Pass still n none h still' = let is = none refl in absurd (cc (h, ap (option_map e.base) is))
 next_base e base Shadow still n none h still' = h
 
-module _ {E : Type 0} (e : DeviceModel E) (base : ℕ) (plan : Plan) (m : Mode) (k : ℕ) (lanes : List (Lane E)) (b : BusState)
+module _ {E : Type 0} (e : DeviceModel E) (base : ℕ) (plan : Plan) (m : Mode) (k : ℕ) (lanes : List (Lane L D E)) (b : BusState)
     (r : IsReady e base plan m k lanes b) (q : ℕ) (low : q < length plan.queues) where
   -- the ring of the queue, once it is enabled
   served : vring_of (serving b q) q ≡ record (vring_at plan b q) { enabled = true }
@@ -183,7 +183,7 @@ module _ {E : Type 0} (e : DeviceModel E) (base : ℕ) (plan : Plan) (m : Mode) 
 -- ---- the lanes
 
 -- each end that a still lane keeps can serve
-pub still_serve : {D E G X C : Type 0} (s : Setting D E G X C) (law : IsLawful s) (plan : Plan) (k n : ℕ) (lanes : List (Lane E))
+pub still_serve : {D E G X C : Type 0} (s : Setting D E G X C) (law : IsLawful s) (plan : Plan) (k n : ℕ) (lanes : List (Lane L D E))
     (bench : Bench G X) → IsOfLayout s.layout plan → length lanes ≡ n → HasLanes n bench → AllStopped s plan k lanes bench
     → AllServe s.device plan lanes
 still_serve s law plan k n lanes bench of many parties stopped q lane end at is =

@@ -119,6 +119,7 @@ pub record HasRelayHeard {D E G X C : Type 0} (s : Setting D E G X C) (plan : Pl
   pub low : before ≤ relays_bound plan q k relays
   pub counted : relayed ≡ before + c.accesses
   pub handled : c.handled + 2 * begun_at plan q k ≤ did r v w sv
+  pub pace : c.accesses ≤ 64 * (c.handled + c.heard + 1)
 
 -- in epoch k of the mode shadow, the device attached to the shadow ring. Of two rounds one has made a step that was no look; in the last
 -- one all may have looked

@@ -46,7 +46,7 @@ loop-epoch-init g c = record {
 
 pub set_up-requires-clause-ends : goal.set_up-requires-clause-ends
 set_up-requires-clause-ends g c =
-    subst (λ (lanes : List (Lane _)). AllServe g.L.Device.DeviceEnd.device (view c.args.m.now) lanes) (sym c.as_slice.ensures.value)
+    subst (λ (lanes : List (Lane _ _ _)). AllServe g.L.Device.DeviceEnd.device (view c.args.m.now) lanes) (sym c.as_slice.ensures.value)
     (still_serve (setting_of g.L.Driver.DriverEnd.driver g.L.Device.DeviceEnd.device g.L.Layout.layout g.G.Guest.party g.V.Device.party)
     (record { layout = g.met.L.Layout.lawful; guest = g.met.G.Guest.lawful; party = g.met.V.Device.lawful })
     (view c.args.m.now) c.loop-epoch.epoch (length c.args.m.now.queues) c.loop-epoch.floor.lanes.items c.loop-epoch.bench

@@ -42,11 +42,11 @@ loop-q-preserved g c =
     let sizes : HasSizes plan b = sizes_kept plan c.args.bus.now b v.keeps c.requires.sizes in
     let at = slice_get_read c.args.lanes.now _ q c.index-lanes-q.result refl (omega (arith, low, c.requires.many)) c.index-lanes-q.is in
     -- what is asked of the lane that the queue has
-    let mine : (k z : ℕ) (lane : Lane _) → k ≡ q → slice_get c.args.lanes.now k ≡ Some lane
+    let mine : (k z : ℕ) (lane : Lane _ _ _) → k ≡ q → slice_get c.args.lanes.now k ≡ Some lane
     → base_in g.L.Device.DeviceEnd.device g.L.Layout.layout.fresh_base c.args.mode lane.still ≡ Some z
     → option_map (λ (y : Base). y.0) c.base_in.result ≡ Some z =
     λ k z lane e there is. sym c.base_in.ensures
-    ∙ ap (λ (l : Lane _). base_in g.L.Device.DeviceEnd.device g.L.Layout.layout.fresh_base c.args.mode l.still)
+    ∙ ap (λ (l : Lane _ _ _). base_in g.L.Device.DeviceEnd.device g.L.Layout.layout.fresh_base c.args.mode l.still)
     (some_same c.index-lanes-q.result lane (slice_get c.args.lanes.now q) at (ap (λ (j : ℕ). slice_get c.args.lanes.now j) (sym e) ∙ there))
     ∙ is in
     elim c.match-base_in.branch [
@@ -67,7 +67,7 @@ loop-q-preserved g c =
       | in_default w ↦ subst (λ (z : BusState). record {
         same : z ≡ with_vrings c.args.bus.now z.vrings;
         keeps : KeepsRings plan c.args.bus.now z;
-        bases : (k m : ℕ) (lane : Lane _) → k < q + 1 → slice_get c.args.lanes.now k ≡ Some lane
+        bases : (k m : ℕ) (lane : Lane _ _ _) → k < q + 1 → slice_get c.args.lanes.now k ≡ Some lane
             → base_in g.L.Device.DeviceEnd.device g.L.Layout.layout.fresh_base c.args.mode lane.still ≡ Some m
             → (vring_at plan z k).base ≡ m;
       }) (sym w.bus-is) (record {

@@ -8,7 +8,7 @@ abbrev pub invariant-loop-q : goal.invariant-loop-q
 invariant-loop-q g l = record {
   same : l.bus ≡ with_vrings l.initial.bus l.bus.vrings;
   keeps : KeepsRings (view l.m) l.initial.bus l.bus;
-  bases : (k n : ℕ) (lane : Lane _) → k < l.q → slice_get l.lanes k ≡ Some lane
+  bases : (k n : ℕ) (lane : Lane _ _ _) → k < l.q → slice_get l.lanes k ≡ Some lane
       → base_in g.L.Device.DeviceEnd.device g.L.Layout.layout.fresh_base l.mode lane.still ≡ Some n
       → (vring_at (view l.m) l.bus k).base ≡ n;
 }
