@@ -15,7 +15,7 @@ use Rattle.vd_bus.specs.Pace.{attaches}
 use Rattle.vd_machine.specs.File.{Plan}
 use Rattle.vd_ring.specs.declared.frame.Frame.{Frame}
 use Rattle.vd_play.specs.Journal.{queue_script, queue_chains, queue_epochs, guest_frame, attach_event, base_at, pass_map}
-use Rattle.vd_play.specs.Lane.{events_before, begun_at}
+use Rattle.vd_play.specs.Before.{events_before, begun_at}
 use Rattle.vd_play.specs.Orders.{pass_order, stop_of, CanAttach}
 use Rattle.vd_play.specs.Progress.{IsStopped, IsPassing, StoppedWith, InEpochWith}
 use Rattle.vd_play.specs.Setting.{Setting, IsLawful}

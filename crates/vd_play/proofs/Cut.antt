@@ -11,7 +11,8 @@ use Rattle.vd_ring.specs.declared.device.DeviceView.{DeviceView}
 use Rattle.vd_bus.specs.Device.{IsRefused, IsBegun, chains_of, lens_of}
 use Rattle.vd_machine.specs.File.{Plan}
 use Rattle.vd_play.specs.Journal.{queue_script, queue_chains, queue_epochs, epoch_events, attach_event, suspend_event, journal_events, journal_chains, HasLen}
-use Rattle.vd_play.specs.Lane.{IsKept, events_before, begun_at}
+use Rattle.vd_play.specs.Before.{events_before, begun_at}
+use Rattle.vd_play.specs.Lane.{IsKept}
 use Rattle.vd_play.specs.Played.{IsCut}
 use Rattle.vd_play.specs.Progress.{IsStopped, IsPassing, StoppedWith, InEpochWith}
 use Rattle.vd_play.specs.Setting.{Setting, IsLawful}

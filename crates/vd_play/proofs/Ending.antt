@@ -10,7 +10,7 @@ use Rattle.vd_bus.specs.Device.{lens_of}
 use Rattle.vd_bus.specs.Guest.{IsHalt, as_return}
 use Rattle.vd_machine.specs.File.{Plan}
 use Rattle.vd_play.specs.Journal.{queue_script, queue_chains, queue_epochs, epoch_events, IsReturned}
-use Rattle.vd_play.specs.Lane.{events_before, begun_at}
+use Rattle.vd_play.specs.Before.{events_before, begun_at}
 use Rattle.vd_play.specs.Played.{IsPlayed}
 use Rattle.vd_play.specs.Progress.{IsStopped, InEpochWith}
 use Rattle.vd_play.specs.Setting.{Setting, IsLawful}

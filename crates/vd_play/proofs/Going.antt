@@ -13,11 +13,12 @@ use Rattle.vd_bus.specs.Device.{IsSuspend}
 use Rattle.vd_bus.specs.Pace.{attaches}
 use Rattle.vd_machine.specs.File.{Plan}
 use Rattle.vd_play.specs.Journal.{queue_chains, queue_epochs, epoch_events, attach_event, suspend_event}
-use Rattle.vd_play.specs.Lane.{IsKept, events_before, begun_at}
+use Rattle.vd_play.specs.Before.{events_before, begun_at}
+use Rattle.vd_play.specs.Lane.{IsKept}
 use Rattle.vd_play.specs.Progress.{IsPaced, IsStopped, IsPassing, InEpochWith, steps}
 use Rattle.vd_play.specs.Rounds.{IsSuspended}
 use Rattle.vd_play.specs.Setting.{Setting, IsLawful}
-use Rattle.vd_play.specs.Turns.{CanDrive, GuestTurn, GuestTurns, DeviceTurn}
+use Rattle.vd_turns.specs.Turns.{CanDrive, GuestTurn, GuestTurns, DeviceTurn}
 use Rattle.vd_play.proofs.Bounds.{Bounded, bounded, flat_more}
 use Rattle.vd_play.proofs.Keep.{kept_guest, kept_device, kept_still, begun_of, base_of}
 use Rattle.vd_play.proofs.Pace.{guest_paced, device_paced, attaches_more}

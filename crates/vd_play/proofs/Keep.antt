@@ -16,7 +16,7 @@ use Rattle.vd_machine.specs.File.{Plan}
 use Rattle.vd_play.specs.Journal.{queue_script, queue_chains, guest_frame, base_at}
 use Rattle.vd_play.specs.Lane.{IsDriven, Account, IsKept}
 use Rattle.vd_play.specs.Setting.{Setting, IsLawful}
-use Rattle.vd_play.specs.Turns.{GuestRun, DeviceRun}
+use Rattle.vd_turns.specs.Turns.{GuestRun, DeviceRun}
 use Rattle.vd_play.proofs.Lists.{prefix_at, prefix_through, prefix_take, chains_joined, begun_joined, given_joined}
 
 module _ {D E G X C : Type 0} (s : Setting D E G X C) (law : IsLawful s) (plan : Plan) (q : ℕ) where

@@ -12,7 +12,7 @@ use Rattle.vd_play.specs.declared.bench.Bench.{Bench}
 use Rattle.vd_play.specs.declared.floor.Lane.{Lane}
 use Rattle.vd_play.specs.Each.{HasLanes}
 use Rattle.vd_play.specs.Journal.{queue_script, queue_chains, queue_epochs}
-use Rattle.vd_play.specs.Lane.{begun_at}
+use Rattle.vd_play.specs.Before.{begun_at}
 use Rattle.vd_play.specs.Prepared.{IsIdle}
 use Rattle.vd_play.specs.Played.{KeepsBench}
 use Rattle.vd_play.specs.Progress.{IsStopped, StoppedWith, InEpochWith, AllInEpoch, AllStopped, steps, all_steps, guest_bound, device_bound, most_steps}
@@ -92,16 +92,16 @@ module _ {D E G X C : Type 0} (s : Setting D E G X C) (plan : Plan) (q : ℕ) wh
 -- ---- all lanes
 
 module _ {D E G X C : Type 0} (s : Setting D E G X C) (plan : Plan) where
-  pub all_closed : (k : ℕ) (lanes : List (Lane E)) (bench : Bench G X) → AllStopped s plan (k + 1) lanes bench
+  pub all_closed : (k : ℕ) (lanes : List (Lane L D E)) (bench : Bench G X) → AllStopped s plan (k + 1) lanes bench
       → AllInEpoch s plan false k 0 lanes bench
   all_closed k lanes bench each = record { at = λ q a b x ha hb hx. closed s plan q k a.words a.still b x (each.at q a b x ha hb hx) }
 
-  pub all_late : (k r : ℕ) (lanes : List (Lane E)) (bench : Bench G X) → 4294967296 ≤ r → AllInEpoch s plan true k r lanes bench
+  pub all_late : (k r : ℕ) (lanes : List (Lane L D E)) (bench : Bench G X) → 4294967296 ≤ r → AllInEpoch s plan true k r lanes bench
       → AllStopped s plan (k + 1) lanes bench
   all_late k r lanes bench late each =
       record { at = λ q a b x ha hb hx. stopped_late s plan q k r a.words a.still b x late (each.at q a b x ha hb hx) }
 
-  pub all_still : (on : Bool) (k r : ℕ) (lanes : List (Lane E)) (bench : Bench G X)
+  pub all_still : (on : Bool) (k r : ℕ) (lanes : List (Lane L D E)) (bench : Bench G X)
       → list_all (λ (l : Lane E). is_some l.still) lanes ≡ true → AllInEpoch s plan on k r lanes bench
       → AllStopped s plan (k + 1) lanes bench
   all_still on k r lanes bench still each =
@@ -110,7 +110,7 @@ module _ {D E G X C : Type 0} (s : Setting D E G X C) (plan : Plan) where
             (all_at (λ (l : Lane E). is_some l.still) lanes q a still ha) (each.at q a b x ha hb hx);
       }
 
-  pub guests_done : (k r : ℕ) (lanes : List (Lane E)) (bench : Bench G X) → IsLast plan k → HasLanes (length lanes) bench
+  pub guests_done : (k r : ℕ) (lanes : List (Lane L D E)) (bench : Bench G X) → IsLast plan k → HasLanes (length lanes) bench
       → 4294967296 ≤ r → AllInEpoch s plan false k r lanes bench → AllDone s.guest (length lanes) bench
   guests_done k r lanes bench last h late each = λ q b below hb.
       let a = at_index lanes q below in
@@ -118,7 +118,7 @@ module _ {D E G X C : Type 0} (s : Setting D E G X C) (plan : Plan) where
       done_late s plan q k r a.0.words a.0.still b x.0 (last q) late (each.at q a.0 b x.0 a.1 hb x.1)
 
   -- the sum of all steps, where the parties beyond the queues have made none
-  pub all_low : (on : Bool) (k r : ℕ) (lanes : List (Lane E)) (old bench : Bench G X) → length lanes ≡ length plan.queues
+  pub all_low : (on : Bool) (k r : ℕ) (lanes : List (Lane L D E)) (old bench : Bench G X) → length lanes ≡ length plan.queues
       → HasLanes (length plan.queues) bench → IsIdle s old → KeepsBench s.party (length plan.queues) old bench
       → AllInEpoch s plan on k r lanes bench
       → all_steps s bench ≤ most_steps plan

@@ -2,7 +2,6 @@ pub mod Switches
 pub mod Lists
 pub mod Bounds
 pub mod Each
-pub mod Turning
 pub mod InMap
 pub mod Quiet
 pub mod Pace
@@ -18,6 +17,14 @@ pub mod Lasting
 pub mod Untouched
 pub mod Making
 pub mod Passed
+pub mod Modes
 pub mod Buses
+pub mod RingsSet
 pub mod Maps
+pub mod Mapped
 pub mod Setups
+pub mod Rings
+pub mod Chained
+pub mod Laying
+pub mod Trees
+pub mod Moves

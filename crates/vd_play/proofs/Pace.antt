@@ -20,7 +20,7 @@ use Rattle.vd_play.specs.Journal.{queue_script, queue_chains}
 use Rattle.vd_play.specs.Lane.{IsDriven}
 use Rattle.vd_play.specs.Progress.{guest_bound, device_bound}
 use Rattle.vd_play.specs.Setting.{Setting, IsLawful}
-use Rattle.vd_play.specs.Turns.{GuestRun, DeviceRun}
+use Rattle.vd_turns.specs.Turns.{GuestRun, DeviceRun}
 use Rattle.vd_play.proofs.Quiet.{offers_le}
 
 pub attaches_more : (es fs : List Event) → attaches (es ++ fs) ≡ attaches es + attaches fs

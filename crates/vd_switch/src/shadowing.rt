@@ -77,6 +77,13 @@ impl<L: Layout> Shadowing<L> {
         self.relay.begin_wind_up(end.given());
     }
 
+    /// Whether it winds up.
+    pub fn winds(&self) -> bool
+        ensures { result ≡ self.now.relay.state.winding }
+    {
+        self.relay.state.winding
+    }
+
     /// Whether the guest's end rests.
     pub fn rested(&self) -> bool
         ensures { result ≡ is_rested self.now.relay.state.stage }

@@ -2,6 +2,7 @@ use Rattle.std.proofs.Common.{◌≡◌, ◌<◌, ◌-◌, ℕ, true, None, leng
 use Rattle.std.specs.Vec.{with_item}
 use Rattle.std.proofs.lemmas.Option.{slice_get_read}
 use Rattle.std.proofs.lemmas.List.{length-set}
+use Rattle.vd_model.specs.declared.base.Mode.TheVariants.{Pass}
 use Rattle.vd_model.specs.declared.record.Script.{Script}
 use Rattle.vd_bus.specs.Scripts.{run_count}
 use Rattle.vd_bus.specs.Bus.{BusState}
@@ -10,6 +11,7 @@ use Rattle.vd_bus.specs.Orders.{Terms}
 use Rattle.vd_machine.specs.File.{view}
 use Rattle.vd_play.specs.declared.bench.Bench.{Bench}
 use Rattle.vd_play.specs.declared.epoch.PlayFault.{PlayFault}
+use Rattle.vd_play.specs.Epochs.{mode_at}
 use Rattle.vd_play.specs.Orders.{stop_of, pass_order, CanAttach}
 use Rattle.vd_play.specs.Played.{KeepsBench, IsFaultOf, faulty}
 use Rattle.vd_play.proofs.Begin.{asks, begins, stop_is}
@@ -18,7 +20,8 @@ use Rattle.vd_play.proofs.Bounds.{at_index}
 use Rattle.vd_play.proofs.Cut.{cut_still, cut_refused, cut_epoch, if_err_any, if_err_by}
 use Rattle.vd_play.specs.Setting.{setting_of}
 use Rattle.vd_play.specs.Setup.{IsReady}
-use Rattle.vd_play.proofs.Setups.{can_enable, can_order, base_kept, ordered_is, ready_next}
+use Rattle.vd_play.proofs.Modes.{mode_unswitched}
+use Rattle.vd_play.proofs.Setups.{rings_sized, can_enable, can_order, base_kept, ordered_is, ready_next}
 use Rattle.vd_play.proofs.Sums.{sum_set}
 use Rattle.vd_play.proofs.Each.{stage_end, stage_read, stage_device, set_same, all_but_one}
 use Rattle.vd_play.proofs.epoch.attach_all.Goals as goal
@@ -27,7 +30,10 @@ pub returns-clause-counted : goal.returns-clause-counted
 returns-clause-counted g c = c.loop-i.invariant.counted
 
 pub returns-clause-up : goal.returns-clause-up
-returns-clause-up g c = (c.loop-i.invariant.ready.up, c.loop-i.invariant.ready.rings)
+returns-clause-up g c = (
+  c.loop-i.invariant.ready.up,
+  rings_sized (view c.args.m.now) (mode_at (view c.args.m.now) c.args.epoch) c.args.epoch c.loop-i.bus c.loop-i.invariant.ready.rings,
+)
 
 pub returns-clause-lanes : goal.returns-clause-lanes
 returns-clause-lanes g c = stage_end _ _ c.loop-i.i _ _ _ (omega arith) c.loop-i.invariant.each
@@ -58,6 +64,8 @@ overflow_sub-count g c =
 
 pub attach-requires : goal.attach-requires
 attach-requires g c =
+    let passing : mode_at (view c.args.m.now) c.args.epoch ≡ Pass =
+    mode_unswitched (view c.args.m.now) c.args.epoch c.args.m.now.unswitched c.args.m.now.passing in
     let i = c.loop-i.i in
     let f = c.loop-i.invariant.parties in
     let below : i < length c.args.m.now.queues = omega (arith, c.loop-i.invariant.many, c.requires.many) in
@@ -81,12 +89,15 @@ attach-requires g c =
     record {
       can = subst (λ n. CanAttach g.L.Device.DeviceEnd.device g.V.Device.party i
           (c.stop_of-stop.result - n) c.index_mut.result.now.still c.index_mut-device.result.now) begun a.1;
-      enabled = can_enable g.L.Device.DeviceEnd.device (view c.args.m.now) c.loop-i.floor.lanes.items c.loop-i.bus
+      enabled = can_enable g.L.Device.DeviceEnd.device g.L.Layout.layout.fresh_base (view c.args.m.now)
+          (mode_at (view c.args.m.now) c.args.epoch) c.args.epoch c.loop-i.floor.lanes.items c.loop-i.bus
           c.loop-i.invariant.ready i below;
-      ordered = can_order g.L.Device.DeviceEnd.device (view c.args.m.now) c.loop-i.floor.lanes.items c.loop-i.bus
+      ordered = can_order g.L.Device.DeviceEnd.device g.L.Layout.layout.fresh_base (view c.args.m.now)
+          (mode_at (view c.args.m.now) c.args.epoch) c.args.epoch c.loop-i.floor.lanes.items c.loop-i.bus
           c.loop-i.invariant.ready i below;
-      base = base_kept g.L.Device.DeviceEnd.device (view c.args.m.now) c.loop-i.floor.lanes.items c.loop-i.bus
-          c.loop-i.invariant.ready i below c.index_mut.result.now hl;
+      base = base_kept g.L.Device.DeviceEnd.device g.L.Layout.layout.fresh_base (view c.args.m.now)
+          (mode_at (view c.args.m.now) c.args.epoch) c.args.epoch c.loop-i.floor.lanes.items c.loop-i.bus
+          c.loop-i.invariant.ready i below passing c.index_mut.result.now hl;
     }
 
 pub returns-in_err-attach-clause-keeps : goal.returns-in_err-attach-clause-keeps
@@ -142,6 +153,8 @@ returns-in_err-attach-clause-fault g c =
 
 pub loop-i-preserved : goal.loop-i-preserved
 loop-i-preserved g c =
+    let passing : mode_at (view c.args.m.now) c.args.epoch ≡ Pass =
+    mode_unswitched (view c.args.m.now) c.args.epoch c.args.m.now.unswitched c.args.m.now.passing in
     let i = c.loop-i.i in
     let f = c.loop-i.invariant.parties in
     let below : i < length c.args.m.now.queues = omega (arith, c.loop-i.invariant.many, c.requires.many) in
@@ -173,10 +186,12 @@ loop-i-preserved g c =
     (pass_order g.L.Device.DeviceEnd.device (view c.args.m.now) i (c.stop_of-stop.result - k) end) None end
     c.index_mut-device.result.now c.attach.new.device) (sym begun)
     (subst (λ (t : Terms). IsAttach g.L.Device.DeviceEnd.device m t None end c.index_mut-device.result.now c.attach.new.device)
-    (ordered_is g.L.Device.DeviceEnd.device (view c.args.m.now) c.loop-i.floor.lanes.items c.loop-i.bus c.loop-i.invariant.ready i below
+    (ordered_is g.L.Device.DeviceEnd.device g.L.Layout.layout.fresh_base (view c.args.m.now)
+    (mode_at (view c.args.m.now) c.args.epoch) c.args.epoch c.loop-i.floor.lanes.items c.loop-i.bus c.loop-i.invariant.ready i below passing
     (c.stop_of-stop.result - c.len.result) c.index_mut.result.now end hl at) (ok.1 end at)))
     (stage_read _ _ i _ _ _ _ _ _ c.loop-i.invariant.each hl hg.1 hx) in
     record {
+      tree = c.loop-i.invariant.tree;
       many = length-set c.loop-i.floor.lanes.items i c.attach.new.lane ∙ c.loop-i.invariant.many;
       parties = lanes_kept m n c.args.bench.now new n keeps c.requires.parties;
       keeps = keeps;
@@ -190,8 +205,10 @@ loop-i-preserved g c =
           c.in_ok-attach.ensures.faults;
       each = stage_device _ _ i _ _ _ c.attach.new.lane hg.0 c.attach.new.device hg.1 c.loop-i.invariant.each
           began.0;
-      ready = subst (λ (z : BusState). IsReady g.L.Device.DeviceEnd.device (view c.args.m.now)
-          (set c.loop-i.floor.lanes.items i c.attach.new.lane) z) (sym c.attach.ensures.bus)
-          (ready_next g.L.Device.DeviceEnd.device (view c.args.m.now) c.loop-i.floor.lanes.items c.loop-i.bus c.loop-i.invariant.ready i
-          below c.attach.new.lane ok.0);
+      ready = subst (λ (z : BusState). IsReady g.L.Device.DeviceEnd.device g.L.Layout.layout.fresh_base (view c.args.m.now)
+          (mode_at (view c.args.m.now) c.args.epoch) c.args.epoch (set c.loop-i.floor.lanes.items i c.attach.new.lane) z)
+          (sym c.attach.ensures.bus)
+          (ready_next g.L.Device.DeviceEnd.device g.L.Layout.layout.fresh_base (view c.args.m.now)
+          (mode_at (view c.args.m.now) c.args.epoch) c.args.epoch c.loop-i.floor.lanes.items c.loop-i.bus c.loop-i.invariant.ready i
+          below c.attach.new.lane (λ _. ok.0));
     }

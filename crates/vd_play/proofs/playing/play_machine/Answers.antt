@@ -2,13 +2,16 @@ use Rattle.std.proofs.Common.{◌≡◌, ◌+◌, ◌≤◌, ℕ, false, List, l
 use Rattle.vd_machine.specs.File.{view, Plan}
 use Rattle.vd_machine.proofs.Facts.{few_queues}
 use Rattle.vd_play.specs.declared.epoch.PlayFault.{PlayFault}
+use Rattle.vd_play.specs.Epochs.{mode_at}
 use Rattle.vd_play.specs.Each.{HasLanes}
 use Rattle.vd_play.specs.Played.{KeepsBench, IsFaultOf, IsPlayed, IsCut, AllCut, faulty}
 use Rattle.vd_play.specs.Progress.{AllStopped, all_steps, most_steps}
 use Rattle.vd_play.specs.Rounds.{AllDone}
 use Rattle.vd_play.specs.declared.floor.Lane.{Lane}
 use Rattle.vd_play.specs.Setting.{setting_of}
-use Rattle.vd_play.specs.Setup.{AllServe}
+use Rattle.vd_play.specs.Setup.{AllServe, HasRings, HasSizes, IsUp}
+use Rattle.vd_play.proofs.Modes.{mode_first}
+use Rattle.vd_play.specs.Tree.{IsTreeOf}
 use Rattle.vd_play.proofs.Setups.{still_serve}
 use Rattle.vd_play.proofs.Benches.{keeps_none, keeps_through, lanes_kept, fault_later, same_many}
 use Rattle.vd_play.proofs.Cut.{if_err_by, if_err_any}
@@ -19,31 +22,35 @@ use Rattle.vd_play.proofs.playing.play_machine.Goals as goal
 
 pub loop-epoch-init : goal.loop-epoch-init
 loop-epoch-init g c = record {
-  many = c.requires.many;
-  parties = c.requires.parties;
+  many = c.requires.prepared.many;
+  tree = c.requires.tree;
+  parties = c.requires.prepared.parties;
   few = omega arith;
   keeps = keeps_none g.V.Device.party _ c.args.bench.now;
   faults = refl;
   counted = omega (
     arith,
-    sum_none g.G.Guest.party.accesses c.args.bench.now.guests.items c.requires.idle.guests,
-    sum_none g.V.Device.party.accesses c.args.bench.now.devices.items c.requires.idle.devices,
+    sum_none g.G.Guest.party.accesses c.args.bench.now.guests.items c.requires.prepared.idle.guests,
+    sum_none g.V.Device.party.accesses c.args.bench.now.devices.items c.requires.prepared.idle.devices,
   );
   before = record {
-    rings = c.bring_up-bus.ensures.rings;
-    first = λ e. c.bring_up-bus.ensures.brought;
-    later = λ below. absurd (omega (arith, below));
+    first = λ e. (
+      c.bring_up-bus.ensures.brought,
+      subst (λ z. HasRings (view c.args.m.now) z 0 c.bring_up-bus.result)
+          (sym (mode_first c.args.m.now.switches c.args.m.now.start)) c.bring_up-bus.ensures.rings,
+    );
+    later = λ j is. absurd (omega (arith, is));
   };
-  each = c.requires.each;
+  each = c.requires.prepared.each;
 }
 
 pub set_up-requires-clause-ends : goal.set_up-requires-clause-ends
 set_up-requires-clause-ends g c =
-    subst (λ (lanes : List (Lane _)). AllServe g.L.Device.DeviceEnd.device (view c.args.m.now) lanes) (sym c.as_slice.ensures.value)
+    subst (λ (lanes : List (Lane _ _ _)). AllServe g.L.Device.DeviceEnd.device (view c.args.m.now) lanes) (sym c.as_slice.ensures.value)
     (still_serve (setting_of g.L.Driver.DriverEnd.driver g.L.Device.DeviceEnd.device g.L.Layout.layout g.G.Guest.party g.V.Device.party)
     (record { layout = g.met.L.Layout.lawful; guest = g.met.G.Guest.lawful; party = g.met.V.Device.lawful })
     (view c.args.m.now) c.loop-epoch.epoch (length c.args.m.now.queues) c.loop-epoch.floor.lanes.items c.loop-epoch.bench
-    c.requires.layout c.loop-epoch.invariant.many c.loop-epoch.invariant.parties c.loop-epoch.invariant.each)
+    c.requires.prepared.layout c.loop-epoch.invariant.many c.loop-epoch.invariant.parties c.loop-epoch.invariant.each)
 
 pub returns-in_err-attach_all-clause-keeps : goal.returns-in_err-attach_all-clause-keeps
 returns-in_err-attach_all-clause-keeps g c =
@@ -97,15 +104,17 @@ loop-epoch-preserved g c =
     let ran = c.run_epoch-made.ensures.goes (view c.args.m.now) c.loop-epoch.epoch c.in_ok-attach_all.ensures.lanes in
     record {
       many = c.run_epoch-made.ensures.many ∙ many;
+      tree = subst (λ t. IsTreeOf (view c.args.m.now) t.mappings) (sym (c.run_epoch-made.ensures.tree ∙ c.attach_all.ensures.tree))
+          c.loop-epoch.invariant.tree;
       parties = lanes_kept m n c.loop-epoch.bench c.run_epoch-made.new.bench n both c.loop-epoch.invariant.parties;
       few = omega (arith, c.loop-epoch.invariant.few, c.run_epoch-made.ensures.few);
       keeps = keeps_through m n c.args.bench.now c.loop-epoch.bench c.run_epoch-made.new.bench c.loop-epoch.invariant.keeps both;
       faults = c.run_epoch-made.ensures.faults ∙ c.in_ok-attach_all.ensures.faults ∙ c.loop-epoch.invariant.faults;
       counted = omega (arith, ran.1, c.in_ok-attach_all.ensures.counted, c.loop-epoch.invariant.counted);
       before = record {
-        rings = c.in_ok-attach_all.ensures.up.1;
         first = λ e. absurd (omega (arith, e));
-        later = λ below. c.in_ok-attach_all.ensures.up.0;
+        later = λ j is. subst (λ i. IsUp (view c.args.m.now) (mode_at (view c.args.m.now) i) c.attach_all.new.bus
+            × HasSizes (view c.args.m.now) c.attach_all.new.bus) (omega (arith, is)) c.in_ok-attach_all.ensures.up;
       };
       each = ran.0;
     }
@@ -207,8 +216,8 @@ returns-clause-bound g c =
     let keeps = keeps_through m n c.args.bench.now c.loop-epoch.bench c.drain-made.new.bench c.loop-epoch.invariant.keeps one in
     let low : all_steps s c.drain-made.new.bench ≤ most_steps plan =
     all_low s plan false k drained.0.0 c.drain-made.new.floor.lanes.items c.args.bench.now c.drain-made.new.bench
-    (c.drain-made.ensures.many ∙ many) (lanes_kept m n c.args.bench.now c.drain-made.new.bench n keeps c.requires.parties)
-    c.requires.idle keeps drained.0.1 in
+    (c.drain-made.ensures.many ∙ many) (lanes_kept m n c.args.bench.now c.drain-made.new.bench n keeps c.requires.prepared.parties)
+    c.requires.prepared.idle keeps drained.0.1 in
     omega (arith, low, drained.1, c.loop-epoch.invariant.counted)
 
 pub returns-clause-faults : goal.returns-clause-faults

@@ -5,11 +5,13 @@ use Rattle.vd_play.specs.Played.{KeepsBench, HasNoFault}
 use Rattle.vd_play.specs.Progress.{AllStopped, all_steps}
 use Rattle.vd_play.specs.Setting.{setting_of}
 use Rattle.vd_play.specs.Setup.{IsBefore}
+use Rattle.vd_play.specs.Tree.{IsTreeOf}
 use Rattle.vd_play.proofs.playing.play_machine.Given as goal
 
 abbrev pub invariant-loop-epoch : goal.invariant-loop-epoch
 invariant-loop-epoch g l = record {
   many : length l.floor.lanes.items ≡ length l.m.queues;
+  tree : IsTreeOf (view l.m) l.floor.tree.mappings;
   parties : HasLanes (length l.m.queues) l.bench;
   few : l.made ≤ 274877906944 * l.epoch;
   keeps : KeepsBench g.V.Device.party (length l.m.queues) l.initial.bench l.bench;

@@ -15,6 +15,10 @@ pub returns-in_err-lanes-clause-untouched : goal.returns-in_err-lanes-clause-unt
 returns-in_err-lanes-clause-untouched g c =
     untouched_start g.L.Driver.DriverEnd.driver g.G.Guest.party g.V.Device.party g.met.G.Guest.lawful c.args.bench.now c.requires.empty
 
+pub returns-in_err-tree-clause-untouched : goal.returns-in_err-tree-clause-untouched
+returns-in_err-tree-clause-untouched g c =
+    untouched_start g.L.Driver.DriverEnd.driver g.G.Guest.party g.V.Device.party g.met.G.Guest.lawful c.args.bench.now c.requires.empty
+
 pub loop-i-init : goal.loop-i-init
 loop-i-init g c = record {
   many = ap length c.in_ok-lanes.ensures.items;

@@ -12,6 +12,7 @@ use Rattle.vd_play.proofs.rounds.round.Goals as goal
 pub loop-i-init : goal.loop-i-init
 loop-i-init g c = record {
   many = refl;
+  tree = refl;
   parties = c.requires.parties;
   few = omega arith;
   keeps = keeps_none g.V.Device.party _ c.args.bench.now;
@@ -52,6 +53,7 @@ loop-i-preserved g c =
     keeps_set m n c.args.bench.now c.loop-i.bench new i c.lane_round-made.new.guest _ c.lane_round-made.new.device below
     c.loop-i.invariant.keeps refl refl hx c.lane_round-made.ensures.carried in
     record {
+      tree = c.loop-i.invariant.tree;
       many = length-set c.loop-i.floor.lanes.items i c.lane_round-made.new.lane ∙ c.loop-i.invariant.many;
       parties = lanes_kept m n c.args.bench.now new n keeps c.requires.parties;
       few = omega (arith, c.loop-i.invariant.few, c.lane_round-made.ensures.few);

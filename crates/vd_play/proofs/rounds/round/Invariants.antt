@@ -9,6 +9,7 @@ use Rattle.vd_play.proofs.rounds.round.Given as goal
 abbrev pub invariant-loop-i : goal.invariant-loop-i
 invariant-loop-i g l = record {
   many : length l.floor.lanes.items ≡ length l.initial.floor.lanes.items;
+  tree : l.floor.tree ≡ l.initial.floor.tree;
   parties : HasLanes (length l.initial.floor.lanes.items) l.bench;
   few : l.made ≤ 8 * l.i;
   keeps : KeepsBench g.V.Device.party (length l.initial.floor.lanes.items) l.initial.bench l.bench;

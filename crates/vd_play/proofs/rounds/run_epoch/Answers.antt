@@ -8,6 +8,7 @@ use Rattle.vd_play.proofs.rounds.run_epoch.Goals as goal
 pub loop-turn-init : goal.loop-turn-init
 loop-turn-init g c = record {
   many = refl;
+  tree = refl;
   parties = c.requires.parties;
   few = omega arith;
   keeps = keeps_none g.V.Device.party _ c.args.bench.now;
@@ -37,6 +38,7 @@ loop-turn-preserved g c =
     let keeps : KeepsBench m n c.args.bench.now c.round-made.new.bench =
     keeps_through m n c.args.bench.now c.loop-turn.bench c.round-made.new.bench c.loop-turn.invariant.keeps one in
     record {
+      tree = c.round-made.ensures.tree ∙ c.loop-turn.invariant.tree;
       many = c.round-made.ensures.many ∙ c.loop-turn.invariant.many;
       parties = lanes_kept m n c.args.bench.now c.round-made.new.bench n keeps c.requires.parties;
       few = omega (arith, c.loop-turn.invariant.few, c.round-made.ensures.few);

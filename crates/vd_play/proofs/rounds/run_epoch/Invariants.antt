@@ -9,6 +9,7 @@ use Rattle.vd_play.proofs.rounds.run_epoch.Given as goal
 abbrev pub invariant-loop-turn : goal.invariant-loop-turn
 invariant-loop-turn g l = record {
   many : length l.floor.lanes.items ≡ length l.initial.floor.lanes.items;
+  tree : l.floor.tree ≡ l.initial.floor.tree;
   parties : HasLanes (length l.initial.floor.lanes.items) l.bench;
   few : l.made ≤ 64 * l.turn;
   keeps : KeepsBench g.V.Device.party (length l.initial.floor.lanes.items) l.initial.bench l.bench;
