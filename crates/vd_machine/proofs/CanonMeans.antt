@@ -36,7 +36,6 @@ pub record Keeps (p : Plan) : Type 0 where
   pub counted : few p.queues ≡ true
   pub ranged : is_range p.first p.last ≡ true
   pub laid : are_laid p.first p.last p.regions ≡ true
-  pub passing : p.start ≡ mode.Pass
   pub switched : are_switches p.switches ≡ true
   pub uncontrolled : p.control ≡ None
   pub worded : are_few_words (ring_words p.packed p.size p.features) (ring_count p.start p.switches (length p.queues)) ≡ true
@@ -97,13 +96,10 @@ window_back : (p : Plan) → Keeps p → window_of (sorted p) ≡ Some p.window
 unfolding window_of
 window_back p h = rw h.windowed refl
 
-start_back_by : (p : Plan) (m : Mode) → p.start ≡ m → m ≡ mode.Pass → start_of (sorted p) ≡ Some p.start
+start_back : (p : Plan) (m : Mode) → p.start ≡ m → start_of (sorted p) ≡ Some p.start
 unfolding start_of
-start_back_by p mode.Pass e h = rw e refl
-start_back_by p mode.Shadow e h = absurd (cc)
-
-start_back : (p : Plan) → Keeps p → start_of (sorted p) ≡ Some p.start
-start_back p h = start_back_by p p.start refl h.passing
+start_back p mode.Pass e = rw e refl
+start_back p mode.Shadow e = rw e refl
 
 range_back : (p : Plan) → Keeps p → range_of (sorted p) ≡ Some (record { first = p.first; last = p.last })
 unfolding range_of
@@ -220,7 +216,7 @@ means_back p h =
       range_back p h,
       regions_back p h,
       scripts_back (most_pieces p.features p.size) p h.fitted,
-      start_back p h,
+      start_back p p.start refl,
       switches_back p h,
       h.uncontrolled,
     ) refl
@@ -233,7 +229,7 @@ breaks_none p h =
       is_complete p,
       is_typed p,
       layout_back p p.packed refl,
-      start_back p h,
+      start_back p p.start refl,
       size_back p h,
       features_back p,
       window_back p h,

@@ -49,7 +49,7 @@ shallow_switch s = record { depth = omega arith; dates = refl }
 
 to_back : (t : To) → is_taken t ≡ true → to_of (to_name t) ≡ Some t
 to_back to.Pass h = refl
-to_back to.Shadow h = absurd (false≢true h)
+to_back to.Shadow h = refl
 to_back to.Renew h = absurd (false≢true h)
 
 pub switch_back : (s : Switch) → is_switch s ≡ true → switch_of (switch_data s) ≡ Some s

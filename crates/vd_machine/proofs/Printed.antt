@@ -28,7 +28,6 @@ machine_keeps m = record {
   counted = m.counted;
   ranged = m.ranged;
   laid = m.laid;
-  passing = m.passing;
   switched = m.switched;
   uncontrolled = nothing_of m.control m.uncontrolled;
   worded = m.worded;

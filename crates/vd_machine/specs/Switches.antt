@@ -14,7 +14,8 @@ use Rattle.vd_machine.specs.declared.switches.TheConstants.{MOST_SWITCHES}
 
 -- the mode of this name
 abbrev pub mode_of : List ℕ → Option Mode
-mode_of name = if bytes_eq name (codes "pass") then Some mode.Pass else None
+mode_of name =
+    if bytes_eq name (codes "pass") then Some mode.Pass else if bytes_eq name (codes "shadow") then Some mode.Shadow else None
 
 -- the mode at the start, where there is such a mode; it is pass where none is named
 unfoldable pub start_of : Members → Option Mode
@@ -22,12 +23,13 @@ start_of ms = if has (codes "start") ms then option_and_then mode_of (text_at (c
 
 -- to what a switch of this name leads
 abbrev pub to_of : List ℕ → Option To
-to_of name = if bytes_eq name (codes "pass") then Some to.Pass else None
+to_of name = if bytes_eq name (codes "pass") then Some to.Pass else if bytes_eq name (codes "shadow") then Some to.Shadow else None
 
 -- a switch to this can be named
 abbrev pub is_taken : To → Bool
 is_taken to.Pass = true
-is_taken _ = false
+is_taken to.Shadow = true
+is_taken to.Renew = false
 
 -- a number of 32 bits
 abbrev pub if_small : ℕ → Option ℕ

@@ -1,6 +1,5 @@
 //! A machine, and why none was read.
 ghost use Rattle.std.specs.Prelude.{◌≡◌, true, false, length, is_none};
-ghost use Rattle.vd_model.specs.declared.base.Mode.TheVariants.{Pass};
 ghost use Rattle.vd_machine.specs.Queues.{most_pieces, are_scripts, all_lie, few};
 ghost use Rattle.vd_machine.specs.Iovas.{is_range, are_laid};
 ghost use Rattle.vd_machine.specs.Regions.{are_regions};
@@ -62,7 +61,6 @@ pub struct Machine {
     ghost fitted: { are_scripts (most_pieces features size) queues ≡ true },
     ghost inside: { all_lie regions queues ≡ true },
     ghost counted: { few queues ≡ true },
-    ghost passing: { start ≡ Pass },
     ghost ranged: { is_range first last ≡ true },
     ghost laid: { are_laid first last regions ≡ true },
     ghost switched: { are_switches switches ≡ true },

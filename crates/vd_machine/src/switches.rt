@@ -2,7 +2,6 @@
 ghost use Rattle.std.specs.Prelude.{◌≡◌, map, option_map, IfOk, IfSome, true};
 ghost use Rattle.std.specs.List.{list_all};
 ghost use Rattle.toml.specs.View.{view, table_view};
-ghost use Rattle.vd_model.specs.declared.base.Mode.TheVariants.{Pass};
 ghost use Rattle.vd_text.specs.Grammar.{all_some};
 ghost use Rattle.vd_machine.specs.Switches.{mode_of, start_of, to_of, is_taken, after_in, to_in, switch_of, are_ascending, are_in_order, is_switch, are_switches, switches_of};
 
@@ -17,11 +16,11 @@ use vd_model::Mode;
 pub const MOST_SWITCHES: usize = 16;
 
 fn mode_of(name: &str) -> Option<Mode>
-    ensures value { result ≡ mode_of name.now }
-    ensures lawful { IfSome result (λ m. m ≡ Pass) }
+    ensures { result ≡ mode_of name.now }
 {
     match name {
         "pass" => Some(Mode::Pass),
+        "shadow" => Some(Mode::Shadow),
         _ => None,
     }
 }
@@ -29,8 +28,7 @@ fn mode_of(name: &str) -> Option<Mode>
 /// The mode at the start, where there is such a mode; a missing one is pass.
 #[tactic(auto, unfolding(crate::specs::Switches::start_of))]
 pub fn start_of(file: &Table) -> Option<Mode>
-    ensures value { result ≡ start_of (table_view file.now) }
-    ensures lawful { IfSome result (λ m. m ≡ Pass) }
+    ensures { result ≡ start_of (table_view file.now) }
 {
     if !has(file, "start") {
         return Some(Mode::Pass);
@@ -47,6 +45,7 @@ fn to_of(name: &str) -> Option<To>
 {
     match name {
         "pass" => Some(To::Pass),
+        "shadow" => Some(To::Shadow),
         _ => None,
     }
 }

@@ -7,12 +7,12 @@ const WHOLE: &str = concat!(
     "size = 3\n",
     "features = [\"indirect\", \"in_order\"]\n",
     "window = 64\n",
-    "start = \"pass\"\n",
+    "start = \"shadow\"\n",
     "iova_first = 0\n",
     "iova_last = 9223372036854775807\n",
     "regions = [{ addr = 9223372036854775807, size = 1 }, { addr = 0, size = 8192 }]\n",
     "queues = [[\"3*r4096+10 w4096+64\", \"w9223372036854775807+1\"], [], [\"r0+1\"]]\n",
-    "switches = [{ after = 5, to = \"pass\" }, { after = 4294967295, to = \"pass\" }]\n",
+    "switches = [{ after = 5, to = \"pass\" }, { after = 4294967295, to = \"shadow\" }]\n",
 );
 
 const SHUFFLED: &str = concat!(
@@ -20,7 +20,7 @@ const SHUFFLED: &str = concat!(
     "queues = [['03*r4096+10 w04096+064', \"1*w9223372036854775807+1\"], [], [\"r0+1\"]]\n",
     "window = 0x40\n",
     "size = 3\n",
-    "start = 'pass'\n",
+    "start = 'shadow'\n",
     "iova_last = 9223372036854775807\n",
     "iova_first = 0\n",
     "features = [\"in_order\", \"indirect\"]\n",
@@ -37,7 +37,7 @@ const SHUFFLED: &str = concat!(
     "after = 0x5\n",
     "[[switches]]\n",
     "after = 4_294_967_295\n",
-    "to = \"pass\"\n",
+    "to = \"shadow\"\n",
 );
 
 const SHORT: &str = concat!(

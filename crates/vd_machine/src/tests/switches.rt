@@ -11,9 +11,9 @@ fn names_the_rule_of_the_mode_at_the_start(rt: HostRuntime) -> Result<(), Fail> 
         ("start = ''", Some(MachineFault::M5)),
         ("start = 'Pass'\nsize = 3", Some(MachineFault::M5)),
         ("start = 'renew'", Some(MachineFault::M5)),
-        ("start = 'shadow'", Some(MachineFault::M5)),
         ("layout = 'packed'\nstart = 'pass '", Some(MachineFault::M5)),
         ("start = 'pass'", None),
+        ("start = 'shadow'", None),
     ] {
         assert!(rt; fault_of(rt.alloc(), change)? == want, "at {change}");
     }
@@ -48,7 +48,7 @@ fn names_the_rule_of_a_switch(rt: HostRuntime) -> Result<(), Fail> {
             Some(MachineFault::M14),
         ),
         (
-            "switches = [{ after = 5, to = 'shadow' }]",
+            "switches = [{ after = 5, to = 'Shadow' }]",
             Some(MachineFault::M14),
         ),
         (
@@ -72,6 +72,7 @@ fn names_the_rule_of_a_switch(rt: HostRuntime) -> Result<(), Fail> {
             Some(MachineFault::M16),
         ),
         ("switches = []", None),
+        ("switches = [{ after = 5, to = 'shadow' }]", None),
         ("switches = [{ to = 'pass', after = 0 }]", None),
         (
             "switches = [{ after = 5, to = 'pass' }, { after = 5, to = 'pass' }]",
@@ -91,20 +92,22 @@ fn names_the_rule_of_a_switch(rt: HostRuntime) -> Result<(), Fail> {
 fn reads_the_switches_in_their_order(rt: HostRuntime) -> Result<(), Fail> {
     let text = with(
         rt.alloc(),
-        "start = 'pass'\nswitches = [{ after = 0x10, to = 'pass' }, { to = \"pass\", after = 4294967295 }]",
+        "start = 'shadow'\nswitches = [{ after = 0x10, to = 'shadow' }, { to = \"pass\", after = 4294967295 }]",
     )?;
     let machine = Machine::read(rt.alloc(), text.as_bytes())?;
     let switches = [
         Switch {
             after: 16,
-            to: To::Pass,
+            to: To::Shadow,
         },
         Switch {
             after: 4294967295,
             to: To::Pass,
         },
     ];
-    assert!(rt; machine.start == Mode::Pass && machine.switches.as_slice() == switches.as_slice());
+    assert!(rt;
+        machine.start == Mode::Shadow && machine.switches.as_slice() == switches.as_slice()
+    );
     Ok(())
 }
 

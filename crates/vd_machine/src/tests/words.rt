@@ -1,6 +1,8 @@
 //! How many words all rings have.
+use crate::tests::files::fault_of;
 use crate::words::{ring_words, shadow_epochs};
-use crate::{Switch, To};
+use crate::{MachineFault, Switch, To};
+use std::alloc::{AllocError, Global};
 use std::test::*;
 use vd_model::{Features, Mode};
 
@@ -45,6 +47,56 @@ fn an_epoch_of_the_mode_shadow_has_rings_of_its_own(rt: HostRuntime) -> Result<(
         assert!(rt;
             shadow_epochs(start, switches.as_slice()) == want,
             "at {want}"
+        );
+    }
+    Ok(())
+}
+
+/// The rule that a file of eight queues with these rings breaks, which starts in the mode shadow and has so many switches.
+fn fault_with(
+    alloc: Global,
+    rings: &str,
+    count: u32,
+    to: &str,
+) -> Result<Option<MachineFault>, AllocError> {
+    let mut change = String::from_str(alloc, rings)?;
+    change.push_str("\nqueues = [[], [], [], [], [], [], [], []]\n")?;
+    change.push_str("start = 'shadow'\nswitches = [")?;
+    for _ in 0..count {
+        let switch = format!(in alloc; "{{ after = 7, to = '{}' }}, ", to)?;
+        change.push_str(switch.as_str())?;
+    }
+    change.push_str("]")?;
+    fault_of(alloc, change.as_str())
+}
+
+#[test]
+fn takes_4194304_words_and_no_more(rt: HostRuntime) -> Result<(), Fail> {
+    let most = "size = 1024\nfeatures = ['indirect']";
+    let packed = "layout = 'packed'\nsize = 1024\nfeatures = ['indirect']";
+    let within = "layout = 'packed'\nsize = 856\nfeatures = ['indirect']";
+    let past = "layout = 'packed'\nsize = 857\nfeatures = ['indirect']";
+    for (rings, count, to, want) in [
+        (most, 16, "shadow", Some(MachineFault::M17)),
+        (most, 13, "shadow", Some(MachineFault::M17)),
+        (most, 12, "shadow", None),
+        (most, 16, "pass", None),
+        (packed, 14, "shadow", Some(MachineFault::M17)),
+        (packed, 13, "shadow", None),
+        (past, 16, "shadow", Some(MachineFault::M17)),
+        (within, 16, "shadow", None),
+        ("size = 1024", 16, "shadow", None),
+        (most, 17, "shadow", Some(MachineFault::M14)),
+        (
+            "size = 1024\nfeatures = ['indirect']\niova_last = 8191",
+            16,
+            "shadow",
+            Some(MachineFault::M16),
+        ),
+    ] {
+        assert!(rt;
+            fault_with(rt.alloc(), rings, count, to)? == want,
+            "at {rings} with {count} switches to {to}"
         );
     }
     Ok(())
