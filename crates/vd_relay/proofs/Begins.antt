@@ -28,7 +28,7 @@ use Rattle.vd_relay.specs.Stages.{is_rested, is_shadow, is_hearing, InHand, Ends
 use Rattle.vd_relay.specs.Tie.{Start, IsTied}
 use Rattle.vd_relay.specs.Relay.{Stands, Holds, IsRoused, IsOpen, HandsBack, owes, start}
 use Rattle.vd_relay.proofs.Origins.{is_none}
-use Rattle.vd_relay.proofs.Calm.{Free, FewInHand, at_stage, hand_to, settled, freed, owes_idle, stands_roused, winding_small, roused_live}
+use Rattle.vd_relay.proofs.Calm.{Free, FewInHand, at_stage, hand_to, settled, freed, owes_idle, stands_roused, winding_small, roused_live, roused_deaf}
 
 row_none : (n h : ℕ) → row (replicate n None) h ≡ None
 row_none zero h = refl
@@ -91,6 +91,9 @@ module _ {E D : Type 0} (e : DeviceModel E) (d : DriverModel D) (law : IsLawfulD
           owes_idle e d law ldr (start ms w) r w v stage.Taking f,
           small w.shown v.shown,
         );
+        hears_guest = λ hears x. cc (hears, idle);
+        hears_shadow = λ hears x. cc (hears, free);
+        leaves = λ k on. absurd (cc on);
       }
 
   -- ---- the begin of a wind-up
@@ -267,10 +270,14 @@ module _ {E D : Type 0} (e : DeviceModel E) (d : DriverModel D) (law : IsLawfulD
   pace_to c i j less pace = λ a b q. omega (arith, less, pace a b q)
 
   pub wound_holds : (z : Start) (r : State E D) (c : Counts) (given : ℕ) (w : DeviceView) (v : DriverView) → r.winding ≡ false
-      → Holds e d z r c w v → Holds e d z (winding_to r given) c w v
-  wound_holds z r c given w v off h = record {
+      → (is_hearing r.stage ≡ true → e.begun r.guest ≡ DeviceOp.idle → d.begun r.shadow ≡ DriverOp.idle → ⊥) → Holds e d z r c w v
+      → Holds e d z (winding_to r given) c w v
+  wound_holds z r c given w v off leaves h = record {
     stands = wound z r given w v off h.stands;
     pace = pace_to c (owes e d (winding_to r given) w v) (owes e d r w v) (wound_owes r given w v off) h.pace;
+    hears_guest = h.hears_guest;
+    hears_shadow = h.hears_shadow;
+    leaves = λ k on. leaves;
   }
 
   hearing_calm : (st : Stage) → is_hearing st ≡ true → Rattle.vd_relay.proofs.Calm.is_calm st ≡ true
@@ -321,6 +328,9 @@ module _ {E D : Type 0} (e : DeviceModel E) (d : DriverModel D) (law : IsLawfulD
           ap (λ y. idle_owes y r.stage w.shown v.shown) off,
           hearing_owes r.stage w.shown v.shown hears,
         )) h.pace;
+        hears_guest = h.hears_guest;
+        hears_shadow = h.hears_shadow;
+        leaves = λ k on at. absurd (roused_deaf (e.armed r.guest) (d.armed r.shadow) true a.finished (sym (ap is_hearing a.is) ∙ at));
       }
 
   -- ---- the end

@@ -16,7 +16,7 @@ use Rattle.vd_relay.specs.declared.stage.Stage.TheVariants as stage
 use Rattle.vd_relay.specs.declared.state.State.{State}
 use Rattle.vd_relay.specs.Pairing.{ArePaired}
 use Rattle.vd_relay.specs.Pace.{idle_owes, take_owes, guest_owes, shadow_owes}
-use Rattle.vd_relay.specs.Stages.{is_rested, is_shadow, is_open, roused, GuestIs, ShadowIs, TakesFrom, OffersHand, InHand, OfferIs, BackIs, EndsIs, BeforeRest, GuestArmed, ShadowArmed, GuestShown, ShadowShown}
+use Rattle.vd_relay.specs.Stages.{is_rested, is_shadow, is_open, is_hearing, roused, GuestIs, ShadowIs, TakesFrom, OffersHand, InHand, OfferIs, BackIs, EndsIs, BeforeRest, GuestArmed, ShadowArmed, GuestShown, ShadowShown}
 use Rattle.vd_relay.specs.Tie.{Start, IsTied, since}
 use Rattle.vd_relay.specs.Relay.{Stuck, Stands, Stays, owes, IsRoused, IsFinished}
 
@@ -338,6 +338,14 @@ roused_live false true winding finished = refl
 roused_live false false false finished = refl
 roused_live false false true false = refl
 roused_live false false true true = refl
+
+-- it hears no bell
+pub roused_deaf : (ga sa winding finished : Bool) → is_hearing (roused ga sa winding finished) ≡ true → ⊥
+roused_deaf true sa winding finished is = cc is
+roused_deaf false true winding finished is = cc is
+roused_deaf false false false finished is = cc is
+roused_deaf false false true false is = cc is
+roused_deaf false false true true is = cc is
 
 pub roused_takes : (ga sa winding finished : Bool) → winding ≡ true → roused ga sa winding finished ≡ stage.Taking → ⊥
 roused_takes true sa winding finished w is = cc

@@ -20,7 +20,7 @@ use Rattle.vd_relay.specs.Tie.{Start}
 use Rattle.vd_relay.specs.Relay.{Stuck, Stands, GuestTurn, IsRoused}
 use Rattle.vd_relay.proofs.Calm.{at_stage, settled, stands_roused}
 use Rattle.vd_relay.proofs.GuestTurns.{next_at, with_guest}
-use Rattle.vd_relay.proofs.GuestWakes.{awake_at, woke_to}
+use Rattle.vd_relay.proofs.GuestWakes.{awake_at, roused_off, woke_to}
 
 less_shown : (g g' s : Bool) → (g ≡ true → g' ≡ true) → take_owes false g' s ≤ take_owes false g s
 less_shown true true s f = omega arith
@@ -65,6 +65,7 @@ module _ {P E D : Type 0} (port : PortModel P) (e : DeviceModel E) (d : DriverMo
       woke_to port e d law ldr z p q r w v b stage.DisarmingGuest st' Worked refl refl h back s
       (stands_roused e d law ldr z (with_guest r b) w' v st' f a) refl
       (λ y. cc y) (λ y. cc y) (sym (ap (λ o. device_woken o act.Awake) (disarming_of s is)))
+      (λ k. roused_off port e d law ldr z p q r w v b st' (a.finished, a.is))
       (omega (
         arith,
         ap (λ (x : Stage). idle_owes r.winding x w'.shown v.shown) a.is,
@@ -89,6 +90,7 @@ module _ {P E D : Type 0} (port : PortModel P) (e : DeviceModel E) (d : DriverMo
       woke_to port e d law ldr z p q r w v b stage.DisarmingGuest stage.HearingGuest Worked refl refl h back s
       (settled e d law ldr z (with_guest r b) w' v stage.HearingGuest refl f tt (some.0, some.1) (inr (stuck_at s armed))) refl
       (λ y. cc y) (λ y. cc y) (sym (ap (λ o. device_woken o act.Awake) (disarming_of s is)))
+      (λ k at. stuck_at s armed k)
       (omega (
         arith,
         stuck_small r.winding w.shown v.shown,

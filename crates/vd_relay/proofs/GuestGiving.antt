@@ -100,7 +100,7 @@ module _ {P E D : Type 0} (port : PortModel P) (e : DeviceModel E) (d : DriverMo
         s.left,
         at.4 r.winding w'.shown v.shown w'.doing (e.left b),
         ap (λ o. guest_owes r.winding stage.Giving o w.doing w.shown v.shown (e.left r.guest)) said.begun,
-      ))
+      )) refl (λ y. absurd (cc y)) (λ y. absurd (cc y)) (λ n k on at. absurd (cc at))
 
   pub gave : (k : ℕ) → Stands e d z r w v → IsDeviceStep port e p q w r.guest b (act.Given k)
       → GuestTurn port e d z p q r (next_at r b stage.Taking) w v Handled

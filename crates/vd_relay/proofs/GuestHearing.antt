@@ -14,6 +14,7 @@ use Rattle.vd_relay.specs.declared.counts.Turn.TheVariants.{Woke, Slept}
 use Rattle.vd_relay.specs.declared.stage.Stage.{Stage}
 use Rattle.vd_relay.specs.declared.stage.Stage.TheVariants as stage
 use Rattle.vd_relay.specs.declared.state.State.{State}
+use Rattle.vd_relay.specs.Pairing.{Wakes}
 use Rattle.vd_relay.specs.Pace.{guest_owes, guest_hears, idle_owes, hear_owes}
 use Rattle.vd_relay.specs.Stages.{is_rested, heard_next, GuestIs, BackIs, GuestHears, IsSome}
 use Rattle.vd_relay.specs.Tie.{Start}
@@ -22,7 +23,7 @@ use Rattle.vd_relay.proofs.Calm.{Free, at_stage, settled, owes_idle, stands_rous
 use Rattle.vd_relay.proofs.Ops.{at_guest_hear}
 use Rattle.vd_relay.proofs.GuestTurns.{bag_same, made_at, next_at, not_woken, to_stage, with_guest}
 use Rattle.vd_relay.proofs.GuestFree.{freed_at}
-use Rattle.vd_relay.proofs.GuestWakes.{awake_at, roused_by, woke_to}
+use Rattle.vd_relay.proofs.GuestWakes.{awake_at, roused_by, roused_off, woke_to}
 
 hears_some : (winding : Bool) (x : _) → 1 ≤ guest_hears winding x
 hears_some true now.Idle = omega arith
@@ -56,6 +57,7 @@ module _ {P E D : Type 0} (port : PortModel P) (e : DeviceModel E) (d : DriverMo
       woke_to port e d law ldr z p q r w v b stage.HearingGuest st' Woke refl refl h back s
       (stands_roused e d law ldr z (with_guest r b) w' v st' f a) refl (λ y. cc y)
       (λ y. cc y) (sym (ap (λ o. device_woken o act.Awake) of))
+      (λ k. roused_off port e d law ldr z p q r w v b st' (a.finished, a.is))
       (omega (
         arith,
         roused_by port e d law ldr z p q r w v b st' w'.shown v.shown (a.finished, a.is),
@@ -96,7 +98,9 @@ module _ {P E D : Type 0} (port : PortModel P) (e : DeviceModel E) (d : DriverMo
         owes_to sa w'.shown v.shown,
         ap (λ o. guest_owes r.winding stage.HearingGuest o w.doing w.shown v.shown (e.left r.guest)) s.says.0,
         ap (guest_hears r.winding) idle,
-      ))
+      )) refl (λ y. absurd (cc y))
+      (λ y k. record { was = refl; is = alternates sa is h.shadow_armed k; guest_idle = s.says.1; shadow_idle = f.shadow_idle })
+      (λ n. absurd (n refl))
     where
       stands_to : (x : Bool) → d.armed r.shadow ≡ x → Free e d z (with_guest r b) (e.side.after w s.op s.access s.got) v
           → IsSome (e.side.after w s.op s.access s.got).armed → IsSome v.armed ⊎ Stuck e d
@@ -106,6 +110,12 @@ module _ {P E D : Type 0} (port : PortModel P) (e : DeviceModel E) (d : DriverMo
           (inl some) (ldr.armed r.shadow v f.drives y)
       stands_to false y f some o = settled e d law ldr z (with_guest r b)
           (e.side.after w s.op s.access s.got) v stage.HearingGuest refl f tt some o
+
+      alternates : (x : Bool) → d.armed r.shadow ≡ x → IsSome v.armed ⊎ Stuck e d → Wakes e d
+          → heard_next stage.HearingGuest ga x ≡ stage.HearingShadow
+      alternates true y o k = refl
+      alternates false y (inl some) k = absurd (cc (some.1, ldr.unarmed r.shadow v h.drives y))
+      alternates false y (inr stuck) k = absurd (stuck k)
 
       live_to : (x : Bool) → is_rested (heard_next stage.HearingGuest ga x) ≡ false
       live_to true = refl

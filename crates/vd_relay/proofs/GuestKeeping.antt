@@ -73,7 +73,7 @@ module _ {P E D : Type 0} (port : PortModel P) (e : DeviceModel E) (d : DriverMo
         take_most r.winding w'.shown v.shown,
         most_few r.winding,
         ap (λ o. guest_owes r.winding stage.Taking o w'.doing w'.shown v.shown (e.left b)) s.says.2,
-      ))
+      )) refl (λ y. absurd (cc y)) (λ y. absurd (cc y)) (λ n k on at. absurd (cc at))
     where
       most_few : (y : Bool) → (if y then 4 else 47) ≤ 47
       most_few true = omega arith

@@ -8,15 +8,20 @@ use Rattle.vd_ring.specs.declared.device.DeviceDone.{DeviceDone}
 use Rattle.vd_ring.specs.declared.device.DeviceNow.TheVariants as now
 use Rattle.vd_ring.specs.declared.device.DeviceView.{DeviceView}
 use Rattle.vd_ring.specs.Looks.{DeviceGoes, DeviceWakes}
+use Rattle.vd_layout.specs.Begun.{DeviceOp, IsDeviceOp}
 use Rattle.vd_layout.specs.Driver.{DriverModel, IsLawfulDriver}
 use Rattle.vd_layout.specs.Device.{DeviceModel, IsLawfulDevice, IsDeviceStep}
 use Rattle.vd_relay.specs.declared.counts.Turn.TheVariants.{Worked}
+use Rattle.vd_relay.specs.declared.stage.Stage.{Stage}
+use Rattle.vd_relay.specs.declared.stage.Stage.TheVariants as stage
 use Rattle.vd_relay.specs.declared.state.State.{State}
-use Rattle.vd_relay.specs.Stages.{is_rested, is_shadow, BeforeRest}
+use Rattle.vd_relay.specs.Stages.{is_rested, is_shadow, BeforeRest, GuestIs, GuestArmed, GuestHears}
 use Rattle.vd_relay.specs.Tie.{Start}
 use Rattle.vd_relay.specs.Relay.{Stuck, Stands, GuestTurn}
 use Rattle.vd_relay.proofs.GuestGoing.{Goes, went}
 use Rattle.vd_relay.proofs.Turns.{worked_only}
+use Rattle.vd_relay.proofs.Ops.{at_guest_hear}
+use Rattle.vd_relay.proofs.Hearings.{guest_stage, guest_heard, guest_goes_on}
 use Rattle.vd_relay.proofs.GuestTurns.{bag_same, framed_at, made_at, not_woken, owes_here, with_guest}
 
 module _ {P E D : Type 0} (port : PortModel P) (e : DeviceModel E) (d : DriverModel D) (law : IsLawfulDevice e) (ldr : IsLawfulDriver d)
@@ -56,6 +61,25 @@ module _ {P E D : Type 0} (port : PortModel P) (e : DeviceModel E) (d : DriverMo
       woken_by true x arm again = disarmed_by w.frame.features.event_idx refl (inl (arm, again, x)) ∙ ap now.Disarming arm
       woken_by false x arm again = absurd (cc (s.is_answer, (law.looks.armed w s.op s.access s.got s.was_next).1 (arm, again, x)))
 
+  -- the end that hears is in its disarming store then
+  disarms : Stands e d z r w v → (s : IsDeviceStep port e p q w r.guest b act.Moved) → e.begun b ≡ DeviceOp.hear
+      → (e.side.after w s.op s.access s.got).doing ≡ now.Idle → ⊥
+  disarms h s is idle =
+      let heard = guest_heard (e.begun r.guest) (e.begun b) s.says.0 is in
+      let of : s.op ≡ op.Hear = subst (λ o. IsDeviceOp o s.op) heard s.of_it in
+      let at = at_guest_hear r.stage (subst (λ o. GuestIs r.stage o) heard h.guest) in
+      let armed : GuestHears DeviceOp.hear w.doing w.armed = subst (λ o. GuestHears o w.doing w.armed) heard
+      (subst (λ (x : Stage). GuestArmed (Stuck e d) x (e.begun r.guest) w.doing w.armed) at h.guest_armed) in
+      elim armed [
+        | inl x ↦ cc (idle, (goes_of s).heard of x.0)
+        | inr x ↦ (goes_of s).busy (x ∙ ap now.Disarming (sym of))
+      ]
+
+  goes_to : r.stage ≡ stage.HearingGuest → Stands e d z r w v → IsDeviceStep port e p q w r.guest b act.Moved
+      → e.begun b ≡ DeviceOp.idle → ⊥
+  goes_to at h s idle = guest_goes_on (e.begun r.guest) (e.begun b) s.op (subst (λ (x : Stage). GuestIs x (e.begun r.guest)) at h.guest)
+      s.of_it s.says.0 idle
+
   pub went_on : is_rested r.stage ≡ false → is_shadow r.stage ≡ false → Stands e d z r w v → IsDeviceStep port e p q w r.guest b act.Moved
       → GuestTurn port e d z p q r (with_guest r b) w v Worked
   went_on live side h s =
@@ -93,4 +117,5 @@ module _ {P E D : Type 0} (port : PortModel P) (e : DeviceModel E) (d : DriverMo
         g.paid,
         owes_here port e d law ldr z p q r w v b r w side,
         owes_here port e d law ldr z p q r w v b (with_guest r b) w' side,
-      ))
+      )) refl (λ y is idle. disarms h s is idle) (λ y. absurd (cc y))
+      (λ n k on at guest shadow. goes_to (guest_stage r.stage at side) h s guest)

@@ -57,7 +57,7 @@ module _ {P E D : Type 0} (port : PortModel P) (e : DeviceModel E) (d : DriverMo
         ap (λ o. guest_owes r.winding stage.Taking o w.doing w.shown v.shown (e.left r.guest)) s.says.0,
         ap (λ x. taking_owes r.winding x v.shown (e.left r.guest)) (unshown s w.shown refl own),
         none_paid r.winding v.shown (e.left r.guest),
-      ))
+      )) refl (λ y. absurd (cc y)) (λ y. absurd (cc y)) (λ n k on at. absurd (cc at))
 
   pub none_taken : Stands e d z r w v → IsOwn port e.side p w → IsDeviceStep port e p q w r.guest b act.Nothing
       → GuestTurn port e d z p q r (next_at r b (stage.Collecting true)) w v Worked

@@ -63,7 +63,7 @@ module _ {P E D : Type 0} (port : PortModel P) (e : DeviceModel E) (d : DriverMo
         s.left,
         ap (λ o. guest_owes r.winding stage.Rested o w'.doing w'.shown v.shown (e.left b)) s.says.1,
         ap (λ o. guest_owes r.winding stage.Resting o w.doing w.shown v.shown (e.left r.guest)) s.says.0,
-      ))
+      )) refl (λ y. absurd (cc y)) (λ y. absurd (cc y)) (λ n k on at. absurd (cc at))
 
   pub rested : Stands e d z r w v → IsDeviceStep port e p q w r.guest b act.Rested
       → GuestTurn port e d z p q r (next_at r b stage.Rested) w v Worked

@@ -92,7 +92,7 @@ module _ {P E D : Type 0} (port : PortModel P) (e : DeviceModel E) (d : DriverMo
         takes_some r.winding w.shown v.shown (e.left r.guest) (omega (arith, s.left)),
         ap (λ o. shadow_owes r.winding (stage.Offering k head) o v.doing w'.shown v.shown (d.left c')) begun,
         ap (λ o. guest_owes r.winding stage.Taking o w.doing w.shown v.shown (e.left r.guest)) s.says.1,
-      ))
+      )) refl (λ y. absurd (cc y)) (λ y. absurd (cc y)) (λ n k on at. absurd (cc at))
 
   pub took : (k head : ℕ) (x y : List Piece) (c' : D) → Stands e d z r w v → IsDeviceStep port e p q w r.guest b (act.Taken k x)
       → y ≡ moved z.map x → d.stands c' v → d.begun c' ≡ DriverOp.offer y → d.left c' ≤ 38 → head ≡ next_head v.frame v.done

@@ -1,5 +1,5 @@
 -- What a turn of the guest's end owes to what its answer says.
-use Rattle.std.proofs.Common.{◌≡◌, ◌≢◌, ◌↔◌, ℕ, ◌+◌, ◌*◌, ◌≤◌, Bool, false, if◌then◌else◌, refl, sym, ◌∙◌, ap, subst, inl}
+use Rattle.std.proofs.Common.{◌≡◌, ◌≢◌, ◌↔◌, ℕ, ◌+◌, ◌*◌, ◌≤◌, Bool, false, List, length, if◌then◌else◌, refl, sym, ◌∙◌, ap, subst, inl, inr}
 use Rattle.vd_words.specs.declared.access.Op.{Op}
 use Rattle.vd_words.specs.declared.access.Op.TheVariants as op
 use Rattle.vd_words.specs.Model.{PortModel}
@@ -7,21 +7,27 @@ use Rattle.vd_ring.specs.declared.act.DeviceAct.{DeviceAct}
 use Rattle.vd_ring.specs.declared.act.DeviceAct.TheVariants as act
 use Rattle.vd_ring.specs.declared.frame.Frame.{Frame}
 use Rattle.vd_ring.specs.declared.driver.DriverView.{DriverView}
+use Rattle.vd_ring.specs.declared.device.DeviceDone.{DeviceDone}
+use Rattle.vd_ring.specs.declared.device.DeviceNow.TheVariants as now
 use Rattle.vd_ring.specs.declared.device.DeviceView.{DeviceView}
-use Rattle.vd_ring.specs.History.{gives}
+use Rattle.vd_ring.specs.History.{takes, gives}
 use Rattle.vd_ring.specs.Sleep.{device_woken}
 use Rattle.vd_layout.specs.Driver.{DriverModel, IsLawfulDriver}
-use Rattle.vd_layout.specs.Device.{DeviceModel, IsLawfulDevice, IsDeviceStep}
+use Rattle.vd_layout.specs.Begun.{DeviceOp}
+use Rattle.vd_layout.specs.Control.{ControlWords}
+use Rattle.vd_layout.specs.Device.{DeviceModel, IsLawfulDevice, IsDeviceStep, DeviceSays, is_rested as is_rested_act}
 use Rattle.vd_relay.specs.declared.counts.Turn.{Turn}
 use Rattle.vd_relay.specs.declared.counts.Turn.TheVariants.{Slept, Again}
 use Rattle.vd_relay.specs.declared.stage.Stage.{Stage}
+use Rattle.vd_relay.specs.declared.stage.Stage.TheVariants as stage
 use Rattle.vd_relay.specs.declared.state.State.{State}
-use Rattle.vd_relay.specs.Pairing.{ArePaired}
+use Rattle.vd_relay.specs.Pairing.{ArePaired, Wakes}
 use Rattle.vd_relay.specs.Pace.{counted, handled, woke, guest_handled, guest_owes, shadow_owes}
 use Rattle.vd_relay.specs.Stages.{is_rested, is_shadow}
 use Rattle.vd_relay.specs.Tie.{Start, since}
-use Rattle.vd_relay.specs.Relay.{Stands, GuestTurn, GivesOne, owes}
+use Rattle.vd_relay.specs.Relay.{Stands, GuestTurn, GivesOne, HearsNone, IsGlance, owes}
 use Rattle.vd_relay.proofs.Calm.{at_stage}
+use Rattle.vd_relay.proofs.Growth.{guest_grown}
 
 abbrev pub with_guest : {E D : Type 0} → State E D → E → State E D
 with_guest r b = record { guest = b; shadow = r.shadow; table = r.table; stage = r.stage; winding = r.winding; target = r.target }
@@ -48,6 +54,18 @@ not_woken op.Hear act.Armed n = refl
 not_woken op.Hear act.Asleep n = refl
 not_woken op.Hear act.Rested n = refl
 
+-- after an answer that ends an operation the end is in no hearing
+still_hears : (words : ControlWords) (f : Frame) (o o' : List DeviceDone) (X : Type 0) (answer : DeviceAct) (a a' : DeviceOp)
+    → DeviceSays words answer a a' f o o' → (answer ≡ act.Moved → a' ≡ DeviceOp.hear → X) → a' ≡ DeviceOp.hear → X
+still_hears words f o o' X act.Moved a a' says moves is = moves refl is
+still_hears words f o o' X act.Nothing a a' says moves is = absurd (cc (says.1, is))
+still_hears words f o o' X (act.Taken k c) a a' says moves is = absurd (cc (says.2, is))
+still_hears words f o o' X (act.Given k) a a' says moves is = absurd (elim says.3 [ inl x ↦ cc (x, is) | inr x ↦ cc (x, is) ])
+still_hears words f o o' X act.Rested a a' says moves is = absurd (cc (says.1, is))
+still_hears words f o o' X act.Armed a a' says moves is = absurd (cc (says.1, is))
+still_hears words f o o' X act.Awake a a' says moves is = absurd (cc (says.1, is))
+still_hears words f o o' X act.Asleep a a' says moves is = absurd (cc (says.1, is))
+
 module _ {P E D : Type 0} (port : PortModel P) (e : DeviceModel E) (d : DriverModel D) (law : IsLawfulDevice e) (ldr : IsLawfulDriver d)
     (z : Start) (p q : P) (r : State E D) (w : DeviceView) (v : DriverView) (b : E) where
   -- the turn, from what the answer says
@@ -57,8 +75,11 @@ module _ {P E D : Type 0} (port : PortModel P) (e : DeviceModel E) (d : DriverMo
       → handled t ≡ guest_handled answer → woke t ≡ device_woken s.op answer → (t ≡ Slept) ↔ (answer ≡ act.Asleep) → t ≢ Again
       → (t ≡ Slept → is_rested r'.stage ≡ false)
       → owes e d r' (e.side.after w s.op s.access s.got) v + counted t ≤ owes e d (at_stage r st) w v + 64 * (handled t + woke t)
+      → r'.guest ≡ b → (answer ≡ act.Moved → e.begun b ≡ DeviceOp.hear → (e.side.after w s.op s.access s.got).doing ≡ now.Idle → ⊥)
+      → (t ≡ Slept → Wakes e d → IsGlance stage.HearingGuest stage.HearingShadow e d (at_stage r st) r')
+      → (t ≢ Slept → Wakes e d → HearsNone e d r')
       → GuestTurn port e d z p q (at_stage r st) r' w v t
-  made_at answer s st r' t stands bag handles wakes sleeps once live paid = record {
+  made_at answer s st r' t stands bag handles wakes sleeps once live paid same moves look leaves = record {
     op = s.op;
     access = s.access;
     got = s.got;
@@ -71,6 +92,20 @@ module _ {P E D : Type 0} (port : PortModel P) (e : DeviceModel E) (d : DriverMo
     slept = subst (λ x. (t ≡ Slept) ↔ (x ≡ act.Asleep)) s.is_answer sleeps;
     once = once;
     live = live;
+    grown =
+        let rests : is_rested_act answer ≡ is_rested r'.stage = sym s.rests ∙ ap e.resting (sym same) ∙ stands.rests in
+        subst (λ x. length (takes w.done) + length (gives w.done) + guest_handled x
+        ≤ (if is_rested r'.stage then length (takes w.done) else length (takes (e.side.after w s.op s.access s.got).done))
+        + length (gives (e.side.after w s.op s.access s.got).done)) s.is_answer
+        (subst (λ (x : Bool). length (takes w.done) + length (gives w.done) + guest_handled answer
+        ≤ (if x then length (takes w.done) else length (takes (e.side.after w s.op s.access s.got).done))
+        + length (gives (e.side.after w s.op s.access s.got).done)) rests
+        (guest_grown w.done (e.side.after w s.op s.access s.got).done e.words w.frame answer (e.begun r.guest) (e.begun b) s.says));
+    hears = λ is.
+        still_hears e.words w.frame w.done (e.side.after w s.op s.access s.got).done _ answer (e.begun r.guest) (e.begun b) s.says moves
+        (ap e.begun (sym same) ∙ is);
+    look = look;
+    leaves = leaves;
     paid = paid;
   }
 

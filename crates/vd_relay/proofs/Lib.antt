@@ -3,7 +3,9 @@ pub mod Shifts
 pub mod Ties
 pub mod Calm
 pub mod Ops
+pub mod Hearings
 pub mod Turns
+pub mod Growth
 pub mod GuestGoing
 pub mod GuestTurns
 pub mod GuestFree

@@ -52,7 +52,7 @@ module _ {P E D : Type 0} (port : PortModel P) (e : DeviceModel E) (d : DriverMo
         ap (λ x. idle_owes x (stage.Collecting false) w.shown v'.shown) on,
         look_owes port e d law ldr z p q r w v b none s own,
         ap (λ x. collect_owes x none false) on,
-      ))
+      )) refl (λ y. absurd (cc y)) (λ y. absurd (cc y)) (λ n k on at. absurd (cc at))
   again_to none true on h own s stands exact =
       let v' : DriverView = d.side.after v s.op s.access s.got in
       let f = freed_at port e d law ldr z p q r w v b act.Nothing s (stage.Collecting none) refl refl h s.says.2 s.says.1 in
@@ -64,7 +64,7 @@ module _ {P E D : Type 0} (port : PortModel P) (e : DeviceModel E) (d : DriverMo
         owes_idle e d law ldr z (with_shadow r b) w v' stage.Resting f,
         look_owes port e d law ldr z p q r w v b none s own,
         ap (λ x. collect_owes x none false) on,
-      ))
+      )) refl (λ y. absurd (cc y)) (λ y. absurd (cc y)) (λ n k on at. absurd (cc at))
 
   again_now : (none : Bool) (st' : Stage) → r.winding ≡ true → (h : Stands e d z (at_stage r (stage.Collecting none)) w v)
       → IsOwn port d.side p v → (s : IsDriverStep port d p q v r.shadow b act.Nothing)

@@ -23,7 +23,7 @@ use Rattle.vd_relay.proofs.Ops.{at_shadow_arm}
 use Rattle.vd_relay.proofs.Turns.{worked_only}
 use Rattle.vd_relay.proofs.ShadowTurns.{made_at, next_at, not_woken, once, to_stage, with_shadow}
 use Rattle.vd_relay.proofs.ShadowFree.{freed_at}
-use Rattle.vd_relay.proofs.ShadowWakes.{roused_by, roused_on}
+use Rattle.vd_relay.proofs.ShadowWakes.{roused_by, roused_off, roused_on}
 
 module _ {P E D : Type 0} (port : PortModel P) (e : DeviceModel E) (d : DriverModel D) (law : IsLawfulDevice e) (ldr : IsLawfulDriver d)
     (z : Start) (p q : P) (r : State E D) (w : DeviceView) (v : DriverView) (b : D) where
@@ -58,7 +58,7 @@ module _ {P E D : Type 0} (port : PortModel P) (e : DeviceModel E) (d : DriverMo
         ap hear_owes off,
         ap (λ o. shadow_owes r.winding stage.ArmingShadow o v.doing w.shown v.shown (d.left r.shadow)) s.says.0,
         ap {B = ℕ} (λ (x : Bool). if x then 6 else 39) off,
-      ))
+      )) refl (λ y. absurd (cc y)) (λ y. absurd (cc y)) (λ n k on. absurd (cc (off, on)))
 
   pub armed_both : r.winding ≡ false → Stands e d z r w v → IsDriverStep port d p q v r.shadow b act.Armed
       → ShadowTurn port e d z p q r (next_at r b stage.HearingGuest) w v Worked
@@ -84,7 +84,8 @@ module _ {P E D : Type 0} (port : PortModel P) (e : DeviceModel E) (d : DriverMo
         ap (λ x. roused_most x w.shown v'.shown) on,
         ap (λ o. shadow_owes r.winding stage.ArmingShadow o v.doing w.shown v.shown (d.left r.shadow)) s.says.0,
         ap {B = ℕ} (λ (x : Bool). if x then 6 else 39) on,
-      ))
+      )) refl (λ y. absurd (cc y)) (λ y. absurd (cc y))
+      (λ n k wound at guest shadow. roused_off port e d law ldr z p q r w v b st' (a.finished, a.is) at)
 
   pub armed_winding : (st' : Stage) → r.winding ≡ true → Stands e d z r w v → (s : IsDriverStep port d p q v r.shadow b act.Armed)
       → IsRoused e d (with_shadow r b) w (d.side.after v s.op s.access s.got) st' → ShadowTurn port e d z p q r (next_at r b st') w v Worked

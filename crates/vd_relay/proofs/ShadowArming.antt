@@ -21,7 +21,7 @@ use Rattle.vd_relay.specs.Tie.{Start}
 use Rattle.vd_relay.specs.Relay.{Stands, ShadowTurn, IsRoused}
 use Rattle.vd_relay.proofs.Calm.{at_stage, stands_roused, roused_most}
 use Rattle.vd_relay.proofs.ShadowTurns.{next_at, with_shadow}
-use Rattle.vd_relay.proofs.ShadowWakes.{awake_at, roused_by, roused_on, woke_to}
+use Rattle.vd_relay.proofs.ShadowWakes.{awake_at, roused_by, roused_off, roused_on, woke_to}
 
 shown_most : (winding g s : Bool) → s ≡ true → roused_most winding g s ≤ (if winding then 6 else 39)
 shown_most true g s is = omega arith
@@ -57,6 +57,7 @@ module _ {P E D : Type 0} (port : PortModel P) (e : DeviceModel E) (d : DriverMo
       woke_to port e d law ldr z p q r w v b stage.ArmingShadow st' Worked refl refl h s
       (stands_roused e d law ldr z (with_shadow r b) w v' st' f a) refl (λ y. cc y)
       (λ y. cc y) (sym (ap (λ o. driver_woken o act.Awake) of)) (roused_on port e d law ldr z p q r w v b st' (a.finished, a.is))
+      (λ k. roused_off port e d law ldr z p q r w v b st' (a.finished, a.is))
       (omega (
         arith,
         roused_by port e d law ldr z p q r w v b st' w.shown v'.shown (a.finished, a.is),

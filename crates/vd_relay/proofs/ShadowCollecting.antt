@@ -92,6 +92,7 @@ module _ {P E D : Type 0} (port : PortModel P) (e : DeviceModel E) (d : DriverMo
         }) refl (not_woken s.op (act.Collected k l m) (λ y. cc y)) (handled_only (act.Collected k l m) (λ y. cc y))
         (once port e d law ldr z p q r w v b (act.Collected k l m) Handled (λ y. cc y) (λ y. cc y)) refl
         (omega (arith, few, ap (λ o. guest_owes r.winding stage.Giving o w.doing w.shown v'.shown (e.left a')) gives))
+        refl (λ y. absurd (cc y)) (λ y. absurd (cc y)) (λ n k on at. absurd (cc at))
 
   collects_at : (k l m : ℕ) → Stands e d z r w v → (s : IsDriverStep port d p q v r.shadow b (act.Collected k l m))
       → CollectsAt r.stage

@@ -21,7 +21,7 @@ use Rattle.vd_relay.specs.Tie.{Start}
 use Rattle.vd_relay.specs.Relay.{Stuck, Stands, ShadowTurn, IsRoused}
 use Rattle.vd_relay.proofs.Calm.{at_stage, settled, stands_roused}
 use Rattle.vd_relay.proofs.ShadowTurns.{next_at, with_shadow}
-use Rattle.vd_relay.proofs.ShadowWakes.{awake_at, roused_on, woke_to}
+use Rattle.vd_relay.proofs.ShadowWakes.{awake_at, roused_off, roused_on, woke_to}
 
 less_shown : (g s s' : Bool) → (s ≡ true → s' ≡ true) → take_owes false g s' ≤ take_owes false g s
 less_shown true s s' f = omega arith
@@ -65,6 +65,7 @@ module _ {P E D : Type 0} (port : PortModel P) (e : DeviceModel E) (d : DriverMo
       (stands_roused e d law ldr z (with_shadow r b) w v' st' f a) refl
       (λ y. cc y) (λ y. cc y) (sym (ap (λ o. driver_woken o act.Awake) (disarming_of s is)))
       (roused_on port e d law ldr z p q r w v b st' (a.finished, a.is))
+      (λ k. roused_off port e d law ldr z p q r w v b st' (a.finished, a.is))
       (omega (
         arith,
         ap (λ (x : Stage). idle_owes r.winding x w.shown v'.shown) a.is,
@@ -88,6 +89,7 @@ module _ {P E D : Type 0} (port : PortModel P) (e : DeviceModel E) (d : DriverMo
       woke_to port e d law ldr z p q r w v b stage.DisarmingShadow stage.HearingShadow Worked refl refl h s
       (settled e d law ldr z (with_shadow r b) w v' stage.HearingShadow refl f tt (inr (stuck_at s armed)) (some.0, some.1)) refl
       (λ y. cc y) (λ y. cc y) (sym (ap (λ o. driver_woken o act.Awake) (disarming_of s is))) refl
+      (λ k at. stuck_at s armed k)
       (omega (
         arith,
         stuck_small r.winding w.shown v.shown,

@@ -14,6 +14,7 @@ use Rattle.vd_relay.specs.declared.counts.Turn.TheVariants.{Woke, Slept}
 use Rattle.vd_relay.specs.declared.stage.Stage.{Stage}
 use Rattle.vd_relay.specs.declared.stage.Stage.TheVariants as stage
 use Rattle.vd_relay.specs.declared.state.State.{State}
+use Rattle.vd_relay.specs.Pairing.{Wakes}
 use Rattle.vd_relay.specs.Pace.{shadow_owes, shadow_hears, idle_owes, hear_owes}
 use Rattle.vd_relay.specs.Stages.{is_rested, heard_next, ShadowIs, ShadowHears, IsSome}
 use Rattle.vd_relay.specs.Tie.{Start}
@@ -22,7 +23,7 @@ use Rattle.vd_relay.proofs.Calm.{Free, at_stage, settled, owes_idle, stands_rous
 use Rattle.vd_relay.proofs.Ops.{at_shadow_hear}
 use Rattle.vd_relay.proofs.ShadowTurns.{made_at, next_at, not_woken, once, to_stage, with_shadow}
 use Rattle.vd_relay.proofs.ShadowFree.{freed_at}
-use Rattle.vd_relay.proofs.ShadowWakes.{awake_at, roused_by, roused_on, woke_to}
+use Rattle.vd_relay.proofs.ShadowWakes.{awake_at, roused_by, roused_off, roused_on, woke_to}
 
 hears_some : (winding : Bool) (x : _) → 1 ≤ shadow_hears winding x
 hears_some true now.Idle = omega arith
@@ -55,6 +56,7 @@ module _ {P E D : Type 0} (port : PortModel P) (e : DeviceModel E) (d : DriverMo
       woke_to port e d law ldr z p q r w v b stage.HearingShadow st' Woke refl refl h s
       (stands_roused e d law ldr z (with_shadow r b) w v' st' f a) refl (λ y. cc y)
       (λ y. cc y) (sym (ap (λ o. driver_woken o act.Awake) of)) (roused_on port e d law ldr z p q r w v b st' (a.finished, a.is))
+      (λ k. roused_off port e d law ldr z p q r w v b st' (a.finished, a.is))
       (omega (
         arith,
         roused_by port e d law ldr z p q r w v b st' w.shown v'.shown (a.finished, a.is),
@@ -92,7 +94,9 @@ module _ {P E D : Type 0} (port : PortModel P) (e : DeviceModel E) (d : DriverMo
         owes_to ga w.shown v'.shown,
         ap (λ o. shadow_owes r.winding stage.HearingShadow o v.doing w.shown v.shown (d.left r.shadow)) s.says.0,
         ap (shadow_hears r.winding) idle,
-      ))
+      )) refl (λ y. absurd (cc y))
+      (λ y k. record { was = refl; is = alternates ga is h.guest_armed k; guest_idle = f.guest_idle; shadow_idle = s.says.1 })
+      (λ n. absurd (n refl))
     where
       stands_to : (x : Bool) → e.armed r.guest ≡ x → Free e d z (with_shadow r b) w (d.side.after v s.op s.access s.got)
           → IsSome (d.side.after v s.op s.access s.got).armed → IsSome w.armed ⊎ Stuck e d
@@ -102,6 +106,12 @@ module _ {P E D : Type 0} (port : PortModel P) (e : DeviceModel E) (d : DriverMo
           (law.armed r.guest w f.serves y) (inl some)
       stands_to false y f some o = settled e d law ldr z (with_shadow r b) w
           (d.side.after v s.op s.access s.got) stage.HearingShadow refl f tt o some
+
+      alternates : (x : Bool) → e.armed r.guest ≡ x → IsSome w.armed ⊎ Stuck e d → Wakes e d
+          → heard_next stage.HearingShadow x sa ≡ stage.HearingGuest
+      alternates true y o k = refl
+      alternates false y (inl some) k = absurd (cc (some.1, law.not_armed r.guest w h.serves y))
+      alternates false y (inr stuck) k = absurd (stuck k)
 
       live_to : (x : Bool) → is_rested (heard_next stage.HearingShadow x sa) ≡ false
       live_to true = refl

@@ -10,16 +10,20 @@ use Rattle.vd_ring.specs.declared.driver.DriverNow.TheVariants as now
 use Rattle.vd_ring.specs.declared.driver.DriverView.{DriverView}
 use Rattle.vd_ring.specs.declared.device.DeviceView.{DeviceView}
 use Rattle.vd_ring.specs.Looks.{DriverGoes, DriverWakes}
+use Rattle.vd_layout.specs.Begun.{DriverOp, IsDriverOp}
 use Rattle.vd_layout.specs.Driver.{DriverModel, IsLawfulDriver, IsDriverStep}
 use Rattle.vd_layout.specs.Device.{DeviceModel, IsLawfulDevice}
 use Rattle.vd_relay.specs.declared.counts.Turn.TheVariants.{Worked}
 use Rattle.vd_relay.specs.declared.stage.Stage.{Stage}
+use Rattle.vd_relay.specs.declared.stage.Stage.TheVariants as stage
 use Rattle.vd_relay.specs.declared.state.State.{State}
-use Rattle.vd_relay.specs.Stages.{is_shadow, OfferIs, EndsIs}
+use Rattle.vd_relay.specs.Stages.{is_shadow, OfferIs, EndsIs, ShadowIs, ShadowArmed, ShadowHears}
 use Rattle.vd_relay.specs.Tie.{Start, since}
 use Rattle.vd_relay.specs.Relay.{Stuck, Stands, ShadowTurn}
 use Rattle.vd_relay.proofs.ShadowGoing.{Goes, went}
 use Rattle.vd_relay.proofs.Turns.{worked_only}
+use Rattle.vd_relay.proofs.Ops.{at_shadow_hear}
+use Rattle.vd_relay.proofs.Hearings.{shadow_stage, shadow_heard, shadow_goes_on}
 use Rattle.vd_relay.proofs.ShadowTurns.{framed_at, made_at, not_woken, once, owes_here, tied_after, with_shadow}
 use Rattle.vd_relay.proofs.ShadowFree.{shadow_live}
 
@@ -69,6 +73,25 @@ module _ {P E D : Type 0} (port : PortModel P) (e : DeviceModel E) (d : DriverMo
       (sym (ldr.framed v s.op s.access s.got))
       (subst (λ (o : List DriverDone). OfferIs st (since z) v.frame o) (sym done) is)
 
+  -- the end that hears is in its disarming store then
+  disarms : Stands e d z r w v → (s : IsDriverStep port d p q v r.shadow b act.Moved) → d.begun b ≡ DriverOp.hear
+      → (d.side.after v s.op s.access s.got).doing ≡ now.Idle → ⊥
+  disarms h s is idle =
+      let heard = shadow_heard (d.begun r.shadow) (d.begun b) s.says.0 is in
+      let of : s.op ≡ op.Hear = subst (λ o. IsDriverOp o s.op) heard s.of_it in
+      let at = at_shadow_hear r.stage (subst (λ o. ShadowIs r.stage o) heard h.shadow) in
+      let armed : ShadowHears DriverOp.hear v.doing v.armed = subst (λ o. ShadowHears o v.doing v.armed) heard
+      (subst (λ (x : Stage). ShadowArmed (Stuck e d) x (d.begun r.shadow) v.doing v.armed) at h.shadow_armed) in
+      elim armed [
+        | inl x ↦ cc (idle, (goes_of s).heard of x.0)
+        | inr x ↦ (goes_of s).busy (x ∙ ap now.Disarming (sym of))
+      ]
+
+  goes_to : r.stage ≡ stage.HearingShadow → Stands e d z r w v → IsDriverStep port d p q v r.shadow b act.Moved
+      → d.begun b ≡ DriverOp.idle → ⊥
+  goes_to at h s idle = shadow_goes_on (d.begun r.shadow) (d.begun b) s.op
+      (subst (λ (x : Stage). ShadowIs x (d.begun r.shadow)) at h.shadow) s.of_it s.says.0 idle
+
   pub went_on : is_shadow r.stage ≡ true → Stands e d z r w v → IsDriverStep port d p q v r.shadow b act.Moved
       → ShadowTurn port e d z p q r (with_shadow r b) w v Worked
   went_on side h s =
@@ -106,4 +129,5 @@ module _ {P E D : Type 0} (port : PortModel P) (e : DeviceModel E) (d : DriverMo
         g.paid,
         owes_here port e d law ldr z p q r w v b r v side,
         owes_here port e d law ldr z p q r w v b (with_shadow r b) v' side,
-      ))
+      )) refl (λ y is idle. disarms h s is idle) (λ y. absurd (cc y))
+      (λ n k on at guest shadow. goes_to (shadow_stage r.stage at side) h s shadow)

@@ -78,7 +78,7 @@ module _ {P E D : Type 0} (port : PortModel P) (e : DeviceModel E) (d : DriverMo
         look_owes none s own,
         ap (λ x. collect_owes x none false) off,
         none_small none w.shown v'.shown,
-      ))
+      )) refl (λ y. absurd (cc y)) (λ y. absurd (cc y)) (λ n k on. absurd (cc (off, on)))
 
   pub none_collected : r.winding ≡ false → Stands e d z r w v → IsOwn port d.side p v → IsDriverStep port d p q v r.shadow b act.Nothing
       → ShadowTurn port e d z p q r (next_at r b (none_next r.stage)) w v Worked

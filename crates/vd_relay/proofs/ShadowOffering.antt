@@ -118,7 +118,7 @@ module _ {P E D : Type 0} (port : PortModel P) (e : DeviceModel E) (d : DriverMo
           s.left,
           published_owes (d.begun b) v' (d.left b) s.says.2,
           ap (λ o. shadow_owes r.winding (stage.Offering number head) o v.doing w.shown v.shown (d.left r.shadow)) s.says.1,
-        ))
+        )) refl (λ y. absurd (cc y)) (λ y. absurd (cc y)) (λ n k on at. absurd (cc at))
 
   pub offered : (number head k : ℕ) → r.stage ≡ stage.Offering number head → Stands e d z r w v
       → IsDriverStep port d p q v r.shadow b (act.Offered k) → ShadowTurn port e d z p q r (stored b number head) w v Handled

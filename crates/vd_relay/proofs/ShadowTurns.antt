@@ -1,5 +1,5 @@
 -- What a turn of the shadow end owes to what its answer says.
-use Rattle.std.proofs.Common.{◌≡◌, ◌≢◌, ◌↔◌, ℕ, ◌+◌, ◌*◌, ◌≤◌, Bool, true, false, Option, List, if◌then◌else◌, refl, sym, ◌∙◌, ap, subst}
+use Rattle.std.proofs.Common.{◌≡◌, ◌≢◌, ◌↔◌, ℕ, ◌+◌, ◌*◌, ◌≤◌, Bool, true, false, Option, List, length, if◌then◌else◌, refl, sym, ◌∙◌, ap, subst, inl, inr}
 use Rattle.vd_model.specs.declared.chain.Piece.{Piece}
 use Rattle.vd_words.specs.declared.access.Op.{Op}
 use Rattle.vd_words.specs.declared.access.Op.TheVariants as op
@@ -9,23 +9,28 @@ use Rattle.vd_ring.specs.declared.act.DriverAct.TheVariants as act
 use Rattle.vd_ring.specs.declared.frame.Frame.{Frame}
 use Rattle.vd_ring.specs.declared.frame.Used.{Used}
 use Rattle.vd_ring.specs.declared.driver.DriverDone.{DriverDone}
+use Rattle.vd_ring.specs.declared.driver.DriverNow.TheVariants as now
 use Rattle.vd_ring.specs.declared.driver.DriverView.{DriverView}
 use Rattle.vd_ring.specs.declared.device.DeviceDone.{DeviceDone}
 use Rattle.vd_ring.specs.declared.device.DeviceView.{DeviceView}
+use Rattle.vd_ring.specs.History.{offers, collects}
 use Rattle.vd_ring.specs.Sleep.{driver_woken}
-use Rattle.vd_layout.specs.Driver.{DriverModel, IsLawfulDriver, IsDriverStep}
+use Rattle.vd_layout.specs.Begun.{DriverOp}
+use Rattle.vd_layout.specs.Driver.{DriverModel, IsLawfulDriver, IsDriverStep, DriverSays}
 use Rattle.vd_layout.specs.Device.{DeviceModel, IsLawfulDevice}
 use Rattle.vd_table.specs.declared.Origin.{Origin}
 use Rattle.vd_relay.specs.declared.counts.Turn.{Turn}
 use Rattle.vd_relay.specs.declared.counts.Turn.TheVariants.{Slept, Again}
 use Rattle.vd_relay.specs.declared.stage.Stage.{Stage}
+use Rattle.vd_relay.specs.declared.stage.Stage.TheVariants as stage
 use Rattle.vd_relay.specs.declared.state.State.{State}
-use Rattle.vd_relay.specs.Pairing.{ArePaired}
+use Rattle.vd_relay.specs.Pairing.{ArePaired, Wakes}
 use Rattle.vd_relay.specs.Pace.{counted, handled, woke, shadow_handled, guest_owes, shadow_owes}
 use Rattle.vd_relay.specs.Stages.{is_rested, is_shadow}
 use Rattle.vd_relay.specs.Tie.{Start, IsTied}
-use Rattle.vd_relay.specs.Relay.{Stands, ShadowTurn, owes, IsFinished}
+use Rattle.vd_relay.specs.Relay.{Stands, ShadowTurn, HearsNone, IsGlance, owes, IsFinished}
 use Rattle.vd_relay.proofs.Calm.{at_stage}
+use Rattle.vd_relay.proofs.Growth.{shadow_grown}
 
 abbrev pub with_shadow : {E D : Type 0} → State E D → D → State E D
 with_shadow r b = record { guest = r.guest; shadow = b; table = r.table; stage = r.stage; winding = r.winding; target = r.target }
@@ -51,6 +56,17 @@ not_woken op.Hear act.Nothing n = refl
 not_woken op.Hear act.Armed n = refl
 not_woken op.Hear act.Asleep n = refl
 
+-- after an answer that ends an operation the end is in no hearing
+still_hears : (f : Frame) (o o' : List DriverDone) (X : Type 0) (answer : DriverAct) (a a' : DriverOp)
+    → DriverSays answer a a' f o o' → (answer ≡ act.Moved → a' ≡ DriverOp.hear → X) → a' ≡ DriverOp.hear → X
+still_hears f o o' X act.Moved a a' says moves is = moves refl is
+still_hears f o o' X act.Nothing a a' says moves is = absurd (cc (says.1, is))
+still_hears f o o' X (act.Offered k) a a' says moves is = absurd (elim says.2 [ inl x ↦ cc (x, is) | inr x ↦ cc (x, is) ])
+still_hears f o o' X (act.Collected k n h) a a' says moves is = absurd (cc (says.2, is))
+still_hears f o o' X act.Armed a a' says moves is = absurd (cc (says.1, is))
+still_hears f o o' X act.Awake a a' says moves is = absurd (cc (says.1, is))
+still_hears f o o' X act.Asleep a a' says moves is = absurd (cc (says.1, is))
+
 module _ {P E D : Type 0} (port : PortModel P) (e : DeviceModel E) (d : DriverModel D) (law : IsLawfulDevice e) (ldr : IsLawfulDriver d)
     (z : Start) (p q : P) (r : State E D) (w : DeviceView) (v : DriverView) (b : D) where
   -- the turn, from what the answer says
@@ -59,8 +75,11 @@ module _ {P E D : Type 0} (port : PortModel P) (e : DeviceModel E) (d : DriverMo
       → handled t ≡ shadow_handled answer → woke t ≡ driver_woken s.op answer → (t ≡ Slept) ↔ (answer ≡ act.Asleep)
       → (t ≡ Again) ↔ ((answer ≡ act.Nothing) × (r.winding ≡ true) × (IsFinished r w v → ⊥)) → is_rested r'.stage ≡ false
       → owes e d r' w (d.side.after v s.op s.access s.got) + counted t ≤ owes e d (at_stage r st) w v + 64 * (handled t + woke t)
+      → r'.shadow ≡ b → (answer ≡ act.Moved → d.begun b ≡ DriverOp.hear → (d.side.after v s.op s.access s.got).doing ≡ now.Idle → ⊥)
+      → (t ≡ Slept → Wakes e d → IsGlance stage.HearingShadow stage.HearingGuest e d (at_stage r st) r')
+      → (t ≢ Slept → Wakes e d → HearsNone e d r')
       → ShadowTurn port e d z p q (at_stage r st) r' w v t
-  made_at answer s st r' t stands handles wakes sleeps agains live paid = record {
+  made_at answer s st r' t stands handles wakes sleeps agains live paid same moves look leaves = record {
     op = s.op;
     access = s.access;
     got = s.got;
@@ -72,6 +91,16 @@ module _ {P E D : Type 0} (port : PortModel P) (e : DeviceModel E) (d : DriverMo
     slept = subst (λ x. (t ≡ Slept) ↔ (x ≡ act.Asleep)) s.is_answer sleeps;
     again = subst (λ x. (t ≡ Again) ↔ ((x ≡ act.Nothing) × (r.winding ≡ true) × (IsFinished r w v → ⊥))) s.is_answer agains;
     live = live;
+    grown =
+        subst (λ x. length (offers v.done) + length (collects v.done) + shadow_handled x
+        ≤ length (offers (d.side.after v s.op s.access s.got).done) + length (collects (d.side.after v s.op s.access s.got).done))
+        s.is_answer
+        (shadow_grown v.done (d.side.after v s.op s.access s.got).done v.frame answer (d.begun r.shadow) (d.begun b) s.says);
+    hears = λ is.
+        still_hears v.frame v.done (d.side.after v s.op s.access s.got).done _ answer (d.begun r.shadow) (d.begun b) s.says moves
+        (ap d.begun (sym same) ∙ is);
+    look = look;
+    leaves = leaves;
     paid = paid;
   }
 

@@ -1,5 +1,5 @@
 -- What the wakings of the shadow end share.
-use Rattle.std.proofs.Common.{◌≡◌, ◌≢◌, ◌+◌, ◌*◌, ◌≤◌, Bool, true, false, sym, ◌∙◌, ap, subst, arith}
+use Rattle.std.proofs.Common.{◌≡◌, ◌≢◌, ◌+◌, ◌*◌, ◌≤◌, Bool, true, false, refl, sym, ◌∙◌, ap, subst, arith}
 use Rattle.vd_words.specs.Model.{PortModel}
 use Rattle.vd_ring.specs.declared.act.DriverAct.TheVariants as act
 use Rattle.vd_ring.specs.declared.driver.DriverView.{DriverView}
@@ -11,11 +11,12 @@ use Rattle.vd_relay.specs.declared.counts.Turn.{Turn}
 use Rattle.vd_relay.specs.declared.counts.Turn.TheVariants.{Slept, Again}
 use Rattle.vd_relay.specs.declared.stage.Stage.{Stage}
 use Rattle.vd_relay.specs.declared.state.State.{State}
+use Rattle.vd_relay.specs.Pairing.{Wakes}
 use Rattle.vd_relay.specs.Pace.{counted, handled, woke, waking, shadow_owes, idle_owes}
-use Rattle.vd_relay.specs.Stages.{is_rested, is_shadow, roused}
+use Rattle.vd_relay.specs.Stages.{is_rested, is_shadow, is_hearing, roused}
 use Rattle.vd_relay.specs.Tie.{Start}
 use Rattle.vd_relay.specs.Relay.{Stands, ShadowTurn}
-use Rattle.vd_relay.proofs.Calm.{Free, at_stage, owes_idle, roused_small, roused_most, roused_live, is_calm}
+use Rattle.vd_relay.proofs.Calm.{Free, at_stage, owes_idle, roused_small, roused_most, roused_live, roused_deaf, is_calm}
 use Rattle.vd_relay.proofs.ShadowTurns.{made_at, next_at, once, owes_here, with_shadow}
 use Rattle.vd_relay.proofs.ShadowFree.{freed_at}
 
@@ -28,10 +29,11 @@ module _ {P E D : Type 0} (port : PortModel P) (e : DeviceModel E) (d : DriverMo
   pub woke_to : (st st' : Stage) (t : Turn) → is_calm st ≡ true → is_shadow st ≡ true → (h : Stands e d z (at_stage r st) w v)
       → (s : IsDriverStep port d p q v r.shadow b act.Awake) → Stands e d z (next_at r b st') w (d.side.after v s.op s.access s.got)
       → handled t ≡ 0 → t ≢ Slept → t ≢ Again → woke t ≡ driver_woken s.op act.Awake → is_rested st' ≡ false
+      → (Wakes e d → is_hearing st' ≡ true → ⊥)
       → idle_owes r.winding st' w.shown (d.side.after v s.op s.access s.got).shown + counted t
       ≤ shadow_owes r.winding st (d.begun r.shadow) v.doing w.shown v.shown (d.left r.shadow) + 64 * woke t
       → ShadowTurn port e d z p q (at_stage r st) (next_at r b st') w v t
-  woke_to st st' t calm side h s stands none ns na wakes live paid =
+  woke_to st st' t calm side h s stands none ns na wakes live leaves paid =
       let f = awake_at st calm side h s in
       let v' : DriverView = d.side.after v s.op s.access s.got in
       made_at port e d law ldr z p q r w v b act.Awake s st (next_at r b st') t stands none wakes ((λ y. absurd (ns y)), λ y. absurd (cc y))
@@ -42,7 +44,7 @@ module _ {P E D : Type 0} (port : PortModel P) (e : DeviceModel E) (d : DriverMo
         paid,
         owes_idle e d law ldr z (with_shadow r b) w v' st' f,
         owes_here port e d law ldr z p q r w v b (at_stage r st) v side,
-      ))
+      )) refl (λ y. absurd (cc y)) (λ y. absurd (ns y)) (λ n k on at guest shadow. leaves k at)
 
   -- by how much a rousing is paid for
   pub roused_by : (st : Stage) (g s : Bool) → (a : (finished : Bool) × (st ≡ roused (e.armed r.guest) (d.armed b) r.winding finished))
@@ -52,6 +54,11 @@ module _ {P E D : Type 0} (port : PortModel P) (e : DeviceModel E) (d : DriverMo
     ap (λ (x : Stage). idle_owes r.winding x g s) a.1,
     roused_small (e.armed r.guest) (d.armed b) r.winding a.0 g s,
   )
+
+  -- it hears no bell next
+  pub roused_off : (st : Stage) → (a : (finished : Bool) × (st ≡ roused (e.armed r.guest) (d.armed b) r.winding finished))
+      → is_hearing st ≡ true → ⊥
+  roused_off st a at = roused_deaf (e.armed r.guest) (d.armed b) r.winding a.0 (sym (ap is_hearing a.1) ∙ at)
 
   pub roused_on : (st : Stage) → (a : (finished : Bool) × (st ≡ roused (e.armed r.guest) (d.armed b) r.winding finished))
       → is_rested st ≡ false

@@ -1,26 +1,47 @@
 -- One step of a relay, from the access that it makes and from how that is counted.
 use Rattle.std.proofs.Common.{◌≡◌, ◌≢◌, ◌⊎◌, ◌↔◌, ℕ, ◌+◌, ◌*◌, ◌<◌, ◌≤◌, Bool, true, false, IsTrue, refl, sym, ◌∙◌, ap, subst, arith, inl, inr}
 use Rattle.vd_words.specs.Model.{PortModel}
+use Rattle.vd_ring.specs.declared.act.DriverAct.TheVariants as driver_act
+use Rattle.vd_ring.specs.declared.act.DeviceAct.TheVariants as device_act
+use Rattle.vd_ring.specs.declared.driver.DriverNow.TheVariants as driver
 use Rattle.vd_ring.specs.declared.driver.DriverView.{DriverView}
+use Rattle.vd_ring.specs.declared.device.DeviceNow.TheVariants as device
 use Rattle.vd_ring.specs.declared.device.DeviceView.{DeviceView}
-use Rattle.vd_layout.specs.Driver.{DriverModel}
-use Rattle.vd_layout.specs.Device.{DeviceModel}
+use Rattle.vd_layout.specs.Begun.{DriverOp, DeviceOp}
+use Rattle.vd_layout.specs.Driver.{DriverModel, IsLawfulDriver}
+use Rattle.vd_layout.specs.Device.{DeviceModel, IsLawfulDevice}
 use Rattle.vd_layout.specs.declared.moves.Move.{Move}
 use Rattle.vd_layout.specs.declared.moves.Move.TheVariants as move
 use Rattle.vd_relay.specs.declared.counts.Counts.{Counts}
 use Rattle.vd_relay.specs.declared.counts.Turn.{Turn}
 use Rattle.vd_relay.specs.declared.counts.Turn.TheVariants.{Worked, Handled, Woke, Slept, Again}
+use Rattle.vd_relay.specs.declared.stage.Stage.{Stage}
+use Rattle.vd_relay.specs.declared.stage.Stage.TheVariants as stage
 use Rattle.vd_relay.specs.declared.state.State.{State}
 use Rattle.vd_relay.specs.Pace.{last_count, raised, counted, handled, woke, move_of, guest_handled, shadow_handled, KeepsPace}
+use Rattle.vd_relay.specs.Pairing.{Wakes}
+use Rattle.vd_relay.specs.Stages.{GuestIs, ShadowIs, is_hearing, is_shadow}
 use Rattle.vd_relay.specs.Tie.{Start}
-use Rattle.vd_relay.specs.Relay.{IsKept, IsFinished, GuestTurn, ShadowTurn, OnGuest, OnShadow, owes, unless}
+use Rattle.vd_relay.proofs.Ops.{guest_idle, shadow_idle}
+use Rattle.vd_relay.proofs.Hearings.{guest_hears, shadow_hears}
+use Rattle.vd_relay.specs.Relay.{Stands, Holds, IsKept, IsFinished, IsGlance, IsLook, HearsNone, ShadowWaits, GuestWaits, GuestTurn, ShadowTurn, OnGuest, OnShadow, owes, unless}
 
 -- ---- from before the operation was begun
 
 module _ {P E D : Type 0} (port : PortModel P) (e : DeviceModel E) (d : DriverModel D) (z : Start) (p q : P) (r u r' : State E D)
     (w : DeviceView) (v : DriverView) (t : Turn) where
-  pub guest_from : owes e d u w v ≤ owes e d r w v → GuestTurn port e d z p q u r' w v t → GuestTurn port e d z p q r r' w v t
-  guest_from less h = record {
+  glanced : (from to : Stage) → is_hearing from ≡ true → (is_hearing u.stage ≡ true → u.stage ≡ r.stage)
+      → IsGlance from to e d u r' → IsGlance from to e d r r'
+  glanced from to hears same g = record {
+    was = sym (same (ap is_hearing g.was ∙ hears)) ∙ g.was;
+    is = g.is;
+    guest_idle = g.guest_idle;
+    shadow_idle = g.shadow_idle;
+  }
+
+  pub guest_from : owes e d u w v ≤ owes e d r w v → (is_hearing u.stage ≡ true → u.stage ≡ r.stage)
+      → GuestTurn port e d z p q u r' w v t → GuestTurn port e d z p q r r' w v t
+  guest_from less same h = record {
     op = h.op;
     access = h.access;
     got = h.got;
@@ -33,15 +54,19 @@ module _ {P E D : Type 0} (port : PortModel P) (e : DeviceModel E) (d : DriverMo
     slept = h.slept;
     once = h.once;
     live = h.live;
+    grown = h.grown;
+    hears = h.hears;
+    look = λ i k. glanced stage.HearingGuest stage.HearingShadow refl same (h.look i k);
+    leaves = h.leaves;
     paid = omega (arith, h.paid, less);
   }
 
   same_finished : IsKept r u → IsFinished u w v ↔ IsFinished r w v
   same_finished k = ((λ f. (sym k.0 ∙ f.0, omega (arith, f.1, k.1), f.2)), λ f. (k.0 ∙ f.0, omega (arith, f.1, k.1), f.2))
 
-  pub shadow_from : owes e d u w v ≤ owes e d r w v → IsKept r u → ShadowTurn port e d z p q u r' w v t
-      → ShadowTurn port e d z p q r r' w v t
-  shadow_from less k h = record {
+  pub shadow_from : owes e d u w v ≤ owes e d r w v → IsKept r u → (is_hearing u.stage ≡ true → u.stage ≡ r.stage)
+      → ShadowTurn port e d z p q u r' w v t → ShadowTurn port e d z p q r r' w v t
+  shadow_from less k same h = record {
     op = h.op;
     access = h.access;
     got = h.got;
@@ -56,6 +81,10 @@ module _ {P E D : Type 0} (port : PortModel P) (e : DeviceModel E) (d : DriverMo
       λ x. h.again.1 (x.0, k.0 ∙ x.1, λ f. x.2 ((same_finished k).0 f)),
     );
     live = h.live;
+    grown = h.grown;
+    hears = h.hears;
+    look = λ i wakes. glanced stage.HearingShadow stage.HearingGuest refl same (h.look i wakes);
+    leaves = h.leaves;
     paid = omega (arith, h.paid, less);
   }
 
@@ -152,6 +181,55 @@ both f g = ((λ x. g.0 (f.0 x)), λ y. f.1 (g.1 y))
 back : {X Y : Type 0} → X ↔ Y → Y ↔ X
 back f = (f.1, f.0)
 
+-- ---- looks
+
+module _ {E D : Type 0} (e : DeviceModel E) (d : DriverModel D) (z : Start) (r r' : State E D) (c : Counts) (w : DeviceView)
+    (v : DriverView) (h : Holds e d z r c w v) where
+  winds_up : (b : Bool) → r.winding ≡ b → (r.winding ≡ true → ⊥) → r.winding ≡ false
+  winds_up true is never = absurd (never is)
+  winds_up false is never = is
+
+  pub guest_look : Wakes e d → w.doing ≡ device.Idle → IsGlance stage.HearingGuest stage.HearingShadow e d r r'
+      → IsLook stage.HearingGuest stage.HearingShadow e d r r'
+  guest_look k idle g =
+      let shadow : d.begun r.shadow ≡ DriverOp.idle = shadow_idle r.stage (d.begun r.shadow) (ap is_shadow g.was) h.stands.shadow in
+      let guest = guest_hears (e.begun r.guest) (subst (λ (x : Stage). GuestIs x (e.begun r.guest)) g.was h.stands.guest) in
+      record {
+        was = g.was;
+        is = g.is;
+        guest_idle = g.guest_idle;
+        shadow_idle = g.shadow_idle;
+        live = winds_up r.winding refl (λ on. elim guest [
+          | inl x ↦ h.leaves k on (ap is_hearing g.was) x shadow
+          | inr x ↦ h.hears_guest x idle
+        ]);
+      }
+
+  pub shadow_look : Wakes e d → v.doing ≡ driver.Idle → IsGlance stage.HearingShadow stage.HearingGuest e d r r'
+      → IsLook stage.HearingShadow stage.HearingGuest e d r r'
+  shadow_look k idle g =
+      let guest : e.begun r.guest ≡ DeviceOp.idle = guest_idle r.stage (e.begun r.guest) (ap is_shadow g.was) h.stands.guest in
+      let shadow = shadow_hears (d.begun r.shadow) (subst (λ (x : Stage). ShadowIs x (d.begun r.shadow)) g.was h.stands.shadow) in
+      record {
+        was = g.was;
+        is = g.is;
+        guest_idle = g.guest_idle;
+        shadow_idle = g.shadow_idle;
+        live = winds_up r.winding refl (λ on. elim shadow [
+          | inl x ↦ h.leaves k on (ap is_hearing g.was) guest x
+          | inr x ↦ h.hears_shadow x idle
+        ]);
+      }
+
+  -- a wind-up goes on so after a look, which it doesn't make, and after anything else
+  pub leaves_on : (t : Turn) → (t ≡ Slept → Wakes e d → r.winding ≡ false) → r'.winding ≡ r.winding
+      → (t ≢ Slept → Wakes e d → HearsNone e d r') → Wakes e d → HearsNone e d r'
+  leaves_on Slept look same leaves k = λ on. absurd (cc (look refl k, same, on))
+  leaves_on Worked look same leaves k = leaves (λ i. cc i) k
+  leaves_on Handled look same leaves k = leaves (λ i. cc i) k
+  leaves_on Woke look same leaves k = leaves (λ i. cc i) k
+  leaves_on Again look same leaves k = leaves (λ i. cc i) k
+
 -- how the counts went up
 pub record Noted (c c' : Counts) (t : Turn) : Type 0 where
   pub accesses : c'.accesses ≡ raised (counted t) c.accesses
@@ -161,9 +239,14 @@ pub record Noted (c c' : Counts) (t : Turn) : Type 0 where
 module _ {P E D : Type 0} (port : PortModel P) (e : DeviceModel E) (d : DriverModel D) (z : Start) (p q : P) (r r' : State E D)
     (c c' : Counts)
     (w : DeviceView) (v : DriverView) (t : Turn) (said : Move) (b : Bool) where
-  pub on_guest : said ≡ move_of t b → Noted c c' t → KeepsPace c (owes e d r w v) → GuestTurn port e d z p q r r' w v t
-      → OnGuest port e d z p q r r' c c' w v said
-  on_guest is n pace h = record {
+  guest_looks : IsLawfulDevice e → Holds e d z r c w v → GuestTurn port e d z p q r r' w v t → t ≡ Slept → Wakes e d
+      → IsLook stage.HearingGuest stage.HearingShadow e d r r'
+  guest_looks law holds h i k = guest_look e d z r r' c w v holds k
+      ((law.looks.asleep w h.op h.access h.got h.was_next).0 (h.slept.0 i)).1 (h.look i k)
+
+  pub on_guest : IsLawfulDevice e → said ≡ move_of t b → Noted c c' t → IsKept r r' → ShadowWaits d r r' → Holds e d z r c w v
+      → GuestTurn port e d z p q r r' w v t → OnGuest port e d z p q r r' c c' w v said
+  on_guest law is n kept waits holds h = record {
     op = h.op;
     access = h.access;
     got = h.got;
@@ -171,10 +254,16 @@ module _ {P E D : Type 0} (port : PortModel P) (e : DeviceModel E) (d : DriverMo
     moved = h.moved;
     holds = record {
       stands = h.stands;
-      pace = paces c c' t (owes e d r w v) (owes e d r' (e.side.after w h.op h.access h.got) v) n.accesses n.handled n.heard h.paid pace;
+      pace = paces c c' t (owes e d r w v) (owes e d r' (e.side.after w h.op h.access h.got) v) n.accesses n.handled n.heard h.paid
+          holds.pace;
+      hears_guest = h.hears;
+      hears_shadow = λ i idle. waits.1 i;
+      leaves = leaves_on e d z r r' c w v holds t (λ i k. (guest_looks law holds h i k).live) kept.0 h.leaves;
     };
     bag = h.bag;
+    grown = h.grown;
     looked = both (looked_is said t b is) h.slept;
+    look = λ i. guest_looks law holds h ((looked_is said t b is).0 i);
     slept = is_slept t;
     asleep = both (slept_exact t) (back (looked_is said t b is));
     counts = record {
@@ -184,9 +273,14 @@ module _ {P E D : Type 0} (port : PortModel P) (e : DeviceModel E) (d : DriverMo
     };
   }
 
-  pub on_shadow : said ≡ move_of t b → Noted c c' t → KeepsPace c (owes e d r w v) → ShadowTurn port e d z p q r r' w v t
-      → OnShadow port e d z p q r r' c c' w v said
-  on_shadow is n pace h = record {
+  shadow_looks : IsLawfulDriver d → Holds e d z r c w v → ShadowTurn port e d z p q r r' w v t → t ≡ Slept → Wakes e d
+      → IsLook stage.HearingShadow stage.HearingGuest e d r r'
+  shadow_looks law holds h i k = shadow_look e d z r r' c w v holds k
+      ((law.looks.asleep v h.op h.access h.got h.was_next).0 (h.slept.0 i)).1 (h.look i k)
+
+  pub on_shadow : IsLawfulDriver d → said ≡ move_of t b → Noted c c' t → IsKept r r' → GuestWaits e r r' → Holds e d z r c w v
+      → ShadowTurn port e d z p q r r' w v t → OnShadow port e d z p q r r' c c' w v said
+  on_shadow law is n kept waits holds h = record {
     op = h.op;
     access = h.access;
     got = h.got;
@@ -194,9 +288,16 @@ module _ {P E D : Type 0} (port : PortModel P) (e : DeviceModel E) (d : DriverMo
     moved = h.moved;
     holds = record {
       stands = h.stands;
-      pace = paces c c' t (owes e d r w v) (owes e d r' w (d.side.after v h.op h.access h.got)) n.accesses n.handled n.heard h.paid pace;
+      pace = paces c c' t (owes e d r w v) (owes e d r' w (d.side.after v h.op h.access h.got)) n.accesses n.handled n.heard h.paid
+          holds.pace;
+      hears_guest = λ i idle. waits.1 i;
+      hears_shadow = h.hears;
+      leaves = leaves_on e d z r r' c w v holds t (λ i k. (shadow_looks law holds h i k).live) kept.0 h.leaves;
     };
+    grown = h.grown;
     looked = both (looked_is said t b is) h.slept;
+    look = λ i. shadow_looks law holds h ((looked_is said t b is).0 i);
+    free = λ i. waits.0;
     left_out = is_left_out t;
     uncounted = (
       (λ x. elim ((left_exact t).0 x) [

@@ -9,14 +9,16 @@ use Rattle.vd_words.specs.Model.{PortModel}
 use Rattle.vd_words.specs.Own.{IsOwn}
 use Rattle.vd_ring.specs.declared.act.DriverAct.TheVariants as driver_act
 use Rattle.vd_ring.specs.declared.act.DeviceAct.TheVariants as device_act
+use Rattle.vd_ring.specs.declared.device.DeviceNow.TheVariants as device
+use Rattle.vd_ring.specs.declared.driver.DriverNow.TheVariants as driver
 use Rattle.vd_ring.specs.declared.frame.Used.{Used}
 use Rattle.vd_ring.specs.declared.driver.DriverDone.{DriverDone}
 use Rattle.vd_ring.specs.declared.driver.DriverView.{DriverView}
 use Rattle.vd_ring.specs.declared.device.DeviceDone.{DeviceDone}
 use Rattle.vd_ring.specs.declared.device.DeviceView.{DeviceView}
-use Rattle.vd_ring.specs.History.{collects, takes, gives, running, occurs, IsWhole}
+use Rattle.vd_ring.specs.History.{offers, collects, takes, gives, running, occurs, IsWhole}
 use Rattle.vd_ring.specs.Sleep.{driver_woken, device_woken}
-use Rattle.vd_layout.specs.Begun.{DriverOp}
+use Rattle.vd_layout.specs.Begun.{DriverOp, DeviceOp}
 use Rattle.vd_layout.specs.Driver.{DriverModel}
 use Rattle.vd_layout.specs.Device.{DeviceModel}
 use Rattle.vd_layout.specs.declared.moves.Move.{Move}
@@ -30,7 +32,7 @@ use Rattle.vd_relay.specs.declared.stage.Stage.TheVariants as stage
 use Rattle.vd_relay.specs.declared.state.State.{State}
 use Rattle.vd_relay.specs.Pairing.{ArePaired, Wakes}
 use Rattle.vd_relay.specs.Pace.{raised, counted, handled, woke, guest_handled, shadow_handled, guest_owes, shadow_owes, KeepsPace}
-use Rattle.vd_relay.specs.Stages.{is_rested, is_shadow, roused, GuestIs, ShadowIs, TakesFrom, OffersHand, InHand, OfferIs, BackIs, EndsIs, BeforeRest, GuestArmed, ShadowArmed, GuestShown, ShadowShown}
+use Rattle.vd_relay.specs.Stages.{is_rested, is_shadow, is_hearing, roused, GuestIs, ShadowIs, TakesFrom, OffersHand, InHand, OfferIs, BackIs, EndsIs, BeforeRest, GuestArmed, ShadowArmed, GuestShown, ShadowShown}
 use Rattle.vd_relay.specs.Tie.{Start, IsTied, shift, since}
 
 -- a layout in which an end that has woken may be armed still: none is
@@ -68,11 +70,18 @@ owes e d r w v = if is_shadow r.stage
     then shadow_owes r.winding r.stage (d.begun r.shadow) v.doing w.shown v.shown (d.left r.shadow)
     else guest_owes r.winding r.stage (e.begun r.guest) w.doing w.shown v.shown (e.left r.guest)
 
--- and it keeps its pace
+-- a wind-up that is to hear a bell next has begun to
+abbrev pub HearsNone : {E D : Type 0} → DeviceModel E → DriverModel D → State E D → Type 0
+HearsNone e d r = r.winding ≡ true → is_hearing r.stage ≡ true → e.begun r.guest ≡ DeviceOp.idle → d.begun r.shadow ≡ DriverOp.idle → ⊥
+
+-- it keeps its pace. Between two steps an end that hears is in its disarming store, and a wind-up is to hear no bell
 pub record Holds {E D : Type 0} (e : DeviceModel E) (d : DriverModel D) (z : Start) (r : State E D) (c : Counts) (w : DeviceView)
     (v : DriverView) : Type 0 where
   pub stands : Stands e d z r w v
   pub pace : KeepsPace c (owes e d r w v)
+  pub hears_guest : e.begun r.guest ≡ DeviceOp.hear → w.doing ≡ device.Idle → ⊥
+  pub hears_shadow : d.begun r.shadow ≡ DriverOp.hear → v.doing ≡ driver.Idle → ⊥
+  pub leaves : Wakes e d → HearsNone e d r
 
 -- ---- what a call leaves
 
@@ -113,6 +122,13 @@ abbrev pub GivesOne : ℕ → List DeviceDone → List DriverDone → List Devic
 GivesOne b s o s' = (gives s' ≡ gives s)
     ⊎ ((u : Used) × (gives s' ≡ gives s ++ u ∷ []) × (1 ≤ occurs u.number (running s)) × Contains (map (shift b) (collects o)) u)
 
+-- a look at the one bell, after which the other's is next: no operation is in progress
+pub record IsGlance {E D : Type 0} (from to : Stage) (e : DeviceModel E) (d : DriverModel D) (r r' : State E D) : Type 0 where
+  pub was : r.stage ≡ from
+  pub is : r'.stage ≡ to
+  pub guest_idle : e.begun r'.guest ≡ DeviceOp.idle
+  pub shadow_idle : d.begun r'.shadow ≡ DriverOp.idle
+
 -- an access on the guest's ring
 pub record GuestTurn {P E D : Type 0} (port : PortModel P) (e : DeviceModel E) (d : DriverModel D) (z : Start) (p q : P)
     (r r' : State E D) (w : DeviceView) (v : DriverView) (t : Turn) : Type 0 where
@@ -128,6 +144,12 @@ pub record GuestTurn {P E D : Type 0} (port : PortModel P) (e : DeviceModel E) (
   pub slept : (t ≡ Slept) ↔ (e.act w op access got ≡ device_act.Asleep)
   pub once : t ≡ Again → ⊥
   pub live : t ≡ Slept → is_rested r'.stage ≡ false
+  pub grown : length (takes w.done) + length (gives w.done) + guest_handled (e.act w op access got)
+      ≤ (if is_rested r'.stage then length (takes w.done) else length (takes (e.side.after w op access got).done))
+      + length (gives (e.side.after w op access got).done)
+  pub hears : e.begun r'.guest ≡ DeviceOp.hear → (e.side.after w op access got).doing ≡ device.Idle → ⊥
+  pub look : t ≡ Slept → Wakes e d → IsGlance stage.HearingGuest stage.HearingShadow e d r r'
+  pub leaves : (t ≡ Slept → ⊥) → Wakes e d → HearsNone e d r'
   pub paid : owes e d r' (e.side.after w op access got) v + counted t
       ≤ owes e d r w v + 64 * (Rattle.vd_relay.specs.Pace.handled t + Rattle.vd_relay.specs.Pace.woke t)
 
@@ -145,13 +167,26 @@ pub record ShadowTurn {P E D : Type 0} (port : PortModel P) (e : DeviceModel E) 
   pub slept : (t ≡ Slept) ↔ (d.act v op access got ≡ driver_act.Asleep)
   pub again : (t ≡ Again) ↔ ((d.act v op access got ≡ driver_act.Nothing) × (r.winding ≡ true) × (IsFinished r w v → ⊥))
   pub live : is_rested r'.stage ≡ false
+  pub grown : length (offers v.done) + length (collects v.done) + shadow_handled (d.act v op access got)
+      ≤ length (offers (d.side.after v op access got).done) + length (collects (d.side.after v op access got).done)
+  pub hears : d.begun r'.shadow ≡ DriverOp.hear → (d.side.after v op access got).doing ≡ driver.Idle → ⊥
+  pub look : t ≡ Slept → Wakes e d → IsGlance stage.HearingShadow stage.HearingGuest e d r r'
+  pub leaves : (t ≡ Slept → ⊥) → Wakes e d → HearsNone e d r'
   pub paid : owes e d r' w (d.side.after v op access got) + counted t
       ≤ owes e d r w v + 64 * (Rattle.vd_relay.specs.Pace.handled t + Rattle.vd_relay.specs.Pace.woke t)
+
+-- meanwhile the other end has no operation in progress, and begins no hearing
+abbrev pub ShadowWaits : {E D : Type 0} → DriverModel D → State E D → State E D → Type 0
+ShadowWaits d r r' = (d.begun r.shadow ≡ DriverOp.idle) × (d.begun r'.shadow ≡ DriverOp.hear → ⊥)
+
+abbrev pub GuestWaits : {E D : Type 0} → DeviceModel E → State E D → State E D → Type 0
+GuestWaits e r r' = (e.begun r.guest ≡ DeviceOp.idle) × (e.begun r'.guest ≡ DeviceOp.hear → ⊥)
 
 -- one access, on one of the two ports
 abbrev pub OneTurn : {P Q E D : Type 0} → PortModel P → PortModel Q → DeviceModel E → DriverModel D → Start → P → P → Q → Q → State E D
     → State E D → DeviceView → DriverView → Turn → Type 0
-OneTurn p q e d z a a' b b' r r' w v t = ((b' ≡ b) × GuestTurn p e d z a a' r r' w v t) ⊎ ((a' ≡ a) × ShadowTurn q e d z b b' r r' w v t)
+OneTurn p q e d z a a' b b' r r' w v t = ((b' ≡ b) × ShadowWaits d r r' × GuestTurn p e d z a a' r r' w v t)
+    ⊎ ((a' ≡ a) × GuestWaits e r r' × ShadowTurn q e d z b b' r r' w v t)
 
 -- ---- a step
 
@@ -164,7 +199,15 @@ pub record AreCounted (c c' : Counts) (i j k : ℕ) : Type 0 where
 abbrev pub unless : Bool → ℕ
 unless b = if b then 0 else 1
 
--- an access on the guest's ring, and how it is counted
+-- a relay that sleeps looks at its two bells in turn: the one, and then the other. In a wind-up it doesn't sleep
+pub record IsLook {E D : Type 0} (from to : Stage) (e : DeviceModel E) (d : DriverModel D) (r r' : State E D) : Type 0 where
+  pub was : r.stage ≡ from
+  pub is : r'.stage ≡ to
+  pub guest_idle : e.begun r'.guest ≡ DeviceOp.idle
+  pub shadow_idle : d.begun r'.shadow ≡ DriverOp.idle
+  pub live : r.winding ≡ false
+
+-- an access on the guest's ring, and how it is counted. What was taken and given grows by it; a rest takes back what was not given
 pub record OnGuest {P E D : Type 0} (port : PortModel P) (e : DeviceModel E) (d : DriverModel D) (z : Start) (p q : P)
     (r r' : State E D) (c c' : Counts) (w : DeviceView) (v : DriverView) (said : Move) : Type 0 where
   pub op : Op
@@ -174,7 +217,11 @@ pub record OnGuest {P E D : Type 0} (port : PortModel P) (e : DeviceModel E) (d 
   pub moved : port.moves p op access got q
   pub holds : Holds e d z r' c' (e.side.after w op access got) v
   pub bag : GivesOne (since z) w.done v.done (e.side.after w op access got).done
+  pub grown : length (takes w.done) + length (gives w.done) + guest_handled (e.act w op access got)
+      ≤ (if is_rested r'.stage then length (takes w.done) else length (takes (e.side.after w op access got).done))
+      + length (gives (e.side.after w op access got).done)
   pub looked : (said ≡ move.Looked) ↔ (e.act w op access got ≡ device_act.Asleep)
+  pub look : said ≡ move.Looked → Wakes e d → IsLook stage.HearingGuest stage.HearingShadow e d r r'
   pub slept : Bool
   pub asleep : IsTrue slept ↔ (said ≡ move.Looked)
   pub counts : AreCounted c c' (unless slept) (guest_handled (e.act w op access got)) (device_woken op (e.act w op access got))
@@ -188,7 +235,11 @@ pub record OnShadow {P E D : Type 0} (port : PortModel P) (e : DeviceModel E) (d
   pub was_next : d.side.next v op access
   pub moved : port.moves p op access got q
   pub holds : Holds e d z r' c' w (d.side.after v op access got)
+  pub grown : length (offers v.done) + length (collects v.done) + shadow_handled (d.act v op access got)
+      ≤ length (offers (d.side.after v op access got).done) + length (collects (d.side.after v op access got).done)
   pub looked : (said ≡ move.Looked) ↔ (d.act v op access got ≡ driver_act.Asleep)
+  pub look : said ≡ move.Looked → Wakes e d → IsLook stage.HearingShadow stage.HearingGuest e d r r'
+  pub free : d.act v op access got ≡ driver_act.Nothing → e.begun r.guest ≡ DeviceOp.idle
   pub left_out : Bool
   pub uncounted : IsTrue left_out ↔ ((said ≡ move.Looked)
       ⊎ ((d.act v op access got ≡ driver_act.Nothing) × (r.winding ≡ true) × (IsFinished r w v → ⊥)))
@@ -201,6 +252,7 @@ pub record IsRelayStep {P Q E D : Type 0} (p : PortModel P) (q : PortModel Q) (e
   pub kept : IsKept r r'
   pub quiet : IsQuiet d r r'
   pub finished : (said ≡ move.Finished) ↔ (is_rested r'.stage ≡ true)
+  pub still : said ≡ move.Looked → c' ≡ c
   -- a relay that goes on looking in place of sleeping would not keep it
   pub pace : KeepsPace c' 0
 

@@ -4,7 +4,7 @@ ghost use Rattle.vd_ring.specs.declared.device.DeviceView.{DeviceView};
 ghost use Rattle.vd_ring.specs.declared.driver.DriverView.{DriverView};
 ghost use Rattle.vd_layout.specs.Begun.{DeviceOp, DriverOp};
 ghost use Rattle.vd_relay.specs.declared.stage.Stage.TheVariants.{Taking, ArmingGuest, ArmingShadow};
-ghost use Rattle.vd_relay.specs.Stages.{is_rested, is_shadow, roused};
+ghost use Rattle.vd_relay.specs.Stages.{is_rested, is_shadow, is_hearing, roused};
 ghost use Rattle.vd_relay.specs.Tie.{Start};
 ghost use Rattle.vd_relay.specs.Relay.{Stands, Stays, IsFinished, IsRoused, IsWoken, IsQuiet, IsKept};
 
@@ -79,6 +79,9 @@ pub(crate) fn turn<L: Layout>(state: &mut State<L::Device, L::Driver>)
         → ¬ (L.Driver.driver.begun state.new.shadow ≡ DriverOp.idle) }
     ensures kept { IsKept state.old state.new }
     ensures quiet { IsQuiet L.Driver.driver state.old state.new }
+    ensures hearing { is_hearing state.new.stage ≡ true → state.new.stage ≡ state.old.stage }
+    ensures guest { state.new.guest ≡ state.old.guest }
+    ensures shadow { state.new.shadow ≡ state.old.shadow }
 {
     if state.winding && state.stage.is_open() && state.guest.idle() && state.shadow.idle() {
         state.stage = after_sleep::<L>(state);
@@ -101,6 +104,8 @@ pub(crate) fn begin<L: Layout>(state: &mut State<L::Device, L::Driver>)
     ensures shadow { is_shadow state.old.stage ≡ true → ¬ (L.Driver.driver.begun state.new.shadow ≡ DriverOp.idle) }
     ensures kept { IsKept state.old state.new }
     ensures quiet { IsQuiet L.Driver.driver state.old state.new }
+    ensures guest_same { is_shadow state.old.stage ≡ true → state.new.guest ≡ state.old.guest }
+    ensures shadow_same { is_shadow state.old.stage ≡ false → state.new.shadow ≡ state.old.shadow }
 {
     if state.stage.is_shadow() {
         begin_shadow::<L>(state);
@@ -148,6 +153,7 @@ fn begin_shadow<L: Layout>(state: &mut State<L::Device, L::Driver>)
     ensures busy { ¬ (L.Driver.driver.begun state.new.shadow ≡ DriverOp.idle) }
     ensures kept { IsKept state.old state.new }
     ensures quiet { IsQuiet L.Driver.driver state.old state.new }
+    ensures same { state.new.guest ≡ state.old.guest }
 {
     if state.shadow.idle() {
         match state.stage {

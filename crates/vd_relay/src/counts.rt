@@ -1,5 +1,6 @@
 //! How a relay's steps are counted.
 ghost use Rattle.std.specs.Prelude.{◌≡◌};
+ghost use Rattle.vd_relay.specs.declared.counts.Turn.TheVariants.{Slept};
 ghost use Rattle.vd_relay.specs.Pace.{raised, counted, handled, woke, move_of};
 
 use vd_layout::Move;
@@ -43,6 +44,7 @@ impl Counts {
         ensures accesses { self.new.accesses ≡ raised (counted turn) self.old.accesses }
         ensures handled { self.new.handled ≡ raised (handled turn) self.old.handled }
         ensures heard { self.new.heard ≡ raised (woke turn) self.old.heard }
+        ensures slept { turn ≡ Slept → self.new ≡ self.old }
     {
         let Counts {
             accesses,

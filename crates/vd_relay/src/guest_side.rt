@@ -3,7 +3,7 @@ ghost use Rattle.std.specs.Prelude.{◌≡◌, false};
 ghost use Rattle.vd_words.specs.Own.{IsOwn};
 ghost use Rattle.vd_ring.specs.declared.device.DeviceView.{DeviceView};
 ghost use Rattle.vd_ring.specs.declared.driver.DriverView.{DriverView};
-ghost use Rattle.vd_layout.specs.Begun.{DeviceOp};
+ghost use Rattle.vd_layout.specs.Begun.{DeviceOp, DriverOp};
 ghost use Rattle.vd_relay.specs.Stages.{is_rested, is_shadow, heard_next};
 ghost use Rattle.vd_relay.specs.Pace.{waking};
 ghost use Rattle.vd_relay.specs.Tie.{Start};
@@ -56,6 +56,7 @@ pub(crate) fn guest_turn<L: Layout, P: Port>(
         → GuestTurn P.port L.Device.device L.Driver.driver z port.old port.new state.old state.new w v result }
     ensures kept { IsKept state.old state.new }
     ensures quiet { IsQuiet L.Driver.driver state.old state.new }
+    ensures calm { L.Driver.driver.begun state.new.shadow ≡ DriverOp.hear → L.Driver.driver.begun state.old.shadow ≡ DriverOp.hear }
 {
     match state.guest.step(port) {
         DeviceAct::Taken(number, chain) => {

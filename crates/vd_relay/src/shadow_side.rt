@@ -3,7 +3,7 @@ ghost use Rattle.std.specs.Prelude.{◌≡◌, true};
 ghost use Rattle.vd_words.specs.Own.{IsOwn};
 ghost use Rattle.vd_ring.specs.declared.device.DeviceView.{DeviceView};
 ghost use Rattle.vd_ring.specs.declared.driver.DriverView.{DriverView};
-ghost use Rattle.vd_layout.specs.Begun.{DriverOp};
+ghost use Rattle.vd_layout.specs.Begun.{DeviceOp, DriverOp};
 ghost use Rattle.vd_relay.specs.Stages.{is_shadow, none_next};
 ghost use Rattle.vd_relay.specs.Pace.{repeating};
 ghost use Rattle.vd_relay.specs.Tie.{Start};
@@ -52,6 +52,7 @@ pub(crate) fn shadow_turn<L: Layout, Q: Port>(
         → ShadowTurn Q.port L.Device.device L.Driver.driver z port.old port.new state.old state.new w v result }
     ensures kept { IsKept state.old state.new }
     ensures quiet { IsQuiet L.Driver.driver state.old state.new }
+    ensures calm { L.Device.device.begun state.new.guest ≡ DeviceOp.hear → L.Device.device.begun state.old.guest ≡ DeviceOp.hear }
 {
     match state.shadow.step(port) {
         DriverAct::Offered(_) => {

@@ -43,9 +43,9 @@ not_numbered j m (x ∷ xs) low = omega (arith, one_other m j (λ e. omega arith
 module _ {E D : Type 0} (e : DeviceModel E) (d : DriverModel D) (l : LayoutModel) (law : IsLawfulLayout d e l) (z : Start)
     (old : List (List Piece × ℕ)) (r : State E D) (begun : List Begun) (by : Attached) (words shadow_words : List ℕ) (v : DriverView)
     (w : DeviceView) (sv : DriverView) (sw : DeviceView) where
-  -- where all that the shadow ring's device gave is collected and given, the guest's end may rest
-  module _ (h : IsShadowing e d l z old r begun by words shadow_words v w sv sw) (on : r.winding ≡ true) (none : Bool)
-      (here : r.stage ≡ stage.Collecting none) (all : length (collects sv.done) ≡ r.target) where
+  -- where all that the shadow ring's device gave is collected and given, the guest's end is whole
+  module _ (h : IsShadowing e d l z old r begun by words shadow_words v w sv sw) (on : r.winding ≡ true) (acts : w.done ≡ h.relays.acts)
+      (back : h.relays.back ≡ []) (all : length (collects sv.done) ≡ r.target) where
     outer : Lists v.frame v.done w.done
     outer = law.lists words v w h.ring
 
@@ -54,22 +54,6 @@ module _ {E D : Type 0} (e : DeviceModel E) (d : DriverModel D) (l : LayoutModel
 
     opened : Places sv.frame sv.done
     opened = law.places shadow_words sv sw h.shadow_ring
-
-    no_back : (a : DeviceOp) (back : List Used) → GuestIs (stage.Collecting none) a → BackIs a back → back ≡ []
-    no_back DeviceOp.idle back at h = h
-    no_back (DeviceOp.give k n) back at h = absurd at
-    no_back DeviceOp.take back at h = absurd at
-    no_back DeviceOp.signal back at h = absurd at
-    no_back DeviceOp.arm back at h = absurd at
-    no_back DeviceOp.hear back at h = absurd at
-    no_back DeviceOp.disarm back at h = absurd at
-    no_back DeviceOp.rest back at h = absurd at
-
-    back : h.relays.back ≡ []
-    back = no_back (e.begun r.guest) h.relays.back (subst (λ (s : Stage). GuestIs s (e.begun r.guest)) here h.relays.guest) h.relays.to_give
-
-    acts : w.done ≡ h.relays.acts
-    acts = subst (λ (s : Stage). BeforeRest s h.relays.acts w.done) here h.relays.before
 
     as_many : length (collects sv.done) ≡ length (gives sw.done)
     as_many = all ∙ (h.winds on).target
@@ -112,8 +96,26 @@ module _ {E D : Type 0} (e : DeviceModel E) (d : DriverModel D) (l : LayoutModel
           )
     ]
 
+    pub whole : IsWhole w.done
+    whole k low = omega (arith, outer.given k, one_below k (length (takes w.done)) (omega (arith, outer.count)), no_longer k low)
+
+  -- the guest's end may rest
+  module _ (h : IsShadowing e d l z old r begun by words shadow_words v w sv sw) (on : r.winding ≡ true) (none : Bool)
+      (here : r.stage ≡ stage.Collecting none) (all : length (collects sv.done) ≡ r.target) where
+    no_back : (a : DeviceOp) (back : List Used) → GuestIs (stage.Collecting none) a → BackIs a back → back ≡ []
+    no_back DeviceOp.idle back at h = h
+    no_back (DeviceOp.give k n) back at h = absurd at
+    no_back DeviceOp.take back at h = absurd at
+    no_back DeviceOp.signal back at h = absurd at
+    no_back DeviceOp.arm back at h = absurd at
+    no_back DeviceOp.hear back at h = absurd at
+    no_back DeviceOp.disarm back at h = absurd at
+    no_back DeviceOp.rest back at h = absurd at
+
     pub may_rest : IsWhole w.done
-    may_rest k low = omega (arith, outer.given k, one_below k (length (takes w.done)) (omega (arith, outer.count)), no_longer k low)
+    may_rest = whole h on (subst (λ (s : Stage). BeforeRest s h.relays.acts w.done) here h.relays.before)
+        (no_back (e.begun r.guest) h.relays.back (subst (λ (s : Stage). GuestIs s (e.begun r.guest)) here h.relays.guest) h.relays.to_give)
+        all
 
   -- ---- the beginning
 

@@ -21,6 +21,7 @@ use Rattle.vd_relay.specs.declared.counts.Counts.{Counts}
 use Rattle.vd_relay.specs.declared.stage.Stage.{Stage}
 use Rattle.vd_relay.specs.declared.stage.Stage.TheVariants as stage
 use Rattle.vd_relay.specs.declared.state.State.{State}
+use Rattle.vd_relay.specs.Pairing.{Wakes}
 use Rattle.vd_relay.specs.Relay.{Holds, IsKept}
 use Rattle.vd_relay.specs.Stages.{is_rested}
 use Rattle.vd_relay.specs.Tie.{Start}
@@ -62,7 +63,8 @@ did r v w sv = reached r v w + length (gives w.done) + length (offers sv.done) +
 -- ---- one step
 
 pub record RelayStepped {E D : Type 0} (l : LayoutModel) (e : DeviceModel E) (d : DriverModel D) (z : Start) (old : List (List Piece × ℕ))
-    (begun : List Begun) (by : Attached) (words shadow : List ℕ) (v : DriverView) (w : DeviceView) (sv : DriverView) (sw : DeviceView) (r r' : State E D) (c c' : Counts) (answer : Move)
+    (begun : List Begun) (by : Attached) (words shadow : List ℕ) (v : DriverView) (w : DeviceView) (sv : DriverView)
+    (sw : DeviceView) (r r' : State E D) (c c' : Counts) (answer : Move)
     : Type 0 where
   pub view : DeviceView
   pub shadow_view : DriverView
@@ -71,14 +73,15 @@ pub record RelayStepped {E D : Type 0} (l : LayoutModel) (e : DeviceModel E) (d 
   pub kept : IsKept r r'
   pub awake : r.winding ≡ false → is_rested r'.stage ≡ false
   pub finished : (answer ≡ move.Finished) ↔ (is_rested r'.stage ≡ true)
-  pub looked : answer ≡ move.Looked → (view ≡ w) × (shadow_view ≡ sv) × HasLooked e d r r' c c' v w sv sw
+  pub looked : answer ≡ move.Looked → (view ≡ w) × (shadow_view ≡ sv) × (Wakes e d → HasLooked e d r r' c c' v w sv sw)
   pub accesses : c'.accesses ≡ raised (worked answer) c.accesses
   pub heard : c'.heard + device_hearings w + driver_hearings sv ≤ c.heard + device_hearings view + driver_hearings shadow_view
   pub handled : c'.handled + did r v w sv ≤ c.handled + did r' v view shadow_view
 
 -- over two plain ports
 pub record RelayOn {P Q E D : Type 0} (port : PortModel P) (shadow_port : PortModel Q) (l : LayoutModel) (e : DeviceModel E)
-    (d : DriverModel D) (z : Start) (old : List (List Piece × ℕ)) (begun : List Begun) (by : Attached) (p p' : P) (q q' : Q) (v : DriverView) (w : DeviceView) (sv : DriverView) (sw : DeviceView)
+    (d : DriverModel D) (z : Start) (old : List (List Piece × ℕ)) (begun : List Begun) (by : Attached) (p p' : P)
+    (q q' : Q) (v : DriverView) (w : DeviceView) (sv : DriverView) (sw : DeviceView)
     (r r' : State E D) (c c' : Counts) (answer : Move) : Type 0 where
   pub words : List ℕ
   pub shadow : List ℕ
@@ -92,7 +95,8 @@ pub record RelayOn {P Q E D : Type 0} (port : PortModel P) (shadow_port : PortMo
 
 -- so many steps that were no looks
 pub record RelayRun {E D : Type 0} (l : LayoutModel) (e : DeviceModel E) (d : DriverModel D) (z : Start) (old : List (List Piece × ℕ))
-    (begun : List Begun) (by : Attached) (words shadow : List ℕ) (v : DriverView) (w : DeviceView) (sv : DriverView) (sw : DeviceView) (r r' : State E D) (c c' : Counts) (made : ℕ) : Type 0 where
+    (begun : List Begun) (by : Attached) (words shadow : List ℕ) (v : DriverView) (w : DeviceView) (sv : DriverView)
+    (sw : DeviceView) (r r' : State E D) (c c' : Counts) (made : ℕ) : Type 0 where
   pub view : DeviceView
   pub shadow_view : DriverView
   pub lane : IsShadowing e d l z old r' begun by words shadow v view shadow_view sw
@@ -105,17 +109,34 @@ pub record RelayRun {E D : Type 0} (l : LayoutModel) (e : DeviceModel E) (d : Dr
 
 -- on the way: nothing has changed before the first
 pub record RelayWay {E D : Type 0} (l : LayoutModel) (e : DeviceModel E) (d : DriverModel D) (z : Start) (old : List (List Piece × ℕ))
-    (begun : List Begun) (by : Attached) (words shadow : List ℕ) (v : DriverView) (w : DeviceView) (sv : DriverView) (sw : DeviceView) (r r' : State E D) (c c' : Counts) (made : ℕ) : Type 0 where
+    (begun : List Begun) (by : Attached) (words shadow : List ℕ) (v : DriverView) (w : DeviceView) (sv : DriverView)
+    (sw : DeviceView) (r r' : State E D) (c c' : Counts) (made : ℕ) : Type 0 where
   pub run : RelayRun l e d z old begun by words shadow v w sv sw r r' c c' made
   pub start : made ≡ 0 → (run.view ≡ w) × (run.shadow_view ≡ sv) × (r' ≡ r) × (c' ≡ c)
 
 -- a turn; where it had no such step, the relay has looked
 pub record RelayTurn {E D : Type 0} (l : LayoutModel) (e : DeviceModel E) (d : DriverModel D) (z : Start) (old : List (List Piece × ℕ))
-    (begun : List Begun) (by : Attached) (words shadow : List ℕ) (v : DriverView) (w : DeviceView) (sv : DriverView) (sw : DeviceView) (r r' : State E D) (c c' : Counts) (made : ℕ) : Type 0 where
+    (begun : List Begun) (by : Attached) (words shadow : List ℕ) (v : DriverView) (w : DeviceView) (sv : DriverView)
+    (sw : DeviceView) (r r' : State E D) (c c' : Counts) (made : ℕ) : Type 0 where
   pub run : RelayRun l e d z old begun by words shadow v w sv sw r r' c c' made
-  pub quiet : made ≡ 0 → (run.view ≡ w) × (run.shadow_view ≡ sv) × HasLooked e d r r' c c' v w sv sw
+  pub quiet : made ≡ 0 → (run.view ≡ w) × (run.shadow_view ≡ sv) × (Wakes e d → HasLooked e d r r' c c' v w sv sw)
 
--- for all views at which it holds its ends, and by its map
+-- the relay holds its ends of two rings of these words, and moves by this map
+abbrev pub CanRelay : {E D : Type 0} → LayoutModel → DeviceModel E → DriverModel D → List Mapping → List ℕ → List ℕ → State E D → Counts
+    → Type 0
+CanRelay l e d ms words shadow r c = (z : Start) × (old : List (List Piece × ℕ)) × (begun : List Begun) × (by : Attached)
+    × (v : DriverView) × (w : DeviceView) × (sv : DriverView) × (sw : DeviceView)
+    × IsShadowing e d l z old r begun by words shadow v w sv sw
+    × Holds e d z r c w sv × (ms ≡ z.map)
+
+-- for all views at which it holds its ends
+abbrev pub RelaySteps : {E D : Type 0} → LayoutModel → DeviceModel E → DriverModel D → List Mapping → List ℕ → List ℕ → List ℕ → List ℕ
+    → State E D → State E D → Counts → Counts → Move → Type 0
+RelaySteps l e d ms words words' shadow shadow' r r' c c' answer = (z : Start) (old : List (List Piece × ℕ)) (begun : List Begun)
+    (by : Attached) (v : DriverView) (w : DeviceView) (sv : DriverView) (sw : DeviceView) → ms ≡ z.map
+    → IsShadowing e d l z old r begun by words shadow v w sv sw → Holds e d z r c w sv
+    → RelayStepped l e d z old begun by words' shadow' v w sv sw r r' c c' answer
+
 abbrev pub RelayTurns : {E D : Type 0} → LayoutModel → DeviceModel E → DriverModel D → List Mapping → List ℕ → List ℕ → List ℕ → List ℕ
     → State E D → State E D → Counts → Counts → ℕ → Type 0
 RelayTurns l e d ms words words' shadow shadow' r r' c c' made = (z : Start) (old : List (List Piece × ℕ)) (begun : List Begun)

@@ -1,10 +1,11 @@
-//! Turns of the parties of a lane: single accesses of plain words.
+//! One party's turn in a play of single accesses: a guest's and a device's over the plain words of a ring, and a relay's over those of
+//! its two rings.
 #![tactic(auto)]
 
 mod draws;
-mod relaying;
+mod relay_steps;
 mod turn;
 
 pub use draws::Draws;
-pub use relaying::relay_turn;
+pub use relay_steps::relay_turn;
 pub use turn::{device_turn, guest_turn};

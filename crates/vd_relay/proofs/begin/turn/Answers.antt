@@ -1,6 +1,6 @@
 use Rattle.std.proofs.Common.{sym, ◌∙◌, ap}
-use Rattle.vd_relay.specs.Stages.{is_rested}
-use Rattle.vd_relay.proofs.Calm.{turns, roused_live, roused_takes, roused_arms}
+use Rattle.vd_relay.specs.Stages.{is_rested, is_hearing}
+use Rattle.vd_relay.proofs.Calm.{turns, roused_live, roused_deaf, roused_takes, roused_arms}
 use Rattle.vd_relay.proofs.begin.turn.Goals as goal
 
 pub returns-then-idle-2-clause-stays : goal.returns-then-idle-2-clause-stays
@@ -15,6 +15,12 @@ returns-then-idle-2-clause-live g c =
     let r = c.requires.own in
     let a = c.after_sleep-state.ensures.roused r.1 r.2 r.3.serves r.3.drives in
     ap is_rested a.is ∙ roused_live _ _ _ a.finished
+
+pub returns-then-idle-2-clause-hearing : goal.returns-then-idle-2-clause-hearing
+returns-then-idle-2-clause-hearing g c = λ is.
+    let r = c.requires.own in
+    let a = c.after_sleep-state.ensures.roused r.1 r.2 r.3.serves r.3.drives in
+    absurd (roused_deaf _ _ _ a.finished (sym (ap is_hearing a.is) ∙ is))
 
 pub returns-then-idle-2-clause-turned : goal.returns-then-idle-2-clause-turned
 returns-then-idle-2-clause-turned g c = λ on is idle.

@@ -5,6 +5,7 @@ use Rattle.vd_model.specs.Moved.{moved}
 use Rattle.vd_layout.specs.Driver.{MayOffer}
 use Rattle.vd_relay.proofs.GuestMoves.{went_on}
 use Rattle.vd_relay.proofs.GuestNothing.{none_taken}
+use Rattle.vd_relay.proofs.GuestArming.{armed_first}
 use Rattle.vd_relay.proofs.GuestHearing.{slept_at}
 use Rattle.vd_relay.proofs.GuestWoken.{woken_at}
 use Rattle.vd_relay.proofs.GuestResting.{rested}
@@ -27,6 +28,13 @@ returns-in-Nothing-clause-turn g c = λ z w v h is own.
     none_taken g.P.Port.port g.L.Device.DeviceEnd.device g.L.Driver.DriverEnd.driver law.device_end law.driver_end z c.args.port.now
     c.step.new.port
     c.args.state.now w v c.step.new.self h own (c.in-Nothing.ensures w h.serves own)
+
+pub returns-in-Armed-clause-turn : goal.returns-in-Armed-clause-turn
+returns-in-Armed-clause-turn g c = λ z w v h is own.
+    let law = g.met.L.Layout.lawful in
+    armed_first g.P.Port.port g.L.Device.DeviceEnd.device g.L.Driver.DriverEnd.driver law.device_end law.driver_end z c.args.port.now
+    c.step.new.port
+    c.args.state.now w v c.step.new.self h (c.in-Armed.ensures w h.serves own)
 
 pub returns-in-Awake-clause-turn : goal.returns-in-Awake-clause-turn
 returns-in-Awake-clause-turn g c = λ z w v h is own.

@@ -1,4 +1,6 @@
-use Rattle.std.proofs.Common.{◌∙◌, refl, arith, inl, inr}
+use Rattle.std.proofs.Common.{◌∙◌, refl, sym, ap, arith, inl, inr}
+use Rattle.vd_relay.specs.Stages.{is_hearing, is_shadow}
+use Rattle.vd_relay.proofs.Ops.{guest_idle, shadow_idle}
 use Rattle.vd_relay.proofs.Steps.{guest_from, shadow_from}
 use Rattle.vd_relay.proofs.relay.make_turn.Goals as goal
 
@@ -8,20 +10,38 @@ returns-then-is_shadow-clause-made g c = λ z w v h is own other.
     let b = c.begin.ensures.stays z w v a.stands in
     let k = c.turn.ensures.kept in
     let l = c.begin.ensures.kept in
+    let side = sym c.is_shadow.ensures ∙ c.if-is_shadow.true in
+    let at = c.begin.ensures.stage in
+    let same = c.begin.ensures.guest_same (sym (ap is_shadow at) ∙ side) in
+    let idle = guest_idle c.begin.new.state.stage (g.L.Device.DeviceEnd.device.begun c.begin.new.state.guest) side b.stands.guest in
     inr (
       refl,
+      (
+        ap g.L.Device.DeviceEnd.device.begun (sym c.turn.ensures.guest ∙ sym same) ∙ idle,
+        λ i. cc (c.shadow_turn.ensures.calm i, idle),
+      ),
       shadow_from g.Q.Port.port g.L.Device.DeviceEnd.device g.L.Driver.DriverEnd.driver z c.args.shadow_port.now
           c.shadow_turn.new.port c.args.state.now c.begin.new.state c.shadow_turn.new.state w v c.shadow_turn.result
-          (omega (arith, a.owes, b.owes)) (l.0 ∙ k.0, l.1 ∙ k.1) (c.shadow_turn.ensures.turn z w v b.stands other),
+          (omega (arith, a.owes, b.owes)) (l.0 ∙ k.0, l.1 ∙ k.1)
+          (λ i. at ∙ c.turn.ensures.hearing (sym (ap is_hearing at) ∙ i)) (c.shadow_turn.ensures.turn z w v b.stands other),
     )
 
 pub returns-else-is_shadow-clause-made : goal.returns-else-is_shadow-clause-made
 returns-else-is_shadow-clause-made g c = λ z w v h is own other.
     let a = c.turn.ensures.stays z w v h in
     let b = c.begin.ensures.stays z w v a.stands in
+    let side = sym c.is_shadow.ensures ∙ c.if-is_shadow.false in
+    let at = c.begin.ensures.stage in
+    let same = c.begin.ensures.shadow_same (sym (ap is_shadow at) ∙ side) in
+    let idle = shadow_idle c.begin.new.state.stage (g.L.Driver.DriverEnd.driver.begun c.begin.new.state.shadow) side b.stands.shadow in
     inl (
       refl,
+      (
+        ap g.L.Driver.DriverEnd.driver.begun (sym c.turn.ensures.shadow ∙ sym same) ∙ idle,
+        λ i. cc (c.guest_turn.ensures.calm i, idle),
+      ),
       guest_from g.P.Port.port g.L.Device.DeviceEnd.device g.L.Driver.DriverEnd.driver z c.args.guest_port.now
           c.guest_turn.new.port c.args.state.now c.begin.new.state c.guest_turn.new.state w v c.guest_turn.result
-          (omega (arith, a.owes, b.owes)) (c.guest_turn.ensures.turn z w v b.stands is own),
+          (omega (arith, a.owes, b.owes)) (λ i. at ∙ c.turn.ensures.hearing (sym (ap is_hearing at) ∙ i))
+          (c.guest_turn.ensures.turn z w v b.stands is own),
     )
