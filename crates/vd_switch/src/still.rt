@@ -9,7 +9,7 @@ ghost use Rattle.vd_ring.specs.declared.device.DeviceView.{DeviceView};
 ghost use Rattle.vd_bus.specs.Device.{IsAttach, IsRefused};
 ghost use Rattle.vd_bus.specs.Orders.{IsData};
 ghost use Rattle.vd_switch.specs.Kits.{IsKit};
-ghost use Rattle.vd_switch.specs.Stills.{is_still, Shadows};
+ghost use Rattle.vd_switch.specs.Stills.{is_still, Shadows, IsNew};
 
 use crate::fault::DeviceFault;
 use crate::kit::Kit;
@@ -143,7 +143,7 @@ impl<L: Layout> Still<L> {
         ensures { MatchResult
             result
             (λ lane. Shadows L.Device.device L.Driver.driver self.end kit.driver kit.table lane.relay.state lane.relay.counts
-            × (lane.relay.settings ≡ self.settings)
+            × IsNew lane.relay.state lane.relay.counts × (lane.relay.settings ≡ self.settings)
             × IsAttach L.Device.device V.party order.now (option_copied control.entry) kit.device device.old device.new)
             (λ fault. (fault.lane.end ≡ self.end) × (fault.lane.control ≡ self.control) × (fault.lane.settings ≡ self.settings)
             × (fault.kit ≡ Some kit) × IsRefused V.party device.old device.new) }
