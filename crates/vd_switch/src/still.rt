@@ -50,7 +50,7 @@ impl<L: Layout> Still<L> {
     /// are the default.
     pub fn new(end: L::Device, control: bool) -> Still<L>
         requires still { IsStill L.Device.device end }
-        requires ring { (w : DeviceView) → L.Device.device.stands end w → control ≡ w.frame.control }
+        requires ring { (w : DeviceView) × L.Device.device.stands end w × (control ≡ w.frame.control) }
         ensures end { result.end ≡ end }
         ensures control { result.control ≡ control }
         ensures settings { result.settings ≡ default }
