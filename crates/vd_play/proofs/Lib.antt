@@ -30,3 +30,5 @@ pub mod Trees
 pub mod Moves
 pub mod Parts
 pub mod ShadowCut
+pub mod KitsTaken
+pub mod ShadowBegin
