@@ -28,3 +28,7 @@ pub mod Chained
 pub mod Laying
 pub mod Trees
 pub mod Moves
+pub mod Parts
+pub mod ShadowCut
+pub mod KitsTaken
+pub mod ShadowBegin

@@ -7,7 +7,7 @@ use Rattle.vd_ring.specs.declared.device.DeviceView.{DeviceView}
 use Rattle.vd_bus.specs.Device.{DeviceParty, IsAttach}
 use Rattle.vd_bus.specs.Orders.{Terms}
 use Rattle.vd_switch.specs.Kits.{IsKit}
-use Rattle.vd_switch.specs.Stills.{Shadows}
+use Rattle.vd_switch.specs.Stills.{Shadows, IsNew}
 use Rattle.vd_play.specs.declared.floor.Lane.{Lane}
 use Rattle.vd_play.specs.declared.floor.ShadowRing.{ShadowRing}
 
@@ -27,9 +27,8 @@ pub record CanShadow {L D E : Type 0} (d : DriverModel D) (e : DeviceModel E) (l
   pub next : Rattle.std.specs.Prelude.slice_get kits (length kits - 1) ≡ Some ring
   pub some : 1 ≤ length kits
   pub kit : IsKit d e l t.size t.features false ring.kit.driver ring.kit.device ring.kit.table
-  pub stands : IsSomeAnd still (λ end. (w : DeviceView) × e.stands end w)
-  pub framed : (end : E) (w : DeviceView) → still ≡ Some end → e.stands end w
-      → (w.frame.size ≡ t.size) × (w.frame.features ≡ t.features) × (w.frame.control ≡ false)
+  pub stands : IsSomeAnd still (λ end. (w : DeviceView) × e.stands end w × (false ≡ w.frame.control))
+  pub framed : (end : E) (w : DeviceView) → still ≡ Some end → e.stands end w → (w.frame.size ≡ t.size) × (w.frame.features ≡ t.features)
   pub shadow : 16 ≤ t.ring
   pub base : t.base ≡ record { 0 = l.fresh_base }
 
@@ -44,4 +43,5 @@ pub record HasShadowed {L D E X C : Type 0} (d : DriverModel D) (e : DeviceModel
   pub is : b.relaying ≡ Some lane
   pub words : lane.words ≡ ring.words
   pub relays : Shadows e d end ring.kit.driver ring.kit.table lane.lane.relay.state lane.lane.relay.counts
+  pub fresh : IsNew lane.lane.relay.state lane.lane.relay.counts
   pub attached : IsAttach e m t None ring.kit.device x y

@@ -1,5 +1,5 @@
 -- The end that a still lane owns.
-use Rattle.std.specs.Prelude.{◌≡◌, ◌||◌, Bool, List, [], Option}
+use Rattle.std.specs.Prelude.{◌≡◌, ◌||◌, Bool, false, List, [], Option}
 use Rattle.vd_model.specs.declared.map.Mapping.{Mapping}
 use Rattle.vd_ring.specs.declared.driver.DriverView.{DriverView}
 use Rattle.vd_ring.specs.declared.device.DeviceView.{DeviceView}
@@ -10,6 +10,7 @@ use Rattle.vd_relay.specs.declared.counts.Counts.{Counts}
 use Rattle.vd_relay.specs.declared.state.State.{State}
 use Rattle.vd_relay.specs.Pairing.{ArePaired}
 use Rattle.vd_relay.specs.Relay.{Holds, start}
+use Rattle.vd_relay.specs.Stages.{is_rested}
 
 -- it rests or is fresh
 abbrev pub is_still : {E : Type 0} → DeviceModel E → E → Bool
@@ -19,3 +20,9 @@ is_still e end = e.resting end || e.fresh end
 abbrev pub Shadows : {E D : Type 0} → DeviceModel E → DriverModel D → E → D → List (Option Origin) → State E D → Counts → Type 0
 Shadows e d end shadow table r c = (ms : List Mapping) (w : DeviceView) (v : DriverView) → e.stands end w → d.stands shadow v
     → ArePaired ms w.frame v.frame → v.done ≡ [] → Holds e d (start ms w) r c w v
+
+-- a new relay has made no step, winds nothing up, and its end doesn't rest
+pub record IsNew {E D : Type 0} (r : State E D) (c : Counts) : Type 0 where
+  pub counts : c ≡ record { accesses = 0; handled = 0; heard = 0 }
+  pub winding : r.winding ≡ false
+  pub live : is_rested r.stage ≡ false

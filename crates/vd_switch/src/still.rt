@@ -9,7 +9,7 @@ ghost use Rattle.vd_ring.specs.declared.device.DeviceView.{DeviceView};
 ghost use Rattle.vd_bus.specs.Device.{IsAttach, IsRefused};
 ghost use Rattle.vd_bus.specs.Orders.{IsData};
 ghost use Rattle.vd_switch.specs.Kits.{IsKit};
-ghost use Rattle.vd_switch.specs.Stills.{is_still, Shadows};
+ghost use Rattle.vd_switch.specs.Stills.{is_still, Shadows, IsNew};
 
 use crate::fault::DeviceFault;
 use crate::kit::Kit;
@@ -50,7 +50,7 @@ impl<L: Layout> Still<L> {
     /// are the default.
     pub fn new(end: L::Device, control: bool) -> Still<L>
         requires still { IsStill L.Device.device end }
-        requires ring { (w : DeviceView) → L.Device.device.stands end w → control ≡ w.frame.control }
+        requires ring { (w : DeviceView) × L.Device.device.stands end w × (control ≡ w.frame.control) }
         ensures end { result.end ≡ end }
         ensures control { result.control ≡ control }
         ensures settings { result.settings ≡ default }
@@ -143,7 +143,7 @@ impl<L: Layout> Still<L> {
         ensures { MatchResult
             result
             (λ lane. Shadows L.Device.device L.Driver.driver self.end kit.driver kit.table lane.relay.state lane.relay.counts
-            × (lane.relay.settings ≡ self.settings)
+            × IsNew lane.relay.state lane.relay.counts × (lane.relay.settings ≡ self.settings)
             × IsAttach L.Device.device V.party order.now (option_copied control.entry) kit.device device.old device.new)
             (λ fault. (fault.lane.end ≡ self.end) × (fault.lane.control ≡ self.control) × (fault.lane.settings ≡ self.settings)
             × (fault.kit ≡ Some kit) × IsRefused V.party device.old device.new) }

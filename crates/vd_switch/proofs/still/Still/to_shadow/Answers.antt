@@ -1,5 +1,6 @@
 use Rattle.std.proofs.Common.{None, replicate, ap, sym, ◌∙◌, subst}
 use Rattle.vd_relay.specs.Relay.{Holds, start}
+use Rattle.vd_relay.specs.Stages.{is_rested}
 use Rattle.vd_switch.proofs.StillEnds.{still_of}
 use Rattle.vd_switch.proofs.still.Still.to_shadow.Goals as goal
 
@@ -17,6 +18,11 @@ returns-in-Ok g c = (
         fresh = fresh;
         empty = c.requires.kit.2.empty ∙ ap (λ n. replicate n None) (sym sized);
       })),
+  record {
+    counts = ap (λ r. r.counts) c.new.ensures ∙ c.new-relay.ensures.counts;
+    winding = ap (λ r. r.state.winding) c.new.ensures ∙ c.new-relay.ensures.winding;
+    live = ap (λ r. is_rested r.state.stage) c.new.ensures ∙ c.new-relay.ensures.live;
+  },
   ap (λ r. r.settings) c.new.ensures ∙ c.new-relay.ensures.settings,
   c.in-Ok.ensures,
 )
