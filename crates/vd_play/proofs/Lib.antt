@@ -32,3 +32,4 @@ pub mod Parts
 pub mod ShadowCut
 pub mod KitsTaken
 pub mod ShadowBegin
+pub mod Begins
