@@ -9,7 +9,7 @@ use Rattle.vd_ring.specs.declared.device.DeviceView.{DeviceView}
 use Rattle.vd_ring.specs.History.{offers, takes, gives}
 use Rattle.vd_layout.specs.Device.{IsStill}
 use Rattle.vd_bus.specs.declared.device.Attached.{Attached}
-use Rattle.vd_bus.specs.Device.{IsServing, IsServed, IsJournalled, chains_of, lens_of}
+use Rattle.vd_bus.specs.Device.{IsServing, IsServed, IsBegun, IsJournalled, chains_of, lens_of}
 use Rattle.vd_bus.specs.Orders.{IsData}
 use Rattle.vd_machine.specs.File.{Plan}
 use Rattle.vd_play.specs.Before.{begun_at}

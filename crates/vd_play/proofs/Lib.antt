@@ -7,12 +7,14 @@ pub mod Quiet
 pub mod Pace
 pub mod Keep
 pub mod Going
+pub mod Held
 pub mod Begin
 pub mod Benches
 pub mod Returns
 pub mod Cut
 pub mod Ending
 pub mod Sums
+pub mod LowShadows
 pub mod Lasting
 pub mod Untouched
 pub mod Making
@@ -32,3 +34,4 @@ pub mod Parts
 pub mod ShadowCut
 pub mod KitsTaken
 pub mod ShadowBegin
+pub mod Begins

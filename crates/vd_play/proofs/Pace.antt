@@ -68,7 +68,7 @@ module _ {D E G X C : Type 0} (s : Setting D E G X C) (law : IsLawful s) (plan :
       }
 
   -- bells that a device hears are stored for chains that were offered
-  device_bells : (words : List ℕ) (v : DriverView) (w : DeviceView) → s.layout.ring words v w → w.heard ≤ length (offers v.done)
+  pub device_bells : (words : List ℕ) (v : DriverView) (w : DeviceView) → s.layout.ring words v w → w.heard ≤ length (offers v.done)
   device_bells words v w ring = let signals : RingSignals v w = law.layout.signals words v w ring in
       omega (arith, signals.kicks.heard, signals.kicks.bells)
 

@@ -1,5 +1,6 @@
 -- How many epochs before another are of the mode shadow.
-use Rattle.std.proofs.Common.{◌≡◌, ℕ, zero, suc, add-one, ◌+◌, ◌-◌, ◌<◌, ◌≤◌, List, [], ◌∷◌, length, drop, get_or, refl, ◌∙◌, ap, arith}
+use Rattle.std.proofs.Common.{◌≡◌, inl, inr, ℕ, zero, suc, add-one, ◌+◌, ◌-◌, ◌<◌, ◌≤◌, List, [], ◌∷◌, length, drop, get_or, refl, ◌∙◌, ap, arith}
+use Rattle.std.proofs.lemmas.Bool.{cases_lt}
 use Rattle.std.proofs.lemmas.List.{drop_more, drop_all}
 use Rattle.vd_model.specs.declared.base.Mode.{Mode}
 use Rattle.vd_model.specs.declared.base.Mode.TheVariants.{Pass, Shadow}
@@ -69,6 +70,13 @@ before_all (s ∷ ss) m (suc k) h =
 pub shadows_before_all : (plan : Plan) → shadows_before plan (length plan.switches + 2) ≡ shadows plan
 shadows_before_all plan =
     let n : ℕ = length plan.switches + 2 in before_same plan n ∙ before_all plan.switches plan.start n (omega arith)
+
+-- before any epoch there are no more than in all
+pub shadows_before_most : (plan : Plan) (k : ℕ) → shadows_before plan k ≤ shadows plan
+shadows_before_most plan k = elim (cases_lt (length plan.switches) k) [
+  | inl h ↦ omega (arith, before_same plan k ∙ before_all plan.switches plan.start k h)
+  | inr h ↦ omega (arith, shadows_before_rises plan k (length plan.switches + 2) (omega arith), shadows_before_all plan)
+]
 
 pub shadows_from_few : (ss : List Switch) (m : Mode) → shadows_from ss m ≤ length ss + 1
 shadows_from_few [] m = omega (arith, shadow_count_few m)

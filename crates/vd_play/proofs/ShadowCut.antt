@@ -1,7 +1,7 @@
 -- What a lane with a relay has begun and given.
 use Rattle.std.proofs.Common.{◌≡◌, ℕ, ◌+◌, ◌-◌, ◌<◌, ◌≤◌, Some, List, [], ◌∷◌, ◌++◌, length, map, take, drop, slice_get, slice_index_or, zero, suc, refl, sym, ◌∙◌, ap, subst, arith}
 use Rattle.std.specs.List.{All}
-use Rattle.std.proofs.lemmas.List.{map-append, length-map, drop-map, take-append-drop, get_or_default, get_or-map}
+use Rattle.std.proofs.lemmas.List.{map-append, length-map, length-drop, drop-map, take-append-drop, get_or_default, get_or-map}
 use Rattle.std.proofs.lemmas.Option.{slice_get-get_or}
 use mathlib.Core.List.{IsPrefix}
 use Rattle.vd_model.specs.declared.chain.Piece.{Piece}
@@ -27,6 +27,17 @@ use Rattle.vd_play.specs.Journal.{queue_chains, queue_epochs, own_chains, epoch_
 use Rattle.vd_play.specs.Lane.{HasGiven}
 use Rattle.vd_play.specs.Setting.{Setting, IsLawful}
 use Rattle.vd_play.specs.Shadowed.{IsRelayed}
+use Rattle.vd_play.proofs.Bounds.{bounded}
+use Rattle.vd_play.proofs.Keep.{prefix_of}
+use Rattle.vd_play.proofs.Lists.{some_same, prefix_take, prefix_through}
+use Rattle.vd_play.proofs.Moves.{within_prefix}
+use Rattle.vd_play.proofs.Parts.{drop_prefix, own_part, shadow_part, begun_within}
+
+-- a list that has so many in front
+take_low : {A : Type 0} (n : ℕ) (xs : List A) → length (take n xs) ≡ n → n ≤ length xs
+take_low zero xs h = omega arith
+take_low (suc n) [] h = absurd (omega arith)
+take_low (suc n) (x ∷ xs) h = omega (arith, take_low n xs (omega (arith, h)))
 
 back_lens : (ms : List Mapping) (bs : List Begun) → map (λ (x : List Piece × ℕ). x.1) (map (begun_back ms) bs) ≡ lens_of bs
 back_lens ms [] = refl
@@ -68,3 +79,50 @@ module _ {D E G X C : Type 0} (s : Setting D E G X C) (law : IsLawful s) (plan :
       ∙ slice_get-get_or (map second all) u.number 0 (omega (arith, inside, length-map all second))
       ∙ ap Some (get_or-map second all u.number none 0 inside ∙ lane_kept.lawful.lengths j none below) in
       subst (HasGiven (lens_of begun)) (get_or_default (gives w.done) j (entry 0 0) d below) here
+
+  -- ---- the chains
+
+  -- what the relay took over was taken
+  taken_over : since p.start ≤ length (takes w.done)
+  taken_over =
+      let count = switch.begun_count s.device s.driver s.layout law.layout p.start p.old r begun by words.words shadow_words v w sv sw p.lane in
+      let first : List Piece × ℕ → List Piece = λ x. x.0 in
+      let low : length all ≤ length (takes w.done) = take_low (length all) (takes w.done)
+      (ap length (sym lane_kept.chains) ∙ length-map all first) in
+      omega (arith, count, low)
+
+  -- what the device has begun since its attach: the first ones of the epoch's chains
+  pub shadow_chains : (ep : Epoch) → slice_get (queue_epochs plan q) k ≡ Some ep
+      → chains_of (drop (begun_at plan q k) begun) ≡ take (length begun - begun_at plan q k) (epoch_chains plan q ep)
+  shadow_chains ep is =
+      let n : ℕ = begun_at plan q k in
+      let b = p.driven.queue.chained.at k ep is in
+      let mode = (p.driven.queue.numbered.at k ep is).1 ∙ p.mode in
+      let xs : List (List Piece) = take (length (takes sw.done)) (drop (since p.start) (takes w.done)) in
+      let journal : chains_of (drop by.at begun) ≡ map (moved p.start.map) xs =
+      switch.journal s.device s.driver s.layout law.layout p.start p.old r begun by words.words shadow_words v w sv sw p.lane in
+      let here : chains_of (drop n begun) ≡ map (moved (tree_map plan)) xs =
+      ap (λ j. chains_of (drop j begun)) (sym p.took_over.2) ∙ journal ∙ ap (λ ms. map (moved ms) xs) p.moves in
+      let many : length xs ≡ length begun - n = sym (length-map xs (moved (tree_map plan))) ∙ ap length (sym here)
+      ∙ length-map (drop n begun) (λ (z : Begun). z.chain) ∙ length-drop n begun in
+      let taken : IsPrefix (drop (since p.start) (takes w.done)) (drop (since p.start) (queue_chains plan q)) =
+      drop_prefix (since p.start) (takes w.done) (queue_chains plan q) (prefix_of s law plan q words guest v w p.driven) taken_over in
+      let front : IsPrefix xs (drop (since p.start) (queue_chains plan q)) = prefix_through xs (drop (since p.start) (takes w.done))
+      (drop (since p.start) (queue_chains plan q)) (prefix_take xs (drop (since p.start) (takes w.done)) (length (takes sw.done)) refl) taken in
+      let next = bounded (length (queue_chains plan q)) (queue_epochs plan q) k p.driven.queue.chained p.epoch in
+      let same : next.epoch ≡ ep = some_same next.epoch ep (slice_get (queue_epochs plan q) k) next.is is in
+      let own = own_part plan q (since p.start) ep xs (p.took_over.0 ∙ sym b.0) front
+      (omega (arith, many, p.lane.serves.few, p.took_over.2, p.to, b.0, next.end, ap (λ (z : Epoch). z.end) same)) in
+      here ∙ ap (map (moved (tree_map plan))) own ∙ shadow_part s.layout plan q (length xs) ep mode p.driven.queue.tree p.driven.queue.fits
+      ∙ ap (λ j. take j (epoch_chains plan q ep)) many
+
+  pub shadow_within : (ep : Epoch) → slice_get (queue_epochs plan q) k ≡ Some ep
+      → chains_of begun ≡ chains_within plan q k ep (length begun - begun_at plan q k)
+  shadow_within ep is = begun_within plan q k (begun_at plan q k) (length begun - begun_at plan q k) ep begun p.account.before
+      (shadow_chains ep is)
+
+  pub shadow_prefix : IsPrefix (chains_of begun) (journal_chains plan q)
+  shadow_prefix =
+      let b = bounded (length (queue_chains plan q)) (queue_epochs plan q) k p.driven.queue.chained p.epoch in
+      subst (λ zs. IsPrefix zs (journal_chains plan q)) (sym (shadow_within b.epoch b.is))
+      (within_prefix plan q k (length begun - begun_at plan q k) b.epoch b.is)

@@ -1,5 +1,5 @@
 -- How a lane's device is attached, and what the lane has then.
-use Rattle.std.specs.Prelude.{◌≡◌, ℕ, ◌≤◌, ◌-◌, false, List, length, take, Option, Some, None, IsSomeAnd, replicate}
+use Rattle.std.specs.Prelude.{◌≡◌, ℕ, ◌≤◌, ◌-◌, false, List, length, take, slice_get, Option, Some, None, IsSomeAnd}
 use Rattle.vd_layout.specs.Driver.{DriverModel}
 use Rattle.vd_layout.specs.Device.{DeviceModel}
 use Rattle.vd_layout.specs.Layout.{LayoutModel}
@@ -9,6 +9,7 @@ use Rattle.vd_bus.specs.Orders.{Terms}
 use Rattle.vd_switch.specs.Kits.{IsKit}
 use Rattle.vd_switch.specs.Stills.{Shadows, IsNew}
 use Rattle.vd_play.specs.declared.floor.Lane.{Lane}
+use Rattle.vd_play.specs.declared.floor.Relaying.{Relaying}
 use Rattle.vd_play.specs.declared.floor.ShadowRing.{ShadowRing}
 
 -- its ring and its count of steps are the same
@@ -23,8 +24,7 @@ removed_last xs = take (length xs - 1) xs
 pub record CanShadow {L D E : Type 0} (d : DriverModel D) (e : DeviceModel E) (l : LayoutModel) (t : Terms) (still : Option E)
     (kits : List (ShadowRing L D E)) : Type 0 where
   pub ring : ShadowRing L D E
-  pub others : List (ShadowRing L D E)
-  pub next : Rattle.std.specs.Prelude.slice_get kits (length kits - 1) ≡ Some ring
+  pub next : slice_get kits (length kits - 1) ≡ Some ring
   pub some : 1 ≤ length kits
   pub kit : IsKit d e l t.size t.features false ring.kit.driver ring.kit.device ring.kit.table
   pub stands : IsSomeAnd still (λ end. (w : DeviceView) × e.stands end w × (false ≡ w.frame.control))
@@ -38,8 +38,8 @@ pub record HasShadowed {L D E X C : Type 0} (d : DriverModel D) (e : DeviceModel
   pub end : E
   pub ring : ShadowRing L D E
   pub was : a.still ≡ Some end
-  pub next : Rattle.std.specs.Prelude.slice_get a.kits.items (length a.kits.items - 1) ≡ Some ring
-  pub lane : Rattle.vd_play.specs.declared.floor.Relaying.Relaying L D E
+  pub next : slice_get a.kits.items (length a.kits.items - 1) ≡ Some ring
+  pub lane : Relaying L D E
   pub is : b.relaying ≡ Some lane
   pub words : lane.words ≡ ring.words
   pub relays : Shadows e d end ring.kit.driver ring.kit.table lane.lane.relay.state lane.lane.relay.counts
