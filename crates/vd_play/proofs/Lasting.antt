@@ -162,6 +162,6 @@ module _ {L D E G X C : Type 0} (s : Setting D E G X C) (plan : Plan) where
       (λ q x le hx. All-at (λ y. s.party.accesses y ≡ 0) old.devices.items q x (sym (keeps.other_devices q le) ∙ hx) idle.devices) in
       omega (arith, low, sum_more count room plan.queues)
 
-  pub last_epoch : IsLast plan (length plan.switches + 1)
-  last_epoch q = many_epochs plan (length (queue_chains plan q)) ∙ (let e : length plan.switches + 2 ≡ length plan.switches + 1 + 1 =
-      omega arith in e)
+pub last_epoch : (plan : Plan) → IsLast plan (length plan.switches + 1)
+last_epoch plan q = many_epochs plan (length (queue_chains plan q)) ∙ (let e : length plan.switches + 2 ≡ length plan.switches + 1 + 1 =
+    omega arith in e)
