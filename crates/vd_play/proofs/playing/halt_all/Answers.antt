@@ -1,4 +1,4 @@
-use Rattle.std.proofs.Common.{◌≡◌, ◌<◌, ℕ, false, length, arith, sym, refl, ◌∙◌}
+use Rattle.std.proofs.Common.{◌<◌, ℕ, false, length, arith, sym, refl}
 use Rattle.std.specs.Vec.{with_item}
 use Rattle.std.proofs.lemmas.Option.{slice_get_read, slice_get_within}
 use Rattle.vd_play.specs.declared.bench.Bench.{Bench}

@@ -8,7 +8,7 @@ use Rattle.vd_play.specs.Played.{KeepsBench, IsFaultOf, IsPlayed, IsCut, AllCut,
 use Rattle.vd_play.specs.Progress.{AllStopped, all_made, most_steps}
 use Rattle.vd_play.specs.Rounds.{AllDone}
 use Rattle.vd_play.specs.declared.floor.Lane.{Lane}
-use Rattle.vd_play.specs.Setting.{setting_of}
+use Rattle.vd_play.specs.Setting.{setting_of, IsLawful}
 use Rattle.vd_play.specs.Setup.{AllServe, HasRings, HasSizes, IsUp}
 use Rattle.vd_play.proofs.Modes.{mode_first}
 use Rattle.vd_play.specs.Tree.{IsLaid}
@@ -222,8 +222,9 @@ returns-clause-bound g c =
     let one : KeepsBench m n c.loop-epoch.bench c.drain-made.new.bench =
     subst (λ j. KeepsBench m j c.loop-epoch.bench c.drain-made.new.bench) many c.drain-made.ensures.keeps in
     let keeps = keeps_through m n c.args.bench.now c.loop-epoch.bench c.drain-made.new.bench c.loop-epoch.invariant.keeps one in
+    let law : IsLawful s = record { layout = g.met.L.Layout.lawful; guest = g.met.G.Guest.lawful; party = g.met.V.Device.lawful } in
     let low : all_made s c.drain-made.new.floor.lanes.items c.drain-made.new.bench ≤ most_steps plan =
-    all_low s plan (record { layout = g.met.L.Layout.lawful; guest = g.met.G.Guest.lawful; party = g.met.V.Device.lawful }) false k drained.0.0 c.drain-made.new.floor.lanes.items c.args.bench.now c.drain-made.new.bench
+    all_low s plan law false k drained.0.0 c.drain-made.new.floor.lanes.items c.args.bench.now c.drain-made.new.bench
     (c.drain-made.ensures.many ∙ many) (lanes_kept m n c.args.bench.now c.drain-made.new.bench n keeps c.requires.prepared.parties)
     c.requires.prepared.idle keeps drained.0.1 in
     omega (arith, low, drained.1, c.loop-epoch.invariant.counted)

@@ -1,6 +1,6 @@
 use Rattle.std.proofs.Common.{◌∙◌, ℕ, length, arith, sym, ap, refl, true, subst}
 use Rattle.vd_play.specs.Played.{KeepsBench}
-use Rattle.vd_play.specs.Setting.{setting_of}
+use Rattle.vd_play.specs.Setting.{setting_of, IsLawful}
 use Rattle.vd_play.proofs.Benches.{keeps_none, keeps_through, lanes_kept}
 use Rattle.vd_play.proofs.Lasting.{all_still, all_late}
 use Rattle.vd_play.proofs.rounds.run_epoch.Goals as goal
@@ -56,4 +56,5 @@ pub returns-clause-goes : goal.returns-clause-goes
 returns-clause-goes g c = λ plan laid k start.
     let s = setting_of g.L.Driver.DriverEnd.driver g.L.Device.DeviceEnd.device g.L.Layout.layout g.G.Guest.party g.V.Device.party in
     let e = c.loop-turn.invariant.each plan k laid start in
-    (all_late s plan (record { layout = g.met.L.Layout.lawful; guest = g.met.G.Guest.lawful; party = g.met.V.Device.lawful }) k c.loop-turn.turn c.loop-turn.floor.lanes.items c.loop-turn.bench (omega arith) e.0, e.1)
+    let law : IsLawful s = record { layout = g.met.L.Layout.lawful; guest = g.met.G.Guest.lawful; party = g.met.V.Device.lawful } in
+    (all_late s plan law k c.loop-turn.turn c.loop-turn.floor.lanes.items c.loop-turn.bench (omega arith) e.0, e.1)
