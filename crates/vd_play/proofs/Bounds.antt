@@ -1,5 +1,5 @@
 -- The bounds of the epochs.
-use Rattle.std.proofs.Common.{◌≡◌, ℕ, zero, suc, add-one, ◌+◌, ◌<◌, ◌≤◌, min, Bool, false, Option, Some, List, [], ◌∷◌, ◌++◌, length, take, replicate, flat_map, slice_get, inl, inr, refl, sym, ◌∙◌, ap, subst, arith, length-append}
+use Rattle.std.proofs.Common.{◌≡◌, ℕ, zero, suc, add-one, ◌+◌, ◌<◌, ◌≤◌, min, Bool, false, Option, Some, List, [], ◌∷◌, ◌++◌, length, take, replicate, flat_map, slice_get, inl, inr, refl, sym, ◌∙◌, ap, arith, length-append}
 use Rattle.std.proofs.lemmas.List.{length-replicate}
 use Rattle.std.proofs.lemmas.List.Sums.{sum_by-cons}
 use Rattle.vd_model.specs.declared.base.Mode.{Mode}

@@ -10,7 +10,6 @@ use Rattle.vd_ring.specs.declared.driver.DriverView.{DriverView}
 use Rattle.vd_ring.specs.declared.device.DeviceView.{DeviceView}
 use Rattle.vd_ring.specs.History.{takes}
 use Rattle.vd_ring.specs.Sleep.{DriverWaits, device_owed}
-use Rattle.vd_bus.specs.declared.device.Attached.{Attached}
 use Rattle.vd_bus.specs.declared.event.Event.{Event}
 use Rattle.vd_bus.specs.declared.event.Event.TheVariants.{Suspend}
 use Rattle.vd_bus.specs.Device.{IsServing, IsSuspend, chains_of}
@@ -19,7 +18,7 @@ use Rattle.vd_machine.specs.File.{Plan}
 use Rattle.vd_play.specs.Before.{events_before, chains_before, begun_at}
 use Rattle.vd_play.specs.Epochs.{mode_at}
 use Rattle.vd_play.specs.Journal.{queue_chains, queue_epochs, own_chains, epoch_chains, epoch_events, attach_event, suspend_event}
-use Rattle.vd_play.specs.Lane.{IsKept, IsQueue, Account}
+use Rattle.vd_play.specs.Lane.{IsKept, Account}
 use Rattle.vd_play.specs.Progress.{IsPaced, HasHeard, IsStopped, IsPassing, steps}
 use Rattle.vd_play.specs.Rings.{shadows_before}
 use Rattle.vd_play.specs.Setting.{Setting, IsLawful}

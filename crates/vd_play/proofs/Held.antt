@@ -58,7 +58,8 @@ module _ {L D E G X C : Type 0} (s : Setting D E G X C) (plan : Plan) (q : ℕ) 
   can_drive true k r words None None relayed guest device p = (p.view, p.device_view, p.kept.driven.ring, p.kept.driven.part.holds)
   can_drive false k r words None None relayed guest device p = absurd p
   can_drive true k r words None (Some x) relayed guest device p =
-      drive_relaying s plan q x.lane.relay.state.winding k r words x.words.words x.lane.relay.state x.lane.relay.counts relayed guest device p
+      drive_relaying s plan q x.lane.relay.state.winding k r words x.words.words x.lane.relay.state x.lane.relay.counts relayed guest
+      device p
   can_drive false k r words None (Some x) relayed guest device p = absurd p
   can_drive on k r words (Some end) None relayed guest device p =
       (p.view, p.device_view, p.kept.driven.ring, p.kept.driven.part.holds)

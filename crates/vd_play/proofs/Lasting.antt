@@ -1,7 +1,7 @@
 -- When the rounds of an epoch end, and how many steps they have.
 use Rattle.std.proofs.Common.{◌≡◌, inl, inr, ℕ, suc, zero, ◌+◌, ◌*◌, ◌≤◌, Bool, true, false, Option, Some, None, is_some, List, [], ◌∷◌, length, slice_get, sym, ◌∙◌, ap, arith}
-use Rattle.std.specs.List.{list_all, All}
-use Rattle.std.proofs.lemmas.Option.{get_or_from_slice_get, slice_get_within}
+use Rattle.std.specs.List.{list_all}
+use Rattle.std.proofs.lemmas.Option.{get_or_from_slice_get}
 use Rattle.vd_model.specs.declared.record.Script.{Script}
 use Rattle.vd_words.specs.Plain.{RingWords}
 use Rattle.vd_ring.specs.History.{takes}
@@ -16,13 +16,13 @@ use Rattle.vd_play.specs.Journal.{queue_script, queue_chains, queue_epochs}
 use Rattle.vd_play.specs.Before.{begun_at}
 use Rattle.vd_play.specs.Prepared.{IsIdle}
 use Rattle.vd_play.specs.Played.{KeepsBench}
-use Rattle.vd_play.specs.Progress.{IsStopped, StoppedWith, InEpochWith, Stopped, InEpoch, AllInEpoch, AllStopped, steps, all_made, most_steps}
+use Rattle.vd_play.specs.Progress.{IsStopped, StoppedWith, InEpochWith, AllInEpoch, AllStopped, all_made, most_steps}
 use Rattle.vd_play.specs.Rings.{shadows}
 use Rattle.vd_play.specs.Rounds.{IsLast, AllDone}
 use Rattle.vd_play.specs.Setting.{Setting, IsLawful}
 use Rattle.vd_play.proofs.Bounds.{at_index, many_epochs, chains_count}
 use Rattle.vd_play.proofs.Lists.{All-at}
-use Rattle.vd_play.proofs.LowShadows.{IsLow, low_few, stopped_low, passing_low, relaying_low, relaying_rounds}
+use Rattle.vd_play.proofs.Low.{IsLow, low_few, stopped_low, passing_low, relaying_low, relaying_rounds}
 use Rattle.vd_play.proofs.Sums.{sums_low, sum_more}
 
 pub all_at : {A : Type 0} (p : A → Bool) (xs : List A) (q : ℕ) (x : A) → list_all p xs ≡ true → slice_get xs q ≡ Some x → p x ≡ true
@@ -162,6 +162,6 @@ module _ {L D E G X C : Type 0} (s : Setting D E G X C) (plan : Plan) where
       (λ q x le hx. All-at (λ y. s.party.accesses y ≡ 0) old.devices.items q x (sym (keeps.other_devices q le) ∙ hx) idle.devices) in
       omega (arith, low, sum_more count room plan.queues)
 
-  pub last_epoch : IsLast plan (length plan.switches + 1)
-  last_epoch q = many_epochs plan (length (queue_chains plan q)) ∙ (let e : length plan.switches + 2 ≡ length plan.switches + 1 + 1 =
-      omega arith in e)
+pub last_epoch : (plan : Plan) → IsLast plan (length plan.switches + 1)
+last_epoch plan q = many_epochs plan (length (queue_chains plan q)) ∙ (let e : length plan.switches + 2 ≡ length plan.switches + 1 + 1 =
+    omega arith in e)

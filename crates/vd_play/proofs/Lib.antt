@@ -14,7 +14,7 @@ pub mod Returns
 pub mod Cut
 pub mod Ending
 pub mod Sums
-pub mod LowShadows
+pub mod Low
 pub mod Lasting
 pub mod Untouched
 pub mod Making

@@ -2,14 +2,13 @@
 use Rattle.std.proofs.Common.{◌≡◌, ℕ, zero, suc, ◌+◌, ◌-◌, ◌≤◌, List, [], ◌∷◌, ◌++◌, length, map, take, drop, Option, Some, None, slice_get, refl, sym, ◌∙◌, ap, subst, arith, length-append}
 use Rattle.std.specs.List.{All}
 use Rattle.std.specs.Option.{option_map}
-use Rattle.std.proofs.lemmas.List.{take_all, append-nil, append_assoc, map-append, length-map, take-map, drop-map, take-append-drop, take-append-le}
+use Rattle.std.proofs.lemmas.List.{take_all, append-nil, append_assoc, map-append, take-append-drop, take-append-le}
 use Rattle.std.proofs.lemmas.List.Elements.{All-append, All-take, All-weaker, All-same}
 use Rattle.std.proofs.lemmas.Option.{slice_get_within, get_or_from_slice_get}
 use mathlib.Core.List.{IsPrefix}
-use Rattle.vd_model.specs.declared.chain.Piece.{Piece}
 use Rattle.vd_model.specs.declared.record.Begun.{Begun}
 use Rattle.vd_ring.specs.declared.frame.Used.{Used}
-use Rattle.vd_bus.specs.Device.{IsJournalled, IsBegun, chains_of, lens_of}
+use Rattle.vd_bus.specs.Device.{IsJournalled, IsBegun, lens_of}
 use Rattle.vd_play.specs.Lane.{HasGiven}
 
 pub some_same : {A : Type 0} (x y : A) (o : Option A) → o ≡ Some x → o ≡ Some y → x ≡ y
@@ -53,17 +52,6 @@ prefix_whole xs ys p same = elim p.0 as (λ t. xs ++ t ≡ ys → xs ≡ ys) [
 ] p.1
 
 -- ---- what a device has begun and given
-
-pub chains_joined : (bs bs' : List Begun) (t t' : List (List Piece)) (at : ℕ) → IsPrefix bs bs' → IsPrefix t t' → chains_of bs ≡ t
-    → at ≤ length bs → chains_of (drop at bs') ≡ drop at t' → chains_of bs' ≡ t'
-chains_joined bs bs' t t' at p q same le rest =
-    let f : Begun → List Piece = λ b. b.chain in
-    let len : at ≤ length t = omega (arith, length-map bs f, ap length same) in
-    let front : take at (map f bs') ≡ take at t' = take-map f at bs' ∙ ap (λ zs. map f zs) (same_front at bs bs' p le)
-    ∙ sym (take-map f at bs) ∙ ap (λ zs. take at zs) same ∙ sym (same_front at t t' q len) in
-    let back : drop at (map f bs') ≡ drop at t' = drop-map f at bs' ∙ rest in
-    sym (take-append-drop at (map f bs')) ∙ ap (λ zs. zs ++ drop at (map f bs')) front ∙ ap (λ zs. take at t' ++ zs) back
-    ∙ take-append-drop at t'
 
 pub begun_joined : (bs bs' : List Begun) (at : ℕ) → IsPrefix bs bs' → at ≤ length bs → All IsBegun bs → All IsBegun (drop at bs')
     → All IsBegun bs'

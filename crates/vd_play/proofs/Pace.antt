@@ -26,7 +26,7 @@ use Rattle.vd_turns.specs.Turns.{GuestRun, DeviceRun}
 use Rattle.vd_layout.specs.Layout.{LayoutModel}
 use Rattle.vd_play.proofs.Bounds.{begun_low}
 use Rattle.vd_play.proofs.Quiet.{offers_le}
-use Rattle.vd_play.proofs.Rings.{shadow_count_few, shadows_before_low}
+use Rattle.vd_play.proofs.Rings.{shadows_before_low}
 
 pub attaches_more : (es fs : List Event) → attaches (es ++ fs) ≡ attaches es + attaches fs
 attaches_more [] fs = omega arith

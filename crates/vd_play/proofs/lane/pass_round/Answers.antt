@@ -1,4 +1,4 @@
-use Rattle.std.proofs.Common.{rules, ◌≡◌, ◌+◌, is_some, None, true, false}
+use Rattle.std.proofs.Common.{rules, ◌≡◌, ◌+◌, is_some, true, false}
 use Rattle.vd_play.specs.Setting.{setting_of}
 use Rattle.vd_play.proofs.Going.{goes_on}
 use Rattle.vd_play.proofs.Held.{suspends, waits_with, passing_of, in_epoch_none, can_drive}

@@ -5,13 +5,13 @@ use Rattle.vd_play.specs.declared.epoch.PlayFault.{PlayFault}
 use Rattle.vd_play.specs.Epochs.{mode_at}
 use Rattle.vd_play.specs.Each.{HasLanes}
 use Rattle.vd_play.specs.Played.{KeepsBench, IsFaultOf, IsPlayed, IsCut, AllCut, faulty}
-use Rattle.vd_play.specs.Progress.{AllStopped, all_steps, most_steps}
+use Rattle.vd_play.specs.Progress.{AllStopped, all_made, most_steps}
 use Rattle.vd_play.specs.Rounds.{AllDone}
 use Rattle.vd_play.specs.declared.floor.Lane.{Lane}
-use Rattle.vd_play.specs.Setting.{setting_of}
+use Rattle.vd_play.specs.Setting.{setting_of, IsLawful}
 use Rattle.vd_play.specs.Setup.{AllServe, HasRings, HasSizes, IsUp}
 use Rattle.vd_play.proofs.Modes.{mode_first}
-use Rattle.vd_play.specs.Tree.{IsTreeOf}
+use Rattle.vd_play.specs.Tree.{IsLaid}
 use Rattle.vd_play.proofs.Setups.{still_serve}
 use Rattle.vd_play.proofs.Benches.{keeps_none, keeps_through, lanes_kept, fault_later, same_many}
 use Rattle.vd_play.proofs.Cut.{if_err_by, if_err_any}
@@ -32,6 +32,7 @@ loop-epoch-init g c = record {
     arith,
     sum_none g.G.Guest.party.accesses c.args.bench.now.guests.items c.requires.prepared.idle.guests,
     sum_none g.V.Device.party.accesses c.args.bench.now.devices.items c.requires.prepared.idle.devices,
+    sum_none (λ (l : Lane _ _ _). l.relayed) c.args.floor.lanes.items c.requires.prepared.none,
   );
   before = record {
     first = λ e. (
@@ -91,7 +92,12 @@ run_epoch-made-requires-clause-few g c =
     omega (arith, many, few_queues c.args.m.now.queues c.args.m.now.counted)
 
 pub run_epoch-made-requires-clause-lanes : goal.run_epoch-made-requires-clause-lanes
-run_epoch-made-requires-clause-lanes g c = (view c.args.m.now, c.loop-epoch.epoch, c.in_ok-attach_all.ensures.lanes)
+run_epoch-made-requires-clause-lanes g c = (
+  view c.args.m.now,
+  c.loop-epoch.epoch,
+  ap (λ t. t.mappings) c.attach_all.ensures.tree ∙ c.loop-epoch.invariant.tree.mapped,
+  c.in_ok-attach_all.ensures.lanes,
+)
 
 pub loop-epoch-preserved : goal.loop-epoch-preserved
 loop-epoch-preserved g c =
@@ -101,10 +107,11 @@ loop-epoch-preserved g c =
     let later : KeepsBench m n c.attach_all.new.bench c.run_epoch-made.new.bench =
     subst (λ j. KeepsBench m j c.attach_all.new.bench c.run_epoch-made.new.bench) many c.run_epoch-made.ensures.keeps in
     let both = keeps_through m n c.loop-epoch.bench c.attach_all.new.bench c.run_epoch-made.new.bench c.attach_all.ensures.keeps later in
-    let ran = c.run_epoch-made.ensures.goes (view c.args.m.now) c.loop-epoch.epoch c.in_ok-attach_all.ensures.lanes in
+    let laid = ap (λ t. t.mappings) c.attach_all.ensures.tree ∙ c.loop-epoch.invariant.tree.mapped in
+    let ran = c.run_epoch-made.ensures.goes (view c.args.m.now) laid c.loop-epoch.epoch c.in_ok-attach_all.ensures.lanes in
     record {
       many = c.run_epoch-made.ensures.many ∙ many;
-      tree = subst (λ t. IsTreeOf (view c.args.m.now) t.mappings) (sym (c.run_epoch-made.ensures.tree ∙ c.attach_all.ensures.tree))
+      tree = subst (λ t. IsLaid (view c.args.m.now) t.mappings) (sym (c.run_epoch-made.ensures.tree ∙ c.attach_all.ensures.tree))
           c.loop-epoch.invariant.tree;
       parties = lanes_kept m n c.loop-epoch.bench c.run_epoch-made.new.bench n both c.loop-epoch.invariant.parties;
       few = omega (arith, c.loop-epoch.invariant.few, c.run_epoch-made.ensures.few);
@@ -134,7 +141,8 @@ drain-made-requires-clause-lanes g c =
     let end : c.loop-epoch.epoch ≡ k + 1 = omega arith in (
       plan,
       k,
-      last_epoch s plan,
+      c.loop-epoch.invariant.tree.mapped,
+      last_epoch plan,
       all_closed s plan k c.loop-epoch.floor.lanes.items c.loop-epoch.bench
           (subst (λ (j : ℕ). AllStopped s plan j c.loop-epoch.floor.lanes.items c.loop-epoch.bench) end c.loop-epoch.invariant.each),
     )
@@ -160,8 +168,8 @@ halt_all-requires-clause-lanes g c =
     let end : c.loop-epoch.epoch ≡ k + 1 = omega arith in
     let start = all_closed s plan k c.loop-epoch.floor.lanes.items c.loop-epoch.bench
     (subst (λ (j : ℕ). AllStopped s plan j c.loop-epoch.floor.lanes.items c.loop-epoch.bench) end c.loop-epoch.invariant.each) in
-    let drained = c.drain-made.ensures.goes plan k start in
-    (plan, k, drained.0.0, last_epoch s plan, drained.0.1)
+    let drained = c.drain-made.ensures.goes plan c.loop-epoch.invariant.tree.mapped k start in
+    (plan, k, drained.0.0, last_epoch plan, drained.0.1)
 
 pub returns-clause-keeps : goal.returns-clause-keeps
 returns-clause-keeps g c =
@@ -184,9 +192,9 @@ returns-clause-played g c =
     let end : c.loop-epoch.epoch ≡ k + 1 = omega arith in
     let start = all_closed s plan k c.loop-epoch.floor.lanes.items c.loop-epoch.bench
     (subst (λ (j : ℕ). AllStopped s plan j c.loop-epoch.floor.lanes.items c.loop-epoch.bench) end c.loop-epoch.invariant.each) in
-    let drained = c.drain-made.ensures.goes plan k start in
+    let drained = c.drain-made.ensures.goes plan c.loop-epoch.invariant.tree.mapped k start in
     each_queue (IsPlayed s plan) (length c.args.m.now.queues) _ _ _ (c.drain-made.ensures.many ∙ c.loop-epoch.invariant.many)
-    (c.halt_all.ensures.halted plan k drained.0.0 (last_epoch s plan) drained.0.1)
+    (c.halt_all.ensures.halted plan k drained.0.0 (last_epoch plan) drained.0.1)
 
 pub returns-clause-counted : goal.returns-clause-counted
 returns-clause-counted g c =
@@ -196,7 +204,7 @@ returns-clause-counted g c =
     let end : c.loop-epoch.epoch ≡ k + 1 = omega arith in
     let start = all_closed s plan k c.loop-epoch.floor.lanes.items c.loop-epoch.bench
     (subst (λ (j : ℕ). AllStopped s plan j c.loop-epoch.floor.lanes.items c.loop-epoch.bench) end c.loop-epoch.invariant.each) in
-    let drained = c.drain-made.ensures.goes plan k start in
+    let drained = c.drain-made.ensures.goes plan c.loop-epoch.invariant.tree.mapped k start in
     omega (arith, c.halt_all.ensures.counted, drained.1, c.loop-epoch.invariant.counted)
 
 pub returns-clause-bound : goal.returns-clause-bound
@@ -209,13 +217,14 @@ returns-clause-bound g c =
     let end : c.loop-epoch.epoch ≡ k + 1 = omega arith in
     let start = all_closed s plan k c.loop-epoch.floor.lanes.items c.loop-epoch.bench
     (subst (λ (j : ℕ). AllStopped s plan j c.loop-epoch.floor.lanes.items c.loop-epoch.bench) end c.loop-epoch.invariant.each) in
-    let drained = c.drain-made.ensures.goes plan k start in
+    let drained = c.drain-made.ensures.goes plan c.loop-epoch.invariant.tree.mapped k start in
     let many : length c.loop-epoch.floor.lanes.items ≡ n = c.loop-epoch.invariant.many in
     let one : KeepsBench m n c.loop-epoch.bench c.drain-made.new.bench =
     subst (λ j. KeepsBench m j c.loop-epoch.bench c.drain-made.new.bench) many c.drain-made.ensures.keeps in
     let keeps = keeps_through m n c.args.bench.now c.loop-epoch.bench c.drain-made.new.bench c.loop-epoch.invariant.keeps one in
-    let low : all_steps s c.drain-made.new.bench ≤ most_steps plan =
-    all_low s plan false k drained.0.0 c.drain-made.new.floor.lanes.items c.args.bench.now c.drain-made.new.bench
+    let law : IsLawful s = record { layout = g.met.L.Layout.lawful; guest = g.met.G.Guest.lawful; party = g.met.V.Device.lawful } in
+    let low : all_made s c.drain-made.new.floor.lanes.items c.drain-made.new.bench ≤ most_steps plan =
+    all_low s plan law false k drained.0.0 c.drain-made.new.floor.lanes.items c.args.bench.now c.drain-made.new.bench
     (c.drain-made.ensures.many ∙ many) (lanes_kept m n c.args.bench.now c.drain-made.new.bench n keeps c.requires.prepared.parties)
     c.requires.prepared.idle keeps drained.0.1 in
     omega (arith, low, drained.1, c.loop-epoch.invariant.counted)

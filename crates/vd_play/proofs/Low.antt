@@ -1,8 +1,10 @@
 -- At most how many steps a lane's parties have made.
-use Rattle.std.proofs.Common.{◌≡◌, inl, inr, ℕ, ◌+◌, ◌*◌, ◌-◌, ◌<◌, ◌≤◌, Bool, true, false, if◌then◌else◌, List, length, ap, arith}
+use Rattle.std.proofs.Common.{◌≡◌, inl, inr, ℕ, ◌+◌, ◌*◌, ◌-◌, ◌<◌, ◌≤◌, Bool, true, false, if◌then◌else◌, List, length, map, ap, arith}
 use Rattle.std.proofs.lemmas.Bool.{cases_lt}
 use Rattle.std.proofs.Math.Nat.{mul-le-mul_left, mul-le-mul_right}
 use Rattle.std.proofs.lemmas.Nat.{mul-le}
+use Rattle.std.proofs.lemmas.List.{length-map}
+use Rattle.vd_model.specs.declared.chain.Piece.{Piece}
 use Rattle.vd_words.specs.Plain.{RingWords}
 use Rattle.vd_ring.specs.declared.driver.DriverView.{DriverView}
 use Rattle.vd_ring.specs.declared.device.DeviceView.{DeviceView}
@@ -15,8 +17,8 @@ use Rattle.vd_relay.specs.declared.counts.Counts.{Counts}
 use Rattle.vd_relay.specs.declared.state.State.{State}
 use Rattle.vd_relay.specs.Stages.{is_rested}
 use Rattle.vd_relay.specs.Tie.{since}
-use Rattle.vd_switch.specs.ShadowingLanes.{KeepsShadowing}
-use Rattle.vd_switch.proofs.ShadowingLanes.{keeps}
+use Rattle.vd_switch.specs.ShadowingLanes.{KeepsShadowing, lane_begun}
+use Rattle.vd_switch.proofs.ShadowingLanes.{keeps, begun_count}
 use Rattle.vd_turns.specs.RelayTurns.{reached}
 use Rattle.vd_machine.specs.File.{Plan}
 use Rattle.vd_play.specs.Before.{begun_at}
@@ -27,6 +29,7 @@ use Rattle.vd_play.specs.Rings.{shadows, shadows_before}
 use Rattle.vd_play.specs.Setting.{Setting, IsLawful}
 use Rattle.vd_play.specs.Shadowed.{IsRelayed}
 use Rattle.vd_play.proofs.Bounds.{bounded, many_epochs}
+use Rattle.vd_play.proofs.Lists.{length_le, prefix_take}
 use Rattle.vd_play.proofs.Pace.{device_bells}
 use Rattle.vd_play.proofs.Quiet.{offers_le}
 use Rattle.vd_play.proofs.Rings.{shadows_few, shadows_before_most}
@@ -149,12 +152,18 @@ module _ {D E G X C : Type 0} (s : Setting D E G X C) (law : IsLawful s) (plan :
       let outer : Lists v.frame v.done w.done = law.layout.lists words.words v w x.ring in
       let inner : Lists sv.frame sv.done sw.done = law.layout.lists shadow_words sv sw x.shadow_ring in
       let signals : RingSignals sv sw = law.layout.signals shadow_words sv sw x.shadow_ring in
-      let k : KeepsShadowing z h.old r (s.party.begun device) by v w sv sw =
+      let kept : KeepsShadowing z h.old r (s.party.begun device) by v w sv sw =
       keeps s.device s.driver s.layout law.layout z h.old r (s.party.begun device) by words.words shadow_words v w sv sw x in
       let offered : length (offers v.done) ≤ length (queue_chains plan q) = offers_le s law plan q words guest v w d in
-      let back : since z ≤ length (takes w.done) = omega (arith, h.took_over.0, h.account.many) in
+      let chains : List (List Piece × ℕ) = lane_begun z h.old (s.party.begun device) by in
+      let count = begun_count s.device s.driver s.layout law.layout z h.old r (s.party.begun device) by words.words shadow_words v w sv
+      sw x in
+      let front = length_le (map (λ (x : List Piece × ℕ). x.0) chains) (takes w.done)
+      (prefix_take (map (λ (x : List Piece × ℕ). x.0) chains) (takes w.done) (length chains) kept.chains) in
+      let back : since z ≤ length (takes w.done) =
+      omega (arith, count, front, length-map chains (λ (x : List Piece × ℕ). x.0)) in
       let ahead : length (offers sv.done) + since z ≤ length (takes w.done) =
-      offered_low (since z) (length (offers sv.done)) (length (takes w.done)) (λ i less. (k.offered live i less).0) back in
+      offered_low (since z) (length (offers sv.done)) (length (takes w.done)) (λ i less. (kept.offered live i less).0) back in
       record {
         offered = offered;
         taken = outer.some;
