@@ -1,10 +1,17 @@
 -- The shadow rings that a lane keeps, once an epoch has taken its own.
-use Rattle.std.proofs.Common.{◌≡◌, ℕ, zero, suc, ◌+◌, ◌-◌, ◌<◌, ◌≤◌, Some, List, [], ◌∷◌, length, take, slice_get, arith}
-use Rattle.std.proofs.lemmas.List.{length-take-le}
+use Rattle.std.proofs.Common.{◌≡◌, ℕ, zero, suc, ◌+◌, ◌-◌, ◌<◌, ◌≤◌, Some, List, [], ◌∷◌, ◌++◌, length, take, slice_get, Option, None, inr, false, refl, ◌∙◌, ap, arith}
+use Rattle.std.proofs.lemmas.List.{length-take-le, length_push}
 use Rattle.vd_model.specs.declared.base.Mode.TheVariants.{Pass, Shadow}
 use Rattle.vd_layout.specs.Driver.{DriverModel}
 use Rattle.vd_layout.specs.Device.{DeviceModel}
-use Rattle.vd_layout.specs.Layout.{LayoutModel}
+use Rattle.vd_layout.specs.Layout.{LayoutModel, IsLawfulLayout}
+use Rattle.vd_layout.specs.Both.{plain_frame}
+use Rattle.vd_model.specs.declared.features.Features.{Features}
+use Rattle.vd_control.specs.Settings.{default, HasPairs}
+use Rattle.vd_ring.specs.declared.frame.Frame.{Frame}
+use Rattle.vd_ring.specs.Fresh.{fresh_device}
+use Rattle.vd_switch.specs.Kits.{IsKit}
+use Rattle.vd_table.specs.declared.Origin.{Origin}
 use Rattle.vd_machine.specs.File.{Plan}
 use Rattle.vd_play.specs.declared.floor.ShadowRing.{ShadowRing}
 use Rattle.vd_play.specs.Attaching.{removed_last}
@@ -18,6 +25,15 @@ front_got zero xs i x is = absurd (cc)
 front_got (suc n) [] i x is = absurd (cc)
 front_got (suc n) (y ∷ xs) zero x is = is
 front_got (suc n) (y ∷ xs) (suc i) x is = front_got n xs i x is
+
+end_got : {A : Type 0} (xs : List A) (x : A) → slice_get (xs ++ x ∷ []) (length xs) ≡ Some x
+end_got [] x = refl
+end_got (y ∷ xs) x = end_got xs x
+
+pub last_got : {A : Type 0} (xs ys : List A) (x : A) → xs ≡ ys ++ x ∷ [] → slice_get xs (length xs - 1) ≡ Some x
+last_got xs ys x is =
+    let at : length xs - 1 ≡ length ys = omega (arith, ap length is, length_push ys x) in
+    ap (λ zs. slice_get zs (length xs - 1)) is ∙ ap (λ i. slice_get (ys ++ x ∷ []) i) at ∙ end_got ys x
 
 module _ {L D E : Type 0} (d : DriverModel D) (e : DeviceModel E) (l : LayoutModel) (plan : Plan) (q k : ℕ)
     (kits : List (ShadowRing L D E)) (h : HasKits d e l plan q k kits) where
@@ -51,3 +67,18 @@ module _ {L D E : Type 0} (d : DriverModel D) (e : DeviceModel E) (l : LayoutMod
       each = λ j i ring from mode at is.
           h.each j i ring (omega (arith, from)) mode at (front_got (length kits - 1) kits i ring is);
     }
+
+-- ---- a kit
+
+-- its device's end is at the base of a fresh ring
+pub kit_base : {D E : Type 0} (d : DriverModel D) (e : DeviceModel E) (l : LayoutModel) (size : ℕ) (f : Features) (x : D) (y : E)
+    (table : List (Option Origin)) → IsLawfulLayout d e l → IsKit d e l size f false x y table → e.base y ≡ l.fresh_base
+kit_base d e l size f x y table law kit =
+    let frame : Frame = plain_frame l 0 size f false None in
+    let stands = kit.ends.serves frame (record { packed = refl; size = refl; features = refl; control = refl }) in
+    law.device_end.based y (fresh_device frame (l.width frame)) stands (inr kit.ends.unused) ∙ law.based frame
+
+-- the settings with which a relay begins are lawful
+pub default_pairs : HasPairs default
+unfolding default
+default_pairs = (omega arith, omega arith)
