@@ -37,10 +37,12 @@ expect 'the canonical text' 0 '' 'layout = "split"
 size = 4
 features = []
 window = 1
+start = "pass"
 iova_first = 4096
 iova_last = 281474976710655
 regions = [{ addr = 4096, size = 8192 }]
 queues = [["r4096+10 w8192+64"]]
+switches = []
 ' check
 expect 'no word' 1 "$usage" '' 
 expect 'another word' 1 "$usage" '' run
