@@ -7,6 +7,7 @@ pub mod Quiet
 pub mod Pace
 pub mod Keep
 pub mod Going
+pub mod Held
 pub mod Begin
 pub mod Benches
 pub mod Returns

@@ -30,7 +30,7 @@ slice_get_more (y ∷ xs) ys (suc k) x h = slice_get_more xs ys k x h
 pub length_le : {A : Type 0} (xs ys : List A) → IsPrefix xs ys → length xs ≤ length ys
 length_le xs ys p = omega (arith, length-append xs p.0, ap length p.1)
 
-same_front : {A : Type 0} (n : ℕ) (xs ys : List A) → IsPrefix xs ys → n ≤ length xs → take n ys ≡ take n xs
+pub same_front : {A : Type 0} (n : ℕ) (xs ys : List A) → IsPrefix xs ys → n ≤ length xs → take n ys ≡ take n xs
 same_front n xs ys p le = ap (λ zs. take n zs) (sym p.1) ∙ take-append-le n xs p.0 le
 
 pub prefix_at : {A : Type 0} (xs ys : List A) (n : ℕ) → IsPrefix xs ys → length xs ≡ n → xs ≡ take n ys

@@ -7,8 +7,7 @@ use Rattle.vd_bus.specs.Orders.{mode_of}
 use Rattle.vd_play.specs.Journal.{ring_in}
 use Rattle.vd_machine.specs.File.{Plan}
 use Rattle.vd_machine.specs.declared.machine.Switch.{Switch}
-use Rattle.vd_play.specs.Epochs.{Epoch, ArePassing, epochs, epochs_from, closing, mode_after, mode_from, mode_at, is_renewal}
-use Rattle.vd_play.proofs.Bounds.{at_index}
+use Rattle.vd_play.specs.Epochs.{Epoch, epochs, epochs_from, closing, mode_after, mode_from, mode_at, is_renewal}
 use Rattle.vd_play.proofs.Lists.{some_same}
 
 pub mode_first : (ss : List Switch) (m : Mode) → mode_from ss m 0 ≡ m
@@ -55,9 +54,3 @@ from_mode e (s ∷ ss) m renewed first n j (suc k) ep at =
 
 pub epoch_mode : (plan : Plan) (n k : ℕ) (ep : Epoch) → slice_get (epochs plan n) k ≡ Some ep → ep.mode ≡ mode_at plan k
 epoch_mode plan n k ep at = from_mode 0 plan.switches plan.start false 0 n (length plan.switches + 1) k ep at
-
--- where each epoch is of the mode pass
-pub mode_passing : (plan : Plan) (n k : ℕ) → ArePassing (epochs plan n) → k < length (epochs plan n) → mode_at plan k ≡ Pass
-mode_passing plan n k p less =
-    let x = at_index (epochs plan n) k less in
-    sym (epoch_mode plan n k x.0 x.1) ∙ (p.at k x.0 x.1).0

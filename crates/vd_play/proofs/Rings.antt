@@ -31,6 +31,11 @@ after_more plan k (suc more) =
     let same : k + suc more ≡ k + more + 1 = omega arith in
     omega (arith, after_more plan k more, shadows_before_more plan (k + more), ap (shadows_before plan) same)
 
+-- at most one for each epoch
+pub shadows_before_low : (plan : Plan) (k : ℕ) → shadows_before plan k ≤ k
+shadows_before_low plan zero = omega arith
+shadows_before_low plan (suc k) = omega (arith, shadows_before_low plan k, shadow_count_few (mode_at plan k))
+
 -- it never falls
 pub shadows_before_rises : (plan : Plan) (j k : ℕ) → j ≤ k → shadows_before plan j ≤ shadows_before plan k
 shadows_before_rises plan j k le =
