@@ -17,6 +17,7 @@ pub mod Sums
 pub mod Lasting
 pub mod Untouched
 pub mod Making
+pub mod KitsMade
 pub mod Passed
 pub mod Modes
 pub mod Buses
