@@ -1,6 +1,6 @@
 -- The shadow rings of a queue, made from the last epoch to the first.
-use Rattle.std.proofs.Common.{◌≡◌, ℕ, ◌+◌, ◌<◌, ◌≤◌, List, [], ◌∷◌, ◌++◌, length, slice_get, Some, inl, inr, refl, sym, ◌∙◌, ap, subst, arith, length-append}
-use Rattle.std.proofs.lemmas.Bool.{cases_eq}
+use Rattle.std.proofs.Common.{◌≡◌, ℕ, ◌+◌, ◌<◌, ◌≤◌, Bool, true, false, List, [], ◌∷◌, ◌++◌, length, slice_get, Some, inl, inr, refl, sym, ◌∙◌, ap, subst, arith, length-append}
+use Rattle.std.proofs.lemmas.Bool.{cases_eq, false≢true}
 use Rattle.std.proofs.lemmas.Option.{slice_get_within}
 use Rattle.vd_model.specs.declared.base.Mode.{Mode}
 use Rattle.vd_model.specs.declared.base.Mode.TheVariants.{Pass, Shadow}
@@ -19,6 +19,15 @@ use Rattle.vd_play.proofs.Untouched.{get_push}
 passes : (m : Mode) → (m ≡ Shadow → ⊥) → m ≡ Pass
 passes Pass h = refl
 passes Shadow h = absurd (h refl)
+
+-- what a comparison with the mode shadow says
+pub is_shadow : (f : Mode → Mode → Bool) (m : Mode) → f Pass Shadow ≡ false → f m Shadow ≡ true → m ≡ Shadow
+is_shadow f Pass apart same = absurd (false≢true (sym apart ∙ same))
+is_shadow f Shadow apart same = refl
+
+pub not_shadow : (f : Mode → Mode → Bool) (m : Mode) → f Shadow Shadow ≡ true → f m Shadow ≡ false → m ≡ Shadow → ⊥
+not_shadow f Pass same apart e = absurd (cc)
+not_shadow f Shadow same apart e = absurd (false≢true (sym apart ∙ same))
 
 module _ {L D E : Type 0} (d : DriverModel D) (e : DeviceModel E) (l : LayoutModel) (plan : Plan) (q : ℕ) where
   -- behind all epochs there are none
