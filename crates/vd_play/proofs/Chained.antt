@@ -1,16 +1,19 @@
--- The epochs of a machine that is switched: each begins where the one before it ends.
-use Rattle.std.proofs.Common.{◌≡◌, ◌≢◌, ℕ, zero, suc, ◌+◌, ◌<◌, ◌≤◌, min, Bool, false, Option, Some, List, [], ◌∷◌, ◌++◌, length, slice_get, refl, sym, ◌∙◌, ap, subst, arith}
-use Rattle.std.specs.List.{All}
+-- The epochs of a machine that is switched: each begins where the one before it ends. What the machine's facts say of its switches.
+use Rattle.std.proofs.Common.{◌≡◌, ◌≢◌, ℕ, zero, suc, ◌+◌, ◌<◌, ◌≤◌, min, nat_le, Bool, true, false, Option, Some, List, [], ◌∷◌, ◌++◌, length, slice_get, refl, sym, ◌∙◌, ap, subst, arith}
+use Rattle.std.specs.List.{All, list_all}
 use Rattle.std.specs.Option.{option_map_or}
-use Rattle.std.proofs.lemmas.List.Elements.{All-head, All-tail}
+use Rattle.std.proofs.lemmas.Bool.{and_parts, leb-true, false≢true}
+use Rattle.std.proofs.lemmas.List.Elements.{All-nil, All-cons, All-head, All-tail}
 use Rattle.std.proofs.lemmas.Option.{slice_get_past}
 use Rattle.vd_model.specs.declared.base.Mode.{Mode}
 use Rattle.vd_model.specs.declared.base.Mode.TheVariants as mode
 use Rattle.vd_machine.specs.File.{Plan}
+use Rattle.vd_machine.specs.Switches.{is_taken, is_switch, are_ascending, are_in_order, are_switches}
+use Rattle.vd_machine.specs.declared.switches.TheConstants.{MOST_SWITCHES}
 use Rattle.vd_machine.specs.declared.machine.Switch.{Switch}
 use Rattle.vd_machine.specs.declared.machine.To.{To}
 use Rattle.vd_machine.specs.declared.machine.To.TheVariants as to
-use Rattle.vd_play.specs.Epochs.{Epoch, AreChained, begun_before, epochs, epochs_from, closing, mode_after, is_renewal, mode_from, mode_at}
+use Rattle.vd_play.specs.Epochs.{Epoch, AreChained, AreNumbered, begun_before, epochs, epochs_from, closing, mode_after, is_renewal, mode_from, mode_at}
 use Rattle.vd_play.specs.Orders.{stop_of}
 use Rattle.vd_play.specs.Switching.{ascend, IsSwitched}
 use Rattle.vd_play.proofs.Bounds.{stops_at, many_epochs}
@@ -124,3 +127,41 @@ mode_last (s ∷ ss) m (suc k) h = mode_last ss (mode_after m s.to) k (omega ari
 
 pub mode_at_end : (plan : Plan) (k : ℕ) → length plan.switches < k → mode_at plan k ≡ mode.Pass
 mode_at_end plan k h = mode_last plan.switches plan.start k h
+
+pub numbered : (plan : Plan) (n : ℕ) → IsSwitched plan → AreNumbered plan (epochs plan n)
+numbered plan n s = record { at = λ k ep h. epoch_is plan n k ep s h }
+
+-- ---- the switches of a machine
+
+ascend_of : (least : ℕ) (ss : List Switch) → are_ascending least ss ≡ true → ascend least ss
+ascend_of least [] h = tt
+ascend_of least (s ∷ ss) h =
+    let parts = and_parts (nat_le least s.after) (are_ascending s.after ss) h in
+    (leb-true least s.after parts.0, ascend_of s.after ss parts.1)
+
+taken_kept : (t : To) → is_taken t ≡ true → t ≢ to.Renew
+taken_kept to.Pass h e = absurd (cc)
+taken_kept to.Shadow h e = absurd (cc)
+taken_kept to.Renew h e = absurd (false≢true h)
+
+kept_of : (ss : List Switch) → list_all is_switch ss ≡ true → All (λ s. s.to ≢ to.Renew) ss
+kept_of [] h = All-nil (λ (s : Switch). s.to ≢ to.Renew)
+kept_of (s ∷ ss) h =
+    let parts = and_parts (is_switch s) (list_all is_switch ss) h in
+    let taken = and_parts (is_taken s.to) (nat_le s.after 0xffff_ffff) parts.0 in
+    All-cons (λ (x : Switch). x.to ≢ to.Renew) s ss (taken_kept s.to taken.0) (kept_of ss parts.1)
+
+pub few_switches : (ss : List Switch) → are_switches ss ≡ true → length ss ≤ 16
+few_switches ss h =
+    let parts = and_parts (are_in_order ss) (list_all is_switch ss) h in
+    leb-true (length ss) MOST_SWITCHES (and_parts (nat_le (length ss) MOST_SWITCHES) (are_ascending 0 ss) parts.0).0
+
+pub switched_is : (plan : Plan) → are_switches plan.switches ≡ true → IsSwitched plan
+switched_is plan h =
+    let ss : List Switch = plan.switches in
+    let parts = and_parts (are_in_order ss) (list_all is_switch ss) h in
+    record {
+      few = few_switches ss h;
+      ascending = ascend_of 0 ss (and_parts (nat_le (length ss) MOST_SWITCHES) (are_ascending 0 ss) parts.0).1;
+      kept = kept_of ss parts.1;
+    }

@@ -18,6 +18,7 @@ pub mod Low
 pub mod Lasting
 pub mod Untouched
 pub mod Making
+pub mod KitsMade
 pub mod Passed
 pub mod Modes
 pub mod Buses

@@ -29,11 +29,6 @@ mode_behind ss m zero h = absurd (omega (arith, h))
 mode_behind [] m (suc k) h = refl
 mode_behind (s ∷ ss) m (suc k) h = mode_behind ss (mode_after m s.to) k (omega (arith, h))
 
--- where there is no switch, and the first epoch is of the mode pass
-pub mode_unswitched : (plan : Plan) (k : ℕ) → length plan.switches ≡ 0 → plan.start ≡ Pass → mode_at plan k ≡ Pass
-mode_unswitched plan zero none pass = mode_first plan.switches plan.start ∙ pass
-mode_unswitched plan (suc k) none pass = mode_behind plan.switches plan.start (suc k) (omega (arith, none))
-
 -- the ring of a data queue has a number that tells the mode
 pub mode_in : (m : Mode) (k q : ℕ) → q < 16 → mode_of (ring_in m k q) ≡ m
 mode_in Pass k q low = rw (lt-ltb q 16 low) refl

@@ -18,7 +18,9 @@ use Rattle.vd_bus.specs.Orders.{Terms}
 use Rattle.vd_bus.specs.BusRings.{enable_fault, order_fault, ring_at, terms}
 use Rattle.vd_bus.specs.BusStatus.{is_ready, status_fault, after_status, features_accepted}
 use Rattle.vd_machine.specs.File.{Plan}
+use Rattle.vd_words.specs.Plain.{RingWords}
 use Rattle.vd_play.specs.declared.floor.Lane.{Lane}
+use Rattle.vd_play.specs.declared.floor.Relaying.{Relaying}
 use Rattle.vd_play.specs.declared.bench.Bench.{Bench}
 use Rattle.vd_play.specs.Each.{HasLanes}
 use Rattle.vd_play.specs.Journal.{map_in, ring_in, guest_frame, queue_chains}
@@ -32,6 +34,7 @@ use Rattle.vd_play.proofs.Bounds.{at_index}
 use Rattle.vd_play.proofs.Buses.{ring_got, ring_new, serving_is, no_enable_fault, no_order_fault, offer_back, each_put, own}
 use Rattle.vd_play.proofs.Each.{get_set}
 use Rattle.vd_play.proofs.Keep.{base_of}
+use Rattle.vd_play.proofs.Lists.{some_same}
 
 -- ---- an epoch
 
@@ -61,7 +64,7 @@ pub driver_ok : (plan : Plan) (ms : List Mapping) (b : BusState) → b ≡ set_u
     → list_all is_ready b.vrings ≡ true → status_fault b 15 ≡ None
 driver_ok plan ms b is ready = subst (λ (c : BusState). status_fault c 15 ≡ None) (sym is) (rw ready refl)
 
-pub ready_first : {E : Type 0} (e : DeviceModel E) (base : ℕ) (plan : Plan) (m : Mode) (k : ℕ) (lanes : List (Lane L D E)) (b c : BusState)
+pub ready_first : {L D E : Type 0} (e : DeviceModel E) (base : ℕ) (plan : Plan) (m : Mode) (k : ℕ) (lanes : List (Lane L D E)) (b c : BusState)
     → b ≡ set_up plan 11 false b.vrings (map_in plan m) → HasRings plan m k b → HasBases e base plan m lanes b
     → c ≡ after_status b 15 → IsReady e base plan m k lanes c
 ready_first e base plan m k lanes b c is rings bases set = subst (λ (z : BusState). IsReady e base plan m k lanes z) (sym set) (record {
@@ -99,7 +102,7 @@ next_base : {E : Type 0} (e : DeviceModel E) (base : ℕ) (m : Mode) (still : Op
 next_base e base Pass still n none h still' = let is = none refl in absurd (cc (h, ap (option_map e.base) is))
 next_base e base Shadow still n none h still' = h
 
-module _ {E : Type 0} (e : DeviceModel E) (base : ℕ) (plan : Plan) (m : Mode) (k : ℕ) (lanes : List (Lane L D E)) (b : BusState)
+module _ {L D E : Type 0} (e : DeviceModel E) (base : ℕ) (plan : Plan) (m : Mode) (k : ℕ) (lanes : List (Lane L D E)) (b : BusState)
     (r : IsReady e base plan m k lanes b) (q : ℕ) (low : q < length plan.queues) where
   -- the ring of the queue, once it is enabled
   served : vring_of (serving b q) q ≡ record (vring_at plan b q) { enabled = true }
@@ -121,12 +124,12 @@ module _ {E : Type 0} (e : DeviceModel E) (base : ℕ) (plan : Plan) (m : Mode) 
       ∙ ap (λ (v : Vring). v.base) (ring_got plan 15 false b.vrings (map_in plan m) b r.up q low)
 
   -- in an epoch of the mode pass the ring is served from where the lane's end rests
-  pub base_kept : m ≡ Pass → (lane : Lane E) → slice_get lanes q ≡ Some lane → HasBase e lane.still (vring_of (serving b q) q)
+  pub base_kept : m ≡ Pass → (lane : Lane L D E) → slice_get lanes q ≡ Some lane → HasBase e lane.still (vring_of (serving b q) q)
   base_kept is_pass lane at end is = ap (λ (z : Vring). z.base) served ∙ r.bases q (e.base end) lane at
       (ap (λ (z : Mode). base_in e base z lane.still) is_pass ∙ ap (option_map e.base) is)
 
   -- in a shadow epoch from the base of a fresh ring
-  pub base_fresh : m ≡ Shadow → (lane : Lane E) → slice_get lanes q ≡ Some lane → (vring_of (serving b q) q).base ≡ base
+  pub base_fresh : m ≡ Shadow → (lane : Lane L D E) → slice_get lanes q ≡ Some lane → (vring_of (serving b q) q).base ≡ base
   base_fresh is_shadow lane at = ap (λ (z : Vring). z.base) served ∙ r.bases q base lane at
       (ap (λ (z : Mode). base_in e base z lane.still) is_shadow)
 
@@ -142,18 +145,18 @@ module _ {E : Type 0} (e : DeviceModel E) (base : ℕ) (plan : Plan) (m : Mode) 
       (ap (λ (z : BusState). z.map) now)
 
   -- the order is the one that the machine orders
-  pub ordered_is : m ≡ Pass → (count : ℕ) (lane : Lane E) (end : E) → slice_get lanes q ≡ Some lane → lane.still ≡ Some end
+  pub ordered_is : m ≡ Pass → (count : ℕ) (lane : Lane L D E) (end : E) → slice_get lanes q ≡ Some lane → lane.still ≡ Some end
       → terms (serving b q) q count ≡ pass_order e plan q count end
   ordered_is is_pass count lane end at is = terms_are count (e.base end) (base_kept is_pass lane at end is)
       ∙ ap (λ (z : Mode). order_of q count (ring_in z k q) (record { 0 = e.base end }) plan.size plan.features (map_in plan z)) is_pass
 
-  pub ordered_shadow : (l : LayoutModel) → base ≡ l.fresh_base → m ≡ Shadow → (count : ℕ) (lane : Lane E) → slice_get lanes q ≡ Some lane
+  pub ordered_shadow : (l : LayoutModel) → base ≡ l.fresh_base → m ≡ Shadow → (count : ℕ) (lane : Lane L D E) → slice_get lanes q ≡ Some lane
       → terms (serving b q) q count ≡ shadow_order l plan k q count
   ordered_shadow l fresh is_shadow count lane at = terms_are count l.fresh_base (base_fresh is_shadow lane at ∙ fresh)
       ∙ ap (λ (z : Mode). order_of q count (ring_in z k q) (record { 0 = l.fresh_base }) plan.size plan.features (map_in plan z)) is_shadow
 
   -- and the bus is ready for the queues after it
-  pub ready_next : (lane : Lane E) → (m ≡ Pass → lane.still ≡ None) → IsReady e base plan m k (set lanes q lane) (serving b q)
+  pub ready_next : (lane : Lane L D E) → (m ≡ Pass → lane.still ≡ None) → IsReady e base plan m k (set lanes q lane) (serving b q)
   ready_next lane none =
       let v : Vring = record (vring_of b q) { enabled = true } in
       let got = ring_got plan 15 false b.vrings (map_in plan m) b r.up q low in
@@ -174,7 +177,7 @@ module _ {E : Type 0} (e : DeviceModel E) (base : ℕ) (plan : Plan) (m : Mode) 
             (λ here same.
             let old = at_index lanes q (omega (arith, slice_get_within (set lanes q lane) j z at, length-set lanes q lane, here)) in
             let mine = next_base e base m lane.still n none
-            (subst (λ (w : Lane E). base_in e base m w.still ≡ Some n) (sym same) is) old.0.still in
+            (subst (λ (w : Lane L D E). base_in e base m w.still ≡ Some n) (sym same) is) old.0.still in
             subst (λ (i : ℕ). (vring_at plan (serving b q) i).base ≡ n) (sym here) (base_same ∙ r.bases q n old.0 old.1 mine))
             (λ other old. ap (λ (c : BusState). (vring_at plan c j).base) now
             ∙ ap (λ (w : Vring). w.base) (get_or-set_other b.vrings q j v (fresh_vring plan.packed) other) ∙ r.bases j n z old is);
@@ -182,16 +185,26 @@ module _ {E : Type 0} (e : DeviceModel E) (base : ℕ) (plan : Plan) (m : Mode) 
 
 -- ---- the lanes
 
+-- a still lane holds its end, and no relay
+pub stopped_of : {L D E G X C : Type 0} (s : Setting D E G X C) (plan : Plan) (q k : ℕ) (words : RingWords) (still : Option E)
+    (relaying : Option (Relaying L D E)) (relayed : ℕ) (end : E) (guest : G) (device : X) → still ≡ Some end
+    → StoppedWith s plan q k words still relaying relayed guest device → IsStopped s plan q k 0 words end relayed guest device
+stopped_of s plan q k words None relaying relayed end guest device is p = absurd (cc)
+stopped_of s plan q k words (Some x) None relayed end guest device is p =
+    subst (λ (z : _). IsStopped s plan q k 0 words z relayed guest device) (some_same x end (Some x) refl is) p
+stopped_of s plan q k words (Some x) (Some y) relayed end guest device is p = absurd p
+
 -- each end that a still lane keeps can serve
-pub still_serve : {D E G X C : Type 0} (s : Setting D E G X C) (law : IsLawful s) (plan : Plan) (k n : ℕ) (lanes : List (Lane L D E))
+pub still_serve : {L D E G X C : Type 0} (s : Setting D E G X C) (law : IsLawful s) (plan : Plan) (k n : ℕ) (lanes : List (Lane L D E))
     (bench : Bench G X) → IsOfLayout s.layout plan → length lanes ≡ n → HasLanes n bench → AllStopped s plan k lanes bench
     → AllServe s.device plan lanes
 still_serve s law plan k n lanes bench of many parties stopped q lane end at is =
     let below : q < n = omega (arith, slice_get_within lanes q lane at, many) in
     let hg = at_index bench.guests.items q (omega (arith, below, parties.guests)) in
     let hx = at_index bench.devices.items q (omega (arith, below, parties.devices)) in
-    let p : IsStopped s plan q k 0 lane.words end hg.0 hx.0 =
-    subst (λ (o : Option _). StoppedWith s plan q k lane.words o hg.0 hx.0) is (stopped.at q lane hg.0 hx.0 at hg.1 hx.1) in
+    let p : IsStopped s plan q k 0 lane.words end lane.relayed hg.0 hx.0 =
+    stopped_of s plan q k lane.words lane.still lane.relaying lane.relayed end hg.0 hx.0 is
+    (stopped.at q lane hg.0 hx.0 at hg.1 hx.1).held in
     let base = base_of s law plan q lane.words end hg.0 p.view p.device_view (begun_at plan q k) p.kept.driven p.rests.stands
     p.rests.still p.rests.taken in
     record {

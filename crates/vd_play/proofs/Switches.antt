@@ -10,7 +10,7 @@ use Rattle.vd_play.specs.declared.floor.Lane.{Lane}
 use Rattle.vd_play.specs.Journal.{map_in, ring_in}
 use Rattle.vd_play.specs.Setup.{set_up, with_vrings, with_map, IsUp, HasRings, IsRing, HasBases, IsReady}
 
-pub ready_later : {E : Type 0} (e : DeviceModel E) (base : ℕ) (plan : Plan) (before m : Mode) (k : ℕ) (lanes : List (Lane L D E))
+pub ready_later : {L D E : Type 0} (e : DeviceModel E) (base : ℕ) (plan : Plan) (before m : Mode) (k : ℕ) (lanes : List (Lane L D E))
     (a b c d f h i : BusState) → IsUp plan before a
     → b ≡ with_suspended a true → c ≡ with_vrings b c.vrings → d ≡ with_map c [] → f ≡ with_map d (map_in plan m)
     → h ≡ with_vrings f h.vrings → HasRings plan m k h → HasBases e base plan m lanes h → i ≡ with_suspended h false

@@ -1,5 +1,5 @@
 //! Makes what a play needs, so that the play takes no memory.
-ghost use Rattle.std.specs.Prelude.{◌<◌, IfOk, length};
+ghost use Rattle.std.specs.Prelude.{◌≡◌, ◌<◌, IfOk, length};
 ghost use Rattle.std.specs.List.{All};
 ghost use Rattle.vd_model.specs.Chains.{IsChain};
 ghost use Rattle.vd_bus.specs.Device.{IsUnchanged};
@@ -88,6 +88,7 @@ fn make_lane<L: Layout, G: Guest<L>, V: Device<L>>(
     requires device { IsEmptyDevice V.party device.old }
     ensures ok { IfOk result (λ lane. Stopped (setting_of L.Driver.driver L.Device.device L.layout G.party V.party) (view m.now)
         queue 0 lane guest.new device.new) }
+    ensures none { IfOk result (λ lane. lane.relayed ≡ 0) }
     ensures guest { IsUnused G.party guest.new }
     ensures device { IsUnchanged V.party device.old device.new }
 {

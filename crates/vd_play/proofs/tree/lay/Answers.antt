@@ -72,3 +72,9 @@ returns-clause-first c = c.loop-region.invariant.first
 
 pub returns-clause-last : goal.returns-clause-last
 returns-clause-last c = c.loop-region.invariant.last
+
+pub returns-clause-mapped : goal.returns-clause-mapped
+returns-clause-mapped c =
+    let rs = c.as_slice-region-items.result.now in
+    sym (ap (λ (u : Tree). u.mappings) (laying_end (view c.args.m.now) c.loop-region.tree (drop c.loop-region.region-index rs)
+    (drop_all c.loop-region.region-index rs c.loop-region-test.false) c.loop-region.invariant.laying))
