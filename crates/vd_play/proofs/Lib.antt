@@ -28,3 +28,5 @@ pub mod Chained
 pub mod Laying
 pub mod Trees
 pub mod Moves
+pub mod ShadowKeep
+pub mod ShadowPace
