@@ -30,3 +30,5 @@ pub mod Trees
 pub mod Moves
 pub mod ShadowKeep
 pub mod ShadowPace
+pub mod ShadowQuiet
+pub mod ShadowRounds

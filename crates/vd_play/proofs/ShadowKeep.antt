@@ -36,7 +36,7 @@ lens_front n bs bs' p le =
     take-map f n bs' ∙ ap (λ zs. map f zs) (front_same n bs bs' p le) ∙ sym (take-map f n bs)
 
 module _ {D E G X C : Type 0} (s : Setting D E G X C) (law : IsLawful s) (plan : Plan) (q k made : ℕ) where
-  pub keeps_guest : (words words' : RingWords) (shadow_words : List ℕ) (r : State E D) (c : Counts) (guest guest' : G) (device : X)
+  abbrev pub keeps_guest : (words words' : RingWords) (shadow_words : List ℕ) (r : State E D) (c : Counts) (guest guest' : G) (device : X)
       (by : Attached) (v : DriverView) (w : DeviceView) (sv : DriverView) (sw : DeviceView) → words'.ring ≡ words.ring
       → IsRelayed s plan q k words shadow_words r c guest device by v w sv sw
       → (t : GuestRun s.layout s.guest words'.words v w guest guest' made)
