@@ -36,3 +36,7 @@ pub mod ShadowCut
 pub mod KitsTaken
 pub mod ShadowBegin
 pub mod Begins
+pub mod ShadowKeep
+pub mod ShadowPace
+pub mod ShadowQuiet
+pub mod ShadowRounds

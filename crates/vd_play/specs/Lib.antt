@@ -16,4 +16,3 @@ pub mod Tree
 pub mod Setup
 pub mod Attaching
 pub mod Switching
-pub mod Tree
