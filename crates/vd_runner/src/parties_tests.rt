@@ -15,7 +15,7 @@ use vd_split::Split;
 use vd_stream::{MemorySink, MemorySource};
 
 /// A bench of this guest and this device.
-fn bench_with<L: Layout, G: Guest<L>, V: Device<L>>(
+pub fn bench_with<L: Layout, G: Guest<L>, V: Device<L>>(
     alloc: Global,
     guest: G,
     device: V,

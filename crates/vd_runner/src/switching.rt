@@ -1,7 +1,5 @@
 //! Plays of machines with switches, told in a few words.
-ghost use Rattle.std.specs.Prelude.{IfOk};
-ghost use Rattle.vd_play.specs.Prepared.{IsEmptyBench};
-
+use super::parties_tests::bench_with;
 use super::*;
 use itoa::Buffer;
 use std::alloc::{AllocError, Global};
@@ -104,35 +102,26 @@ fn tell<L: Layout, G: Guest<L>, V: Device<L>>(
     })
 }
 
-/// Eight guests, and eight devices that refuse their attach of this number, counted from 1; of number 0 none.
-fn bench_of_eight<L: Layout>(
-    alloc: Global,
-    fails: u32,
-) -> Result<Bench<ModelGuest<L>, FaultyDevice<L>>, AllocError>
-    ensures { IfOk result (λ b. IsEmptyBench ⟦<ModelGuest<L> as Guest<L>>⟧.party ⟦<FaultyDevice<L> as Device<L>>⟧.party b) }
-{
-    let mut guests = Vec::new(alloc);
-    let mut devices = Vec::new(alloc);
-    for _ in 0..8 {
-        guests.push(ModelGuest::new(alloc))?;
-        devices.push(FaultyDevice::new(ModelDevice::new(alloc, 1), fails))?;
-    }
-    Ok(Bench { guests, devices })
-}
-
-/// What the play of a file leaves of a queue.
+/// What the play of a file of one queue leaves of it; the device refuses its attach of this number, counted from 1, and of number 0 none.
 pub fn play_told(
     alloc: Global,
     file: &str,
     seed: Option<u64>,
     packed: bool,
-    queue: usize,
     fails: u32,
 ) -> Result<Told, AllocError> {
     let mut source = MemorySource::new(alloc, file.as_bytes(), &[])?;
     let mut sink = MemorySink::new(alloc, 2_000_000, &[])?;
-    let mut split_bench = bench_of_eight::<Split>(alloc, fails)?;
-    let mut packed_bench = bench_of_eight::<Packed>(alloc, fails)?;
+    let mut split_bench = bench_with::<Split, _, _>(
+        alloc,
+        ModelGuest::new(alloc),
+        FaultyDevice::new(ModelDevice::new(alloc, 1), fails),
+    )?;
+    let mut packed_bench = bench_with::<Packed, _, _>(
+        alloc,
+        ModelGuest::new(alloc),
+        FaultyDevice::new(ModelDevice::new(alloc, 1), fails),
+    )?;
     let status = play_command(
         alloc,
         seed,
@@ -143,20 +132,21 @@ pub fn play_told(
         &mut packed_bench,
     );
     if packed {
-        match (
-            packed_bench.guests.get(queue),
-            packed_bench.devices.get(queue),
-        ) {
-            (Some(guest), Some(device)) => tell::<Packed, _, _>(alloc, status, guest, device),
-            _ => Err(AllocError),
-        }
+        tell_of::<Packed, _, _>(alloc, status, &packed_bench, 0)
     } else {
-        match (
-            split_bench.guests.get(queue),
-            split_bench.devices.get(queue),
-        ) {
-            (Some(guest), Some(device)) => tell::<Split, _, _>(alloc, status, guest, device),
-            _ => Err(AllocError),
-        }
+        tell_of::<Split, _, _>(alloc, status, &split_bench, 0)
+    }
+}
+
+/// What the parties of a queue tell.
+pub fn tell_of<L: Layout, G: Guest<L>, V: Device<L>>(
+    alloc: Global,
+    status: Status,
+    bench: &Bench<G, V>,
+    queue: usize,
+) -> Result<Told, AllocError> {
+    match (bench.guests.get(queue), bench.devices.get(queue)) {
+        (Some(guest), Some(device)) => tell::<L, G, V>(alloc, status, guest, device),
+        _ => Err(AllocError),
     }
 }

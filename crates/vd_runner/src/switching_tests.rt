@@ -1,8 +1,13 @@
 //! Plays with switches, and with queues in several epochs.
-use super::switching::play_told;
+use super::switching::{play_told, tell_of};
+use super::tests::no_parties;
 use super::*;
 use std::alloc::{AllocError, Global};
 use std::test::*;
+use vd_models::{ModelDevice, ModelGuest};
+use vd_packed::Packed;
+use vd_split::Split;
+use vd_stream::{MemorySink, MemorySource};
 
 /// A machine file with these lines behind its region.
 fn file(alloc: Global, layout: &str, size: &str, lines: &str) -> Result<String, AllocError> {
@@ -32,37 +37,31 @@ const SIX: &str =
 #[test]
 fn each_epoch_is_in_the_journal(rt: HostRuntime) -> Result<(), Fail> {
     let alloc = rt.alloc();
-    let cases: [(&str, &str, &str, usize, &str); 8] = [
-        ("split", "4", SHADOWED, 0, "A 16 0 S 1 A 0 1 S 1 "),
+    let cases: [(&str, &str, &str, &str); 5] = [
+        ("split", "4", SHADOWED, "A 16 0 S 1 A 0 1 S 1 "),
         (
             "packed",
             "4",
             SHADOWED,
-            0,
             "A 16 2147516416 S 2147647490 A 0 2147647490 S 2147647490 ",
         ),
         (
             "split",
             "4",
             TWICE,
-            0,
             "A 0 0 S 2 A 32 0 S 0 A 0 2 S 3 A 0 3 S 3 ",
         ),
-        ("split", "4", EIGHT, 0, "A 0 0 S 0 A 32 0 S 0 A 0 0 S 0 "),
-        ("split", "4", EIGHT, 3, "A 3 0 S 3 A 35 0 S 0 A 3 3 S 3 "),
-        ("split", "4", EIGHT, 7, "A 7 0 S 3 A 39 0 S 4 A 7 7 S 7 "),
-        ("split", "8", SIX, 0, "A 0 0 S 3 A 32 0 S 3 A 0 6 S 6 "),
+        ("split", "8", SIX, "A 0 0 S 3 A 32 0 S 3 A 0 6 S 6 "),
         (
             "packed",
             "3",
             TWICE,
-            0,
             "A 0 2147516416 S 2147647490 A 32 2147516416 S 2147516416 A 0 2147647490 S 0 A 0 0 S 0 ",
         ),
     ];
-    for (layout, size, lines, queue, journal) in &cases {
+    for (layout, size, lines, journal) in &cases {
         let text = file(alloc, layout, size, lines)?;
-        let told = play_told(alloc, text.as_str(), None, *layout == "packed", *queue, 0)?;
+        let told = play_told(alloc, text.as_str(), None, *layout == "packed", 0)?;
         assert!(rt; told.status == Status::Ok);
         assert!(rt; told.once);
         assert!(rt; told.journal.as_str() == *journal);
@@ -79,7 +78,7 @@ fn the_chains_of_a_shadow_epoch_are_at_their_iovas(rt: HostRuntime) -> Result<()
         "4",
         "iova_first = 1048576\nqueues = [[\"70000*r4096+10\"]]\nswitches = [{ after = 65535, to = \"shadow\" }, { after = 65537, to = \"pass\" }]",
     )?;
-    let told = play_told(alloc, text.as_str(), None, false, 0, 0)?;
+    let told = play_told(alloc, text.as_str(), None, false, 0)?;
     assert!(rt; told.status == Status::Ok);
     assert!(rt; told.once);
     assert!(rt; told.journal.as_str() == "A 0 0 S 65535 A 32 0 S 2 A 0 1 S 4464 A 0 4464 S 4464 ");
@@ -102,10 +101,10 @@ fn in_every_schedule_a_switch_comes_after_its_chains(rt: HostRuntime) -> Result<
     let mut ordered = file(alloc, "split", "8", SIX)?;
     ordered.push_str("features = [\"in_order\"]\n")?;
     for seed in 0..12u64 {
-        let told = play_told(alloc, plain.as_str(), Some(seed), false, 0, 0)?;
+        let told = play_told(alloc, plain.as_str(), Some(seed), false, 0)?;
         assert!(rt; told.status == Status::Ok && told.once);
         assert!(rt; told.journal.as_str() == "A 0 0 S 3 A 32 0 S 3 A 0 6 S 6 ");
-        let told = play_told(alloc, ordered.as_str(), Some(seed), false, 0, 0)?;
+        let told = play_told(alloc, ordered.as_str(), Some(seed), false, 0)?;
         assert!(rt; told.status == Status::Ok && told.once);
         assert!(rt;
             told.returned
@@ -148,7 +147,7 @@ fn wherever_the_switches_are_each_chain_comes_back_once(rt: HostRuntime) -> Resu
         for to in 0..7u8 {
             for from in 0..to + 1 {
                 let text = five_chains(alloc, layout, size, from, to)?;
-                let told = play_told(alloc, text.as_str(), None, *layout == "packed", 0, 0)?;
+                let told = play_told(alloc, text.as_str(), None, *layout == "packed", 0)?;
                 assert!(rt; told.status == Status::Ok);
                 assert!(rt; told.once);
                 assert_eq!(rt; told.returned.len(), 5);
@@ -166,10 +165,56 @@ fn a_refused_attach_to_a_shadow_ring_is_told(rt: HostRuntime) -> Result<(), Fail
         ("packed", "A 0 2147516416 S 2147647490 "),
     ] {
         let text = file(alloc, layout, "4", TWICE)?;
-        let told = play_told(alloc, text.as_str(), None, *layout == "packed", 0, 2)?;
+        let told = play_told(alloc, text.as_str(), None, *layout == "packed", 2)?;
         assert!(rt; told.status == Status::DeviceFault(0));
         assert!(rt; told.journal.as_str() == *journal);
         assert_eq!(rt; told.addrs.len(), 2);
+    }
+    Ok(())
+}
+
+#[test]
+fn eight_queues_are_switched_together(rt: HostRuntime) -> Result<(), Fail> {
+    let alloc = rt.alloc();
+    let text = file(alloc, "split", "4", EIGHT)?;
+    let mut source = MemorySource::new(alloc, text.as_bytes(), &[])?;
+    let mut sink = MemorySink::new(alloc, 2_000, &[])?;
+    let mut guests = Vec::new(alloc);
+    let mut devices: Vec<ModelDevice<Split>> = Vec::new(alloc);
+    guests.push(ModelGuest::new(alloc))?;
+    devices.push(ModelDevice::new(alloc, 1))?;
+    guests.push(ModelGuest::new(alloc))?;
+    devices.push(ModelDevice::new(alloc, 1))?;
+    guests.push(ModelGuest::new(alloc))?;
+    devices.push(ModelDevice::new(alloc, 1))?;
+    guests.push(ModelGuest::new(alloc))?;
+    devices.push(ModelDevice::new(alloc, 1))?;
+    guests.push(ModelGuest::new(alloc))?;
+    devices.push(ModelDevice::new(alloc, 1))?;
+    guests.push(ModelGuest::new(alloc))?;
+    devices.push(ModelDevice::new(alloc, 1))?;
+    guests.push(ModelGuest::new(alloc))?;
+    devices.push(ModelDevice::new(alloc, 1))?;
+    guests.push(ModelGuest::new(alloc))?;
+    devices.push(ModelDevice::new(alloc, 1))?;
+    let mut bench = Bench { guests, devices };
+    let status = vdpa(
+        alloc,
+        &["play", "--brief"],
+        &mut source,
+        &mut sink,
+        &mut bench,
+        &mut no_parties::<Packed>(alloc),
+    );
+    assert!(rt; status == Status::Ok);
+    for (queue, journal) in [
+        (0usize, "A 0 0 S 0 A 32 0 S 0 A 0 0 S 0 "),
+        (3, "A 3 0 S 3 A 35 0 S 0 A 3 3 S 3 "),
+        (7, "A 7 0 S 3 A 39 0 S 4 A 7 7 S 7 "),
+    ] {
+        let told = tell_of::<Split, _, _>(alloc, status, &bench, queue)?;
+        assert!(rt; told.once);
+        assert!(rt; told.journal.as_str() == journal);
     }
     Ok(())
 }
