@@ -89,11 +89,13 @@ reached_live r v w live = rw live refl
 -- ---- the attach
 
 module _ {L D E G X C : Type 0} (s : Setting D E G X C) (law : IsLawful s) (plan : Plan) (q k to : ℕ) (words : RingWords) (end : E)
-    (relayed : ℕ) (guest : G) (device device' : X) (ring : ShadowRing L D E) (r : State E D) (c : Counts) (is : to ≡ begun_at plan q (k + 1))
+    (relayed : ℕ) (guest : G) (device device' : X) (ring : ShadowRing L D E) (r : State E D) (c : Counts)
+    (is : to ≡ begun_at plan q (k + 1))
     (more : k < length (queue_epochs plan q)) (mode : mode_at plan k ≡ Shadow)
     (p : IsStopped s plan q k 0 words end relayed guest device) (kit : IsShadowRing s.driver s.device s.layout plan q k ring)
     (shadows : Shadows s.device s.driver end ring.kit.driver ring.kit.table r c) (fresh : IsNew r c)
-    (a : IsAttach s.device s.party (shadow_order s.layout plan k q (to - length (s.party.begun device))) None ring.kit.device device device')
+    (a : IsAttach s.device s.party (shadow_order s.layout plan k q (to - length (s.party.begun device))) None ring.kit.device device
+    device')
     where
   abbrev number : ℕ
   number = 16 * (k + 1) + q

@@ -10,20 +10,19 @@ use Rattle.vd_bus.specs.Device.{IsAttach}
 use Rattle.vd_bus.specs.Orders.{Terms}
 use Rattle.vd_machine.specs.File.{view}
 use Rattle.vd_play.specs.declared.bench.Bench.{Bench}
-use Rattle.vd_play.specs.declared.epoch.PlayFault.{PlayFault}
 use Rattle.vd_play.specs.declared.floor.Lane.{Lane}
 use Rattle.vd_play.specs.Attaching.{CanShadow, HasShadowed}
 use Rattle.vd_play.specs.Epochs.{mode_at}
 use Rattle.vd_play.specs.Orders.{stop_of, pass_order, shadow_order, CanAttach}
-use Rattle.vd_play.specs.Played.{KeepsBench, IsFaultOf, faulty}
+use Rattle.vd_play.specs.Played.{KeepsBench}
 use Rattle.vd_play.specs.Setting.{setting_of, IsLawful}
 use Rattle.vd_play.specs.Setup.{IsReady}
 use Rattle.vd_play.proofs.Begin.{asks, stop_is}
 use Rattle.vd_play.proofs.Begins.{lane_passes, can_shadow, lane_shadows}
-use Rattle.vd_play.proofs.Benches.{keeps_none, keeps_set, faults_set, fault_set, lanes_kept}
+use Rattle.vd_play.proofs.Benches.{keeps_none, keeps_device, faults_set, fault_device, lanes_kept}
 use Rattle.vd_play.proofs.Bounds.{at_index}
-use Rattle.vd_play.proofs.Cut.{cut_still, cut_refused, cut_epoch, if_err_any, if_err_by}
-use Rattle.vd_play.proofs.Each.{stage_start, stage_end, stage_read, stage_device, set_same, all_but_one}
+use Rattle.vd_play.proofs.Cut.{cut_bench, if_err_any}
+use Rattle.vd_play.proofs.Each.{stage_start, stage_end, stage_read, stage_device}
 use Rattle.vd_play.proofs.Setups.{rings_sized, can_enable, can_order, base_kept, ordered_is, ordered_shadow, ready_next}
 use Rattle.vd_play.proofs.Sums.{sum_set}
 use Rattle.vd_play.proofs.epoch.attach_all.Goals as goal
@@ -162,8 +161,8 @@ attach_shadow-requires-clause-shadow g c =
     (mode_at (view c.args.m.now) c.args.epoch) c.args.epoch c.loop-i.floor.lanes.items c.loop-i.bus c.loop-i.invariant.ready i below l refl
     shadowing    count lane hl))
     (can_shadow (setting_of g.L.Driver.DriverEnd.driver g.L.Device.DeviceEnd.device g.L.Layout.layout g.G.Guest.party g.V.Device.party)
-    (record { layout = g.met.L.Layout.lawful; guest = g.met.G.Guest.lawful; party = g.met.V.Device.lawful }) (view c.args.m.now) i c.args.epoch count
-    lane hg.0 c.index_mut-device.result.now c.requires.epoch shadowing
+    (record { layout = g.met.L.Layout.lawful; guest = g.met.G.Guest.lawful; party = g.met.V.Device.lawful }) (view c.args.m.now)
+    i c.args.epoch count lane hg.0 c.index_mut-device.result.now c.requires.epoch shadowing
     (stage_read _ _ i _ _ _ _ _ _ c.loop-i.invariant.each hl hg.1 hx))
 
 pub returns-in_err-attach_pass-in-Pass-clause-keeps : goal.returns-in_err-attach_pass-in-Pass-clause-keeps
@@ -173,10 +172,8 @@ returns-in_err-attach_pass-in-Pass-clause-keeps g c =
     let below : i < length c.args.m.now.queues = omega (arith, c.loop-i.invariant.many, c.requires.many) in
     let hx = slice_get_read c.loop-i.bench.devices.items _ i c.index_mut-device.result.now refl
     (omega (arith, f.devices)) c.index_mut-device.ensures.value in
-    let hg = at_index c.loop-i.bench.guests.items i (omega (arith, f.guests)) in
-    let new : Bench _ _ = record { guests = c.loop-i.bench.guests; devices = with_item c.loop-i.bench.devices i c.attach_pass.new.device } in
-    keeps_set g.V.Device.party (length c.args.m.now.queues) c.args.bench.now c.loop-i.bench new i hg.0 _ c.attach_pass.new.device below
-    c.loop-i.invariant.keeps (sym (set_same c.loop-i.bench.guests.items i hg.0 hg.1)) refl hx c.attach_pass.ensures.carried
+    keeps_device g.V.Device.party (length c.args.m.now.queues) c.args.bench.now c.loop-i.bench i c.index_mut-device.result.now
+    c.attach_pass.new.device below (omega (arith, f.guests)) c.loop-i.invariant.keeps hx c.attach_pass.ensures.carried
 
 pub returns-in_err-attach_pass-in-Pass-clause-cut : goal.returns-in_err-attach_pass-in-Pass-clause-cut
 returns-in_err-attach_pass-in-Pass-clause-cut g c =
@@ -185,17 +182,12 @@ returns-in_err-attach_pass-in-Pass-clause-cut g c =
     let below : i < length c.args.m.now.queues = omega (arith, c.loop-i.invariant.many, c.requires.many) in
     let hx = slice_get_read c.loop-i.bench.devices.items _ i c.index_mut-device.result.now refl
     (omega (arith, f.devices)) c.index_mut-device.ensures.value in
-    let hg = at_index c.loop-i.bench.guests.items i (omega (arith, f.guests)) in
     let hl = slice_get_read c.loop-i.floor.lanes.items _ i c.index_mut.result.now refl (omega arith) c.index_mut.ensures.value in
     let s = (setting_of g.L.Driver.DriverEnd.driver g.L.Device.DeviceEnd.device g.L.Layout.layout g.G.Guest.party g.V.Device.party) in
     let law : IsLawful s = (record { layout = g.met.L.Layout.lawful; guest = g.met.G.Guest.lawful; party = g.met.V.Device.lawful }) in
-    let plan = view c.args.m.now in
-    let lane = c.index_mut.result.now in
-    if_err_any _ _ (λ z. all_but_one _ _ _ i _ _ _ c.attach_pass.new.lane hg.0 c.attach_pass.new.device hg.1 c.loop-i.invariant.each
-    (λ q a b x p. cut_epoch s law plan q true c.args.epoch 0 a.words a.still a.relaying a.relayed b x p.held)
-    (λ q a b x p. cut_still s law plan q c.args.epoch a.words a.still a.relaying a.relayed b x p.held)
-    (cut_refused s law plan i c.args.epoch lane.words lane.still lane.relaying lane.relayed hg.0 c.index_mut-device.result.now
-    c.attach_pass.new.device c.in_err-attach_pass-in-Pass.ensures.err.2 (stage_read _ _ i _ _ _ _ _ _ c.loop-i.invariant.each hl hg.1 hx).held))
+    if_err_any _ _ (λ z. cut_bench s law (view c.args.m.now) c.args.epoch i c.loop-i.floor.lanes.items c.loop-i.bench c.index_mut.result.now
+    c.attach_pass.new.lane c.index_mut-device.result.now c.attach_pass.new.device (omega (arith, f.guests)) c.loop-i.invariant.each hl hx
+    c.in_err-attach_pass-in-Pass.ensures.err.2)
 
 pub returns-in_err-attach_pass-in-Pass-clause-fault : goal.returns-in_err-attach_pass-in-Pass-clause-fault
 returns-in_err-attach_pass-in-Pass-clause-fault g c =
@@ -204,16 +196,10 @@ returns-in_err-attach_pass-in-Pass-clause-fault g c =
     let below : i < length c.args.m.now.queues = omega (arith, c.loop-i.invariant.many, c.requires.many) in
     let hx = slice_get_read c.loop-i.bench.devices.items _ i c.index_mut-device.result.now refl
     (omega (arith, f.devices)) c.index_mut-device.ensures.value in
-    let hg = at_index c.loop-i.bench.guests.items i (omega (arith, f.guests)) in
-    let new : Bench _ _ = record { guests = c.loop-i.bench.guests; devices = with_item c.loop-i.bench.devices i c.attach_pass.new.device } in
-    let queue = c.in_err-attach_pass-in-Pass.ensures.err.0 in
-    let fault = fault_set g.V.Device.party (length c.args.m.now.queues) c.args.bench.now c.loop-i.bench new i _ c.attach_pass.new.device
-    below c.loop-i.invariant.faults refl hx c.in_err-attach_pass-in-Pass.ensures.err.2.rose in
-    if_err_by c.from_residual.result (λ (z : PlayFault). z ≡ c.in_err-attach_pass-in-Pass.field-0.0)
-    (λ (z : PlayFault). IsFaultOf g.V.Device.party (length c.args.m.now.queues) (faulty z) c.args.bench.now new)
-    c.from_residual.ensures.1 (λ (z : PlayFault) is. subst
-    (λ (x : PlayFault). IsFaultOf g.V.Device.party (length c.args.m.now.queues) (faulty x) c.args.bench.now new)
-    (sym (is ∙ queue)) fault)
+    let err = c.in_err-attach_pass-in-Pass.ensures.err in
+    fault_device g.V.Device.party (length c.args.m.now.queues) c.args.bench.now c.loop-i.bench i c.index_mut-device.result.now
+    c.attach_pass.new.device c.in_err-attach_pass-in-Pass.field-0.0 c.from_residual.result
+    below c.loop-i.invariant.faults hx err.2.rose err.0 c.from_residual.ensures.1
 
 pub returns-in_err-attach_shadow-in-Shadow-clause-keeps : goal.returns-in_err-attach_shadow-in-Shadow-clause-keeps
 returns-in_err-attach_shadow-in-Shadow-clause-keeps g c =
@@ -222,10 +208,8 @@ returns-in_err-attach_shadow-in-Shadow-clause-keeps g c =
     let below : i < length c.args.m.now.queues = omega (arith, c.loop-i.invariant.many, c.requires.many) in
     let hx = slice_get_read c.loop-i.bench.devices.items _ i c.index_mut-device.result.now refl
     (omega (arith, f.devices)) c.index_mut-device.ensures.value in
-    let hg = at_index c.loop-i.bench.guests.items i (omega (arith, f.guests)) in
-    let new : Bench _ _ = record { guests = c.loop-i.bench.guests; devices = with_item c.loop-i.bench.devices i c.attach_shadow.new.device } in
-    keeps_set g.V.Device.party (length c.args.m.now.queues) c.args.bench.now c.loop-i.bench new i hg.0 _ c.attach_shadow.new.device below
-    c.loop-i.invariant.keeps (sym (set_same c.loop-i.bench.guests.items i hg.0 hg.1)) refl hx c.attach_shadow.ensures.carried
+    keeps_device g.V.Device.party (length c.args.m.now.queues) c.args.bench.now c.loop-i.bench i c.index_mut-device.result.now
+    c.attach_shadow.new.device below (omega (arith, f.guests)) c.loop-i.invariant.keeps hx c.attach_shadow.ensures.carried
 
 pub returns-in_err-attach_shadow-in-Shadow-clause-cut : goal.returns-in_err-attach_shadow-in-Shadow-clause-cut
 returns-in_err-attach_shadow-in-Shadow-clause-cut g c =
@@ -234,18 +218,13 @@ returns-in_err-attach_shadow-in-Shadow-clause-cut g c =
     let below : i < length c.args.m.now.queues = omega (arith, c.loop-i.invariant.many, c.requires.many) in
     let hx = slice_get_read c.loop-i.bench.devices.items _ i c.index_mut-device.result.now refl
     (omega (arith, f.devices)) c.index_mut-device.ensures.value in
-    let hg = at_index c.loop-i.bench.guests.items i (omega (arith, f.guests)) in
     let hl = slice_get_read c.loop-i.floor.lanes.items _ i c.index_mut-in-Shadow.result.now refl (omega arith)
     c.index_mut-in-Shadow.ensures.value in
     let s = (setting_of g.L.Driver.DriverEnd.driver g.L.Device.DeviceEnd.device g.L.Layout.layout g.G.Guest.party g.V.Device.party) in
     let law : IsLawful s = (record { layout = g.met.L.Layout.lawful; guest = g.met.G.Guest.lawful; party = g.met.V.Device.lawful }) in
-    let plan = view c.args.m.now in
-    let lane = c.index_mut-in-Shadow.result.now in
-    if_err_any _ _ (λ z. all_but_one _ _ _ i _ _ _ c.attach_shadow.new.lane hg.0 c.attach_shadow.new.device hg.1 c.loop-i.invariant.each
-    (λ q a b x p. cut_epoch s law plan q true c.args.epoch 0 a.words a.still a.relaying a.relayed b x p.held)
-    (λ q a b x p. cut_still s law plan q c.args.epoch a.words a.still a.relaying a.relayed b x p.held)
-    (cut_refused s law plan i c.args.epoch lane.words lane.still lane.relaying lane.relayed hg.0 c.index_mut-device.result.now
-    c.attach_shadow.new.device c.in_err-attach_shadow-in-Shadow.ensures.err.3 (stage_read _ _ i _ _ _ _ _ _ c.loop-i.invariant.each hl hg.1 hx).held))
+    if_err_any _ _ (λ z. cut_bench s law (view c.args.m.now) c.args.epoch i c.loop-i.floor.lanes.items c.loop-i.bench
+    c.index_mut-in-Shadow.result.now c.attach_shadow.new.lane c.index_mut-device.result.now c.attach_shadow.new.device
+    (omega (arith, f.guests)) c.loop-i.invariant.each hl hx c.in_err-attach_shadow-in-Shadow.ensures.err.3)
 
 pub returns-in_err-attach_shadow-in-Shadow-clause-fault : goal.returns-in_err-attach_shadow-in-Shadow-clause-fault
 returns-in_err-attach_shadow-in-Shadow-clause-fault g c =
@@ -254,16 +233,11 @@ returns-in_err-attach_shadow-in-Shadow-clause-fault g c =
     let below : i < length c.args.m.now.queues = omega (arith, c.loop-i.invariant.many, c.requires.many) in
     let hx = slice_get_read c.loop-i.bench.devices.items _ i c.index_mut-device.result.now refl
     (omega (arith, f.devices)) c.index_mut-device.ensures.value in
-    let hg = at_index c.loop-i.bench.guests.items i (omega (arith, f.guests)) in
-    let new : Bench _ _ = record { guests = c.loop-i.bench.guests; devices = with_item c.loop-i.bench.devices i c.attach_shadow.new.device } in
-    let queue = c.in_err-attach_shadow-in-Shadow.ensures.err.0 in
-    let fault = fault_set g.V.Device.party (length c.args.m.now.queues) c.args.bench.now c.loop-i.bench new i _ c.attach_shadow.new.device
-    below c.loop-i.invariant.faults refl hx c.in_err-attach_shadow-in-Shadow.ensures.err.3.rose in
-    if_err_by c.from_residual-in_err-attach_shadow-in-Shadow.result (λ (z : PlayFault). z ≡ c.in_err-attach_shadow-in-Shadow.field-0.0)
-    (λ (z : PlayFault). IsFaultOf g.V.Device.party (length c.args.m.now.queues) (faulty z) c.args.bench.now new)
-    c.from_residual-in_err-attach_shadow-in-Shadow.ensures.1 (λ (z : PlayFault) is. subst
-    (λ (x : PlayFault). IsFaultOf g.V.Device.party (length c.args.m.now.queues) (faulty x) c.args.bench.now new)
-    (sym (is ∙ queue)) fault)
+    let err = c.in_err-attach_shadow-in-Shadow.ensures.err in
+    fault_device g.V.Device.party (length c.args.m.now.queues) c.args.bench.now c.loop-i.bench i c.index_mut-device.result.now
+    c.attach_shadow.new.device c.in_err-attach_shadow-in-Shadow.field-0.0
+    c.from_residual-in_err-attach_shadow-in-Shadow.result below c.loop-i.invariant.faults hx err.3.rose err.0
+    c.from_residual-in_err-attach_shadow-in-Shadow.ensures.1
 
 pub loop-i-preserved : goal.loop-i-preserved
 loop-i-preserved g c =
@@ -301,8 +275,8 @@ loop-i-preserved g c =
           let ok = w.in_ok-attach_pass-in-Pass.ensures.ok in
           let mode : mode_at plan c.args.epoch ≡ Pass = sym c.mode_of-mode.ensures ∙ w.in-Pass.is in
           let new : Bench _ _ = record { guests = c.loop-i.bench.guests; devices = with_item c.loop-i.bench.devices i device' } in
-          let keeps : KeepsBench m n c.args.bench.now new = keeps_set m n c.args.bench.now c.loop-i.bench new i hg.0 device device' below
-          c.loop-i.invariant.keeps (sym (set_same c.loop-i.bench.guests.items i hg.0 hg.1)) refl hx w.attach_pass.ensures.carried in
+          let keeps : KeepsBench m n c.args.bench.now new = keeps_device m n c.args.bench.now c.loop-i.bench i device device' below
+          (omega (arith, f.guests)) c.loop-i.invariant.keeps hx w.attach_pass.ensures.carried in
           let began = lane_passes s law plan i c.args.epoch c.stop_of-stop.result lane lane' hg.0 device device' to.0 to.1 mode
           w.attach_pass.ensures.lane ok.0
           (λ end at. subst (λ k. IsAttach e m (pass_order e plan i (c.stop_of-stop.result - k) end) None end device device') len
@@ -340,8 +314,8 @@ loop-i-preserved g c =
           let ok = w.in_ok-attach_shadow-in-Shadow.ensures.ok in
           let mode : mode_at plan c.args.epoch ≡ Shadow = sym c.mode_of-mode.ensures ∙ w.in-Shadow.is in
           let new : Bench _ _ = record { guests = c.loop-i.bench.guests; devices = with_item c.loop-i.bench.devices i device' } in
-          let keeps : KeepsBench m n c.args.bench.now new = keeps_set m n c.args.bench.now c.loop-i.bench new i hg.0 device device' below
-          c.loop-i.invariant.keeps (sym (set_same c.loop-i.bench.guests.items i hg.0 hg.1)) refl hx w.attach_shadow.ensures.carried in
+          let keeps : KeepsBench m n c.args.bench.now new = keeps_device m n c.args.bench.now c.loop-i.bench i device device' below
+          (omega (arith, f.guests)) c.loop-i.invariant.keeps hx w.attach_shadow.ensures.carried in
           let began = lane_shadows s law plan i c.args.epoch c.stop_of-stop.result lane lane' hg.0 device device' to.0 to.1
           c.requires.epoch mode w.attach_shadow.ensures.lane ok.0
           (subst (λ k. HasShadowed d e m (shadow_order l plan c.args.epoch i (c.stop_of-stop.result - k)) lane lane' device device') len

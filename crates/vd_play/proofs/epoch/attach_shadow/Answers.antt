@@ -28,7 +28,8 @@ to_shadow-requires-clause-kit g c =
     let same = some_same c.requires.shadow.ring c.in-Some-pop.ring (slice_get kits (length kits - 1)) c.requires.shadow.next last in (
       t.size,
       t.features,
-      subst (λ (r : ShadowRing _ _ _). IsKit d e l t.size t.features false r.kit.driver r.kit.device r.kit.table) same c.requires.shadow.kit,
+      subst (λ (r : ShadowRing _ _ _). IsKit d e l t.size t.features false r.kit.driver r.kit.device r.kit.table) same
+          c.requires.shadow.kit,
       λ w stands. c.requires.shadow.framed c.in-Some.end w (sym c.take.ensures.value ∙ c.in-Some.is)
           (subst (λ z. e.stands z w) c.new.ensures.end stands),
     )
