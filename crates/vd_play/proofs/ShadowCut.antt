@@ -1,5 +1,5 @@
 -- What a lane with a relay has begun and given.
-use Rattle.std.proofs.Common.{◌≡◌, ℕ, ◌+◌, ◌-◌, ◌<◌, ◌≤◌, Some, List, [], ◌∷◌, ◌++◌, length, map, take, drop, slice_get, slice_index_or, zero, suc, refl, sym, ◌∙◌, ap, subst, arith}
+use Rattle.std.proofs.Common.{◌≡◌, ℕ, ◌-◌, ◌<◌, ◌≤◌, Some, List, [], ◌∷◌, ◌++◌, length, map, take, drop, slice_get, zero, suc, refl, sym, ◌∙◌, ap, subst, arith}
 use Rattle.std.specs.List.{All}
 use Rattle.std.proofs.lemmas.List.{map-append, length-map, length-drop, drop-map, take-append-drop, get_or_default, get_or-map}
 use Rattle.std.proofs.lemmas.Option.{slice_get-get_or}
@@ -23,7 +23,7 @@ use Rattle.vd_switch.proofs.ShadowingLanes as switch
 use Rattle.vd_machine.specs.File.{Plan}
 use Rattle.vd_play.specs.Before.{begun_at, chains_within}
 use Rattle.vd_play.specs.Epochs.{Epoch}
-use Rattle.vd_play.specs.Journal.{queue_chains, queue_epochs, own_chains, epoch_chains, journal_chains, tree_map}
+use Rattle.vd_play.specs.Journal.{queue_chains, queue_epochs, epoch_chains, journal_chains, tree_map}
 use Rattle.vd_play.specs.Lane.{HasGiven}
 use Rattle.vd_play.specs.Setting.{Setting, IsLawful}
 use Rattle.vd_play.specs.Shadowed.{IsRelayed}

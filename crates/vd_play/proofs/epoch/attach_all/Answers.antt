@@ -1,4 +1,4 @@
-use Rattle.std.proofs.Common.{◌≡◌, ◌<◌, ◌-◌, ◌+◌, ℕ, true, None, Some, length, set, arith, sym, refl, ap, subst, ◌∙◌}
+use Rattle.std.proofs.Common.{◌≡◌, ◌<◌, ◌-◌, ℕ, None, length, set, arith, sym, refl, ap, subst, ◌∙◌}
 use Rattle.std.specs.Vec.{with_item}
 use Rattle.std.proofs.lemmas.Option.{slice_get_read}
 use Rattle.std.proofs.lemmas.List.{length-set}
@@ -23,7 +23,7 @@ use Rattle.vd_play.proofs.Benches.{keeps_none, keeps_device, faults_set, fault_d
 use Rattle.vd_play.proofs.Bounds.{at_index}
 use Rattle.vd_play.proofs.Cut.{cut_bench, if_err_any}
 use Rattle.vd_play.proofs.Each.{stage_start, stage_end, stage_read, stage_device}
-use Rattle.vd_play.proofs.Setups.{rings_sized, can_enable, can_order, base_kept, ordered_is, ordered_shadow, ready_next}
+use Rattle.vd_play.proofs.Setups.{rings_sized, base_kept, ordered_is, ordered_shadow, ready_next}
 use Rattle.vd_play.proofs.Sums.{sum_set}
 use Rattle.vd_play.proofs.epoch.attach_all.Goals as goal
 use Rattle.vd_play.proofs.epoch.attach_all.Goals.{in-Pass+in_ok-attach_pass-in-Pass, in-Shadow+in_ok-attach_shadow-in-Shadow}
