@@ -1,11 +1,10 @@
 -- Each lane begins an epoch once its device is attached.
-use Rattle.std.proofs.Common.{◌≡◌, ℕ, ◌+◌, ◌*◌, ◌-◌, ◌<◌, ◌≤◌, Option, Some, None, IsSomeAnd, true, false, List, length, slice_get, refl, sym, ◌∙◌, ap, subst, arith}
+use Rattle.std.proofs.Common.{◌≡◌, ℕ, ◌+◌, ◌-◌, ◌<◌, Option, Some, None, IsSomeAnd, true, false, length, refl, sym, ◌∙◌, ap, subst, arith}
 use Rattle.vd_model.specs.declared.base.Mode.TheVariants.{Pass, Shadow}
 use Rattle.vd_words.specs.Plain.{RingWords}
 use Rattle.vd_ring.specs.declared.device.DeviceView.{DeviceView}
 use Rattle.vd_ring.specs.declared.frame.Frame.{Frame}
 use Rattle.vd_bus.specs.Device.{IsAttach}
-use Rattle.vd_bus.specs.Orders.{Terms}
 use Rattle.vd_machine.specs.File.{Plan}
 use Rattle.vd_switch.specs.Stills.{Shadows, IsNew}
 use Rattle.vd_play.specs.declared.floor.Lane.{Lane}

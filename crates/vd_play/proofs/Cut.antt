@@ -1,10 +1,10 @@
 -- A lane in the course of a play has the beginning of its journal.
-use Rattle.std.proofs.Common.{◌≡◌, ℕ, ◌+◌, ◌-◌, ◌*◌, ◌≤◌, Option, Some, None, Result, Ok, Err, IfErr, IsErrAnd, List, [], ◌∷◌, ◌++◌, length, true, false, Bool, map, take, drop, flat_map, refl, sym, ◌∙◌, ap, subst, arith}
+use Rattle.std.proofs.Common.{◌≡◌, ℕ, ◌+◌, ◌-◌, ◌<◌, ◌≤◌, Option, Some, None, Result, Ok, Err, IfErr, IsErrAnd, List, [], ◌∷◌, ◌++◌, length, slice_get, set, true, false, Bool, take, drop, flat_map, refl, sym, ◌∙◌, ap, subst, arith}
 use Rattle.std.specs.List.{All}
 use Rattle.std.proofs.lemmas.Grind.{flat_map-append}
 use Rattle.std.proofs.lemmas.List.{append_assoc, length-drop, length-map, take-append-drop, take_all}
 use mathlib.Core.List.{IsPrefix}
-use Rattle.vd_model.specs.declared.base.Mode.TheVariants.{Pass, Shadow}
+use Rattle.vd_model.specs.declared.base.Mode.TheVariants.{Shadow}
 use Rattle.vd_model.specs.declared.chain.Piece.{Piece}
 use Rattle.vd_model.specs.declared.record.Begun.{Begun}
 use Rattle.vd_words.specs.Plain.{RingWords}
@@ -19,17 +19,21 @@ use Rattle.vd_layout.specs.Layout.{LayoutModel}
 use Rattle.vd_machine.specs.File.{Plan}
 use Rattle.vd_relay.specs.declared.counts.Counts.{Counts}
 use Rattle.vd_relay.specs.declared.state.State.{State}
+use Rattle.vd_play.specs.declared.bench.Bench.{Bench}
+use Rattle.vd_play.specs.declared.floor.Lane.{Lane}
 use Rattle.vd_play.specs.declared.floor.Relaying.{Relaying}
 use Rattle.vd_play.specs.Journal.{queue_script, queue_chains, queue_epochs, epoch_chains, epoch_events, epoch_suspend, attach_event, suspend_event, journal_events, journal_chains, HasLen}
 use Rattle.vd_play.specs.Before.{events_before, begun_at, chains_before}
+use Rattle.vd_play.specs.Each.{EachLane, Stage}
 use Rattle.vd_play.specs.Epochs.{Epoch}
 use Rattle.vd_play.specs.Lane.{HasGiven, IsDriven, Serves, IsKept}
 use Rattle.vd_play.specs.Orders.{shadow_attach}
 use Rattle.vd_play.specs.Played.{IsCut}
-use Rattle.vd_play.specs.Progress.{IsStopped, IsPassing, IsShadowing, IsWinding, RelayingBy, StoppedWith, InEpochWith}
+use Rattle.vd_play.specs.Progress.{IsStopped, IsPassing, IsShadowing, IsWinding, RelayingBy, StoppedWith, InEpochWith, Stopped, InEpoch}
 use Rattle.vd_play.specs.Setting.{Setting, IsLawful}
 use Rattle.vd_play.specs.Shadowed.{IsRelayed}
-use Rattle.vd_play.proofs.Bounds.{bounded, flat_more}
+use Rattle.vd_play.proofs.Bounds.{at_index, bounded, flat_more}
+use Rattle.vd_play.proofs.Each.{stage_read, all_but_one}
 use Rattle.vd_play.proofs.Keep.{prefix_of}
 use Rattle.vd_play.proofs.Lists.{prefix_through}
 use Rattle.vd_play.proofs.Moves.{before_prefix, within_prefix}
@@ -46,7 +50,7 @@ attach_front xs a b = (b ∷ [], append_assoc xs (a ∷ []) (b ∷ []))
 
 -- the events of the epochs before, and the first of the epoch's two
 begun_front : {E : Type 0} (e : DeviceModel E) (l : LayoutModel) (plan : Plan) (q k : ℕ) (ep : Epoch) (a b : Event)
-    → Rattle.std.specs.Prelude.slice_get (queue_epochs plan q) k ≡ Some ep → epoch_events e l plan q ep ≡ a ∷ b ∷ []
+    → slice_get (queue_epochs plan q) k ≡ Some ep → epoch_events e l plan q ep ≡ a ∷ b ∷ []
     → IsPrefix (events_before e l plan q k ++ a ∷ []) (journal_events e l plan q)
 begun_front e l plan q k ep a b is two =
     let more : events_before e l plan q (k + 1) ≡ events_before e l plan q k ++ a ∷ b ∷ [] =
@@ -185,11 +189,28 @@ module _ {L D E G X C : Type 0} (s : Setting D E G X C) (law : IsLawful s) (plan
       (guest : G) (device : X) → InEpochWith s plan q on k r words still relaying relayed guest device → IsCut s plan q guest device
   cut_epoch true k r words None None relayed guest device p = cut_passing s law plan q k r words relayed guest device p
   cut_epoch true k r words None (Some x) relayed guest device p =
-      cut_relaying s law plan q x.lane.relay.state.winding k r words x.words.words x.lane.relay.state x.lane.relay.counts relayed guest device p
+      cut_relaying s law plan q x.lane.relay.state.winding k r words x.words.words x.lane.relay.state x.lane.relay.counts relayed guest
+      device p
   cut_epoch false k r words None None relayed guest device p = absurd p
   cut_epoch false k r words None (Some x) relayed guest device p = absurd p
   cut_epoch on k r words (Some end) None relayed guest device p = cut_stopped s law plan q (k + 1) r words end relayed guest device p
   cut_epoch on k r words (Some end) (Some x) relayed guest device p = absurd p
+
+-- the attach of lane i was refused, behind those that have begun the epoch
+pub cut_bench : {L D E G X C : Type 0} (s : Setting D E G X C) (law : IsLawful s) (plan : Plan) (k i : ℕ) (lanes : List (Lane L D E))
+    (bench : Bench G X) (lane lane' : Lane L D E) (device device' : X) → i < length bench.guests.items
+    → EachLane (Stage i (λ q a b x. InEpoch s plan q true k 0 a b x) (λ q a b x. Stopped s plan q k a b x)) lanes bench.guests.items
+    bench.devices.items → slice_get lanes i ≡ Some lane → slice_get bench.devices.items i ≡ Some device → IsRefused s.party device device'
+    → EachLane (λ q a b x. IsCut s plan q b x) (set lanes i lane') bench.guests.items (set bench.devices.items i device')
+cut_bench s law plan k i lanes bench lane lane' device device' there each hl hx refused =
+    let g = at_index bench.guests.items i there in
+    all_but_one (λ q a b x. InEpoch s plan q true k 0 a b x) (λ q a b x. Stopped s plan q k a b x) (λ q a b x. IsCut s plan q b x) i
+    lanes bench.guests.items bench.devices.items lane' g.0 device' g.1 each
+    (λ q a b x p. cut_epoch s law plan q true k 0 a.words a.still a.relaying a.relayed b x p.held)
+    (λ q a b x p. cut_still s law plan q k a.words a.still a.relaying a.relayed b x p.held)
+    (cut_refused s law plan i k lane.words lane.still lane.relaying lane.relayed g.0 device device' refused
+    (stage_read (λ q a b x. InEpoch s plan q true k 0 a b x) (λ q a b x. Stopped s plan q k a b x) i lanes bench.guests.items
+    bench.devices.items lane g.0 device each hl g.1 hx).held)
 
 pub if_err_by : {T F : Type 0} (r : Result T F) (P Q : F → Type 0) → IsErrAnd r P → ((f : F) → P f → Q f) → IfErr r Q
 if_err_by (Ok x) P Q is h = tt

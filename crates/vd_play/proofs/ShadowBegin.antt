@@ -1,8 +1,8 @@
 -- A lane that is still, and its device's attach to a shadow ring.
-use Rattle.std.proofs.Common.{◌≡◌, ℕ, zero, suc, ◌+◌, ◌*◌, ◌-◌, ◌<◌, ◌≤◌, inl, Some, None, true, false, List, [], ◌∷◌, ◌++◌, length, map, take, slice_get, slice_index_or, refl, sym, ◌∙◌, ap, subst, arith}
+use Rattle.std.proofs.Common.{◌≡◌, ℕ, ◌+◌, ◌*◌, ◌-◌, ◌<◌, ◌≤◌, inl, None, false, List, [], ◌∷◌, ◌++◌, length, map, take, slice_index_or, refl, sym, ◌∙◌, ap, subst, arith}
 use Rattle.std.specs.List.{All, zip}
 use Rattle.std.proofs.lemmas.Bool.{le-ltb}
-use Rattle.std.proofs.lemmas.List.{length-map, take_all, get_or_default, get_or-map}
+use Rattle.std.proofs.lemmas.List.{length-map, take_all, get_or-map}
 use Rattle.std.proofs.lemmas.Option.{get_or_from_slice_get, slice_get_within}
 use Rattle.vd_control.specs.Settings.{default}
 use Rattle.vd_model.specs.declared.base.Mode.TheVariants.{Shadow}
@@ -15,12 +15,12 @@ use Rattle.vd_ring.specs.declared.frame.Frame.{Frame}
 use Rattle.vd_ring.specs.declared.frame.Used.{Used}
 use Rattle.vd_ring.specs.Fresh.{fresh_driver, fresh_device}
 use Rattle.vd_ring.specs.History.{takes, gives, used_at, entry}
-use Rattle.vd_layout.specs.Layout.{IsMadeWith, IsFresh}
+use Rattle.vd_layout.specs.Layout.{IsMadeWith}
 use Rattle.vd_bus.specs.declared.device.Attached.{Attached}
 use Rattle.vd_bus.specs.declared.event.Event.{Event}
 use Rattle.vd_bus.specs.declared.event.Event.TheVariants.{Attach}
 use Rattle.vd_bus.specs.Device.{IsAttach, lens_of}
-use Rattle.vd_bus.specs.Orders.{Terms, mode_of}
+use Rattle.vd_bus.specs.Orders.{mode_of}
 use Rattle.vd_bus.specs.Pace.{attaches}
 use Rattle.vd_relay.specs.declared.counts.Counts.{Counts}
 use Rattle.vd_relay.specs.declared.state.State.{State}
@@ -89,11 +89,13 @@ reached_live r v w live = rw live refl
 -- ---- the attach
 
 module _ {L D E G X C : Type 0} (s : Setting D E G X C) (law : IsLawful s) (plan : Plan) (q k to : ℕ) (words : RingWords) (end : E)
-    (relayed : ℕ) (guest : G) (device device' : X) (ring : ShadowRing L D E) (r : State E D) (c : Counts) (is : to ≡ begun_at plan q (k + 1))
+    (relayed : ℕ) (guest : G) (device device' : X) (ring : ShadowRing L D E) (r : State E D) (c : Counts)
+    (is : to ≡ begun_at plan q (k + 1))
     (more : k < length (queue_epochs plan q)) (mode : mode_at plan k ≡ Shadow)
     (p : IsStopped s plan q k 0 words end relayed guest device) (kit : IsShadowRing s.driver s.device s.layout plan q k ring)
     (shadows : Shadows s.device s.driver end ring.kit.driver ring.kit.table r c) (fresh : IsNew r c)
-    (a : IsAttach s.device s.party (shadow_order s.layout plan k q (to - length (s.party.begun device))) None ring.kit.device device device')
+    (a : IsAttach s.device s.party (shadow_order s.layout plan k q (to - length (s.party.begun device))) None ring.kit.device device
+    device')
     where
   abbrev number : ℕ
   number = 16 * (k + 1) + q

@@ -1,5 +1,5 @@
 -- What a lane with a relay has begun and given.
-use Rattle.std.proofs.Common.{◌≡◌, ℕ, ◌+◌, ◌-◌, ◌<◌, ◌≤◌, Some, List, [], ◌∷◌, ◌++◌, length, map, take, drop, slice_get, slice_index_or, zero, suc, refl, sym, ◌∙◌, ap, subst, arith}
+use Rattle.std.proofs.Common.{◌≡◌, ℕ, ◌-◌, ◌<◌, ◌≤◌, Some, List, [], ◌∷◌, ◌++◌, length, map, take, drop, slice_get, zero, suc, refl, sym, ◌∙◌, ap, subst, arith}
 use Rattle.std.specs.List.{All}
 use Rattle.std.proofs.lemmas.List.{map-append, length-map, length-drop, drop-map, take-append-drop, get_or_default, get_or-map}
 use Rattle.std.proofs.lemmas.Option.{slice_get-get_or}
@@ -23,7 +23,7 @@ use Rattle.vd_switch.proofs.ShadowingLanes as switch
 use Rattle.vd_machine.specs.File.{Plan}
 use Rattle.vd_play.specs.Before.{begun_at, chains_within}
 use Rattle.vd_play.specs.Epochs.{Epoch}
-use Rattle.vd_play.specs.Journal.{queue_chains, queue_epochs, own_chains, epoch_chains, journal_chains, tree_map}
+use Rattle.vd_play.specs.Journal.{queue_chains, queue_epochs, epoch_chains, journal_chains, tree_map}
 use Rattle.vd_play.specs.Lane.{HasGiven}
 use Rattle.vd_play.specs.Setting.{Setting, IsLawful}
 use Rattle.vd_play.specs.Shadowed.{IsRelayed}
@@ -85,7 +85,8 @@ module _ {D E G X C : Type 0} (s : Setting D E G X C) (law : IsLawful s) (plan :
   -- what the relay took over was taken
   taken_over : since p.start ≤ length (takes w.done)
   taken_over =
-      let count = switch.begun_count s.device s.driver s.layout law.layout p.start p.old r begun by words.words shadow_words v w sv sw p.lane in
+      let count = switch.begun_count s.device s.driver s.layout law.layout p.start p.old r begun by words.words shadow_words v w sv sw
+      p.lane in
       let first : List Piece × ℕ → List Piece = λ x. x.0 in
       let low : length all ≤ length (takes w.done) = take_low (length all) (takes w.done)
       (ap length (sym lane_kept.chains) ∙ length-map all first) in
@@ -108,7 +109,8 @@ module _ {D E G X C : Type 0} (s : Setting D E G X C) (law : IsLawful s) (plan :
       let taken : IsPrefix (drop (since p.start) (takes w.done)) (drop (since p.start) (queue_chains plan q)) =
       drop_prefix (since p.start) (takes w.done) (queue_chains plan q) (prefix_of s law plan q words guest v w p.driven) taken_over in
       let front : IsPrefix xs (drop (since p.start) (queue_chains plan q)) = prefix_through xs (drop (since p.start) (takes w.done))
-      (drop (since p.start) (queue_chains plan q)) (prefix_take xs (drop (since p.start) (takes w.done)) (length (takes sw.done)) refl) taken in
+      (drop (since p.start) (queue_chains plan q))
+      (prefix_take xs (drop (since p.start) (takes w.done)) (length (takes sw.done)) refl) taken in
       let next = bounded (length (queue_chains plan q)) (queue_epochs plan q) k p.driven.queue.chained p.epoch in
       let same : next.epoch ≡ ep = some_same next.epoch ep (slice_get (queue_epochs plan q) k) next.is is in
       let own = own_part plan q (since p.start) ep xs (p.took_over.0 ∙ sym b.0) front

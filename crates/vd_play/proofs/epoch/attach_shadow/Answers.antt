@@ -1,4 +1,4 @@
-use Rattle.std.proofs.Common.{◌≡◌, ◌-◌, ℕ, Some, None, false, length, slice_get, arith, sym, refl, ap, subst, ◌∙◌}
+use Rattle.std.proofs.Common.{◌≡◌, ◌-◌, Some, None, false, length, slice_get, sym, refl, ap, subst, ◌∙◌}
 use Rattle.vd_control.specs.Settings.{HasPairs}
 use Rattle.vd_bus.specs.Bus.{BusState}
 use Rattle.vd_bus.specs.BusRings.{terms}
@@ -7,7 +7,6 @@ use Rattle.vd_bus.specs.Orders.{Terms}
 use Rattle.vd_switch.specs.Kits.{IsKit}
 use Rattle.vd_switch.specs.Stills.{Shadows}
 use Rattle.vd_play.specs.declared.floor.ShadowRing.{ShadowRing}
-use Rattle.vd_play.specs.Attaching.{HasShadowed}
 use Rattle.vd_play.specs.Setup.{serving}
 use Rattle.vd_play.proofs.KitsTaken.{last_got, kit_base, default_pairs}
 use Rattle.vd_play.proofs.Lists.{some_same}
@@ -28,7 +27,8 @@ to_shadow-requires-clause-kit g c =
     let same = some_same c.requires.shadow.ring c.in-Some-pop.ring (slice_get kits (length kits - 1)) c.requires.shadow.next last in (
       t.size,
       t.features,
-      subst (λ (r : ShadowRing _ _ _). IsKit d e l t.size t.features false r.kit.driver r.kit.device r.kit.table) same c.requires.shadow.kit,
+      subst (λ (r : ShadowRing _ _ _). IsKit d e l t.size t.features false r.kit.driver r.kit.device r.kit.table) same
+          c.requires.shadow.kit,
       λ w stands. c.requires.shadow.framed c.in-Some.end w (sym c.take.ensures.value ∙ c.in-Some.is)
           (subst (λ z. e.stands z w) c.new.ensures.end stands),
     )
