@@ -1,5 +1,5 @@
 -- The shadow rings of a queue, made from the last epoch to the first.
-use Rattle.std.proofs.Common.{◌≡◌, ℕ, ◌+◌, ◌<◌, ◌≤◌, Bool, true, false, List, [], ◌∷◌, ◌++◌, length, slice_get, Some, inl, inr, refl, sym, ◌∙◌, ap, subst, arith, length-append}
+use Rattle.std.proofs.Common.{◌≡◌, ℕ, ◌+◌, Bool, true, false, List, [], ◌∷◌, ◌++◌, length, slice_get, inl, inr, refl, sym, ◌∙◌, ap, subst, arith, length-append}
 use Rattle.std.proofs.lemmas.Bool.{cases_eq, false≢true}
 use Rattle.std.proofs.lemmas.Option.{slice_get_within}
 use Rattle.vd_model.specs.declared.base.Mode.{Mode}
@@ -11,7 +11,7 @@ use Rattle.vd_machine.specs.File.{Plan}
 use Rattle.vd_play.specs.declared.floor.ShadowRing.{ShadowRing}
 use Rattle.vd_play.specs.Epochs.{mode_at}
 use Rattle.vd_play.specs.Kits.{IsShadowRing, HasKits}
-use Rattle.vd_play.specs.Rings.{shadows, shadows_before}
+use Rattle.vd_play.specs.Rings.{shadows_before}
 use Rattle.vd_play.proofs.Rings.{shadows_before_shadow, shadows_before_pass, shadows_before_rises, shadows_before_all}
 use Rattle.vd_play.proofs.Untouched.{get_push}
 

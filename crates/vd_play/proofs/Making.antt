@@ -3,7 +3,6 @@ use Rattle.std.proofs.Common.{◌≡◌, ℕ, ◌+◌, ◌*◌, ◌<◌, ◌≤�
 use Rattle.std.specs.List.{All}
 use Rattle.std.proofs.lemmas.List.Elements.{All-nil, All-head, All-tail, All-append, All-replicate}
 use Rattle.vd_model.specs.Chains.{IsChain}
-use Rattle.vd_model.specs.declared.record.Begun.{Begun}
 use Rattle.vd_model.specs.declared.record.Run.{Run}
 use Rattle.vd_model.specs.declared.record.Script.{Script}
 use Rattle.vd_words.specs.Plain.{RingWords}

@@ -1,5 +1,5 @@
 -- One ring of a bus is set, and the others stay.
-use Rattle.std.proofs.Common.{◌≡◌, ℕ, ◌<◌, true, List, length, slice_set, Option, Some, None, inl, inr, refl, sym, ◌∙◌, ap, subst, arith}
+use Rattle.std.proofs.Common.{◌≡◌, ℕ, ◌<◌, Bool, true, IfSome, List, length, slice_set, Option, Some, None, inl, inr, refl, sym, ◌∙◌, ap, subst, arith}
 use Rattle.std.proofs.lemmas.Bool.{cases_eq}
 use Rattle.std.proofs.lemmas.List.{length-set, get_or-set_same, get_or-set_other}
 use Rattle.vd_model.specs.declared.base.Mode.{Mode}
@@ -8,9 +8,10 @@ use Rattle.vd_model.specs.declared.map.Mapping.{Mapping}
 use Rattle.vd_layout.specs.Device.{DeviceModel}
 use Rattle.vd_bus.specs.declared.bus.vring.Vring.{Vring}
 use Rattle.vd_bus.specs.Bus.{BusState, fresh_vring, vring_of, with_vring, is_lawful_base}
-use Rattle.vd_bus.specs.BusRings.{base_fault, after_base}
+use Rattle.vd_bus.specs.BusRings.{base_fault, after_base, after_addr}
+use Rattle.vd_bus.specs.BusStatus.{with_suspended}
 use Rattle.vd_machine.specs.File.{Plan}
-use Rattle.vd_play.specs.Setup.{with_vrings, with_map, vring_at, base_in, Stands, HasSizes, HasRings, KeepsRings}
+use Rattle.vd_play.specs.Setup.{ring_addr, with_vrings, with_map, vring_at, base_in, Stands, HasSizes, IsRing, HasRings, KeepsRings}
 use Rattle.vd_play.proofs.Buses.{ring_put, ring_got, no_base_fault}
 
 -- the rings keep their numbers and addresses
@@ -34,6 +35,14 @@ rings_kept plan m k a b h r = record {
 pub rings_mapped : (plan : Plan) (m : Mode) (k : ℕ) (ms : List Mapping) (a b : BusState) → b ≡ with_map a ms → HasRings plan m k a
     → HasRings plan m k b
 rings_mapped plan m k ms a b is r = subst (HasRings plan m k) (sym is) (record { many = r.many; each = r.each })
+
+-- and so does a suspension
+pub sizes_suspended : (plan : Plan) (on : Bool) (a b : BusState) → b ≡ with_suspended a on → HasSizes plan a → HasSizes plan b
+sizes_suspended plan on a b is s = subst (HasSizes plan) (sym is) (record { many = s.many; each = s.each })
+
+pub if_some : {A : Type 0} (o : Option A) (P : A → Type 0) → ((x : A) → o ≡ Some x → P x) → IfSome o P
+if_some None P h = tt
+if_some (Some x) P h = h x refl
 
 -- a base from which a ring is served is lawful
 pub base_lawful : {E : Type 0} (e : DeviceModel E) (base : ℕ) (m : Mode) (still : Option E) (packed size n : _)
@@ -105,3 +114,29 @@ module _ (plan : Plan) (b : BusState) (s : Stands plan b) (sizes : HasSizes plan
 
     pub based_other : (k : ℕ) → (k ≡ q → ⊥) → (vring_at plan c k).base ≡ (vring_at plan b k).base
     based_other k other = ap (λ (z : Vring). z.base) (put_other v c k is other)
+
+  -- its address is set
+  module _ (ring : ℕ) (c : BusState) (is : c ≡ after_addr b (ring_addr plan.packed plan.size q ring)) where
+    abbrev addressed : Vring
+    addressed = record (vring_of b q) { addr = Some (ring_addr plan.packed plan.size q ring) }
+
+    pub addressed_is : c ≡ with_vrings b (slice_set b.vrings q addressed)
+    addressed_is = put_is addressed c is
+
+    -- the queue has the ring of this number
+    pub addressed_here : IsRing plan ring q (vring_at plan c q)
+    addressed_here = subst (IsRing plan ring q) (sym (put_here addressed c is))
+        (record { num = ap (λ (z : Vring). z.num) got ∙ sizes.each q low; addr = refl })
+
+    -- and the other queues have theirs
+    pub addressed_other : (r k : ℕ) → (k ≡ q → ⊥) → IsRing plan r k (vring_at plan b k) → IsRing plan r k (vring_at plan c k)
+    addressed_other r k other = subst (IsRing plan r k) (sym (put_other addressed c k is other))
+
+    pub addressed_sizes : HasSizes plan c
+    addressed_sizes = record {
+      many = put_many addressed c is ∙ sizes.many;
+      each = λ k below. elim (cases_eq k q) [
+        | inl e ↦ subst (λ (j : ℕ). (vring_at plan c j).num ≡ plan.size) (sym e) addressed_here.num
+        | inr other ↦ ap (λ (z : Vring). z.num) (put_other addressed c k is other) ∙ sizes.each k below
+      ];
+    }

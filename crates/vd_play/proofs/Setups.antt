@@ -64,8 +64,8 @@ pub driver_ok : (plan : Plan) (ms : List Mapping) (b : BusState) → b ≡ set_u
     → list_all is_ready b.vrings ≡ true → status_fault b 15 ≡ None
 driver_ok plan ms b is ready = subst (λ (c : BusState). status_fault c 15 ≡ None) (sym is) (rw ready refl)
 
-pub ready_first : {L D E : Type 0} (e : DeviceModel E) (base : ℕ) (plan : Plan) (m : Mode) (k : ℕ) (lanes : List (Lane L D E)) (b c : BusState)
-    → b ≡ set_up plan 11 false b.vrings (map_in plan m) → HasRings plan m k b → HasBases e base plan m lanes b
+pub ready_first : {L D E : Type 0} (e : DeviceModel E) (base : ℕ) (plan : Plan) (m : Mode) (k : ℕ) (lanes : List (Lane L D E))
+    (b c : BusState) → b ≡ set_up plan 11 false b.vrings (map_in plan m) → HasRings plan m k b → HasBases e base plan m lanes b
     → c ≡ after_status b 15 → IsReady e base plan m k lanes c
 ready_first e base plan m k lanes b c is rings bases set = subst (λ (z : BusState). IsReady e base plan m k lanes z) (sym set) (record {
   up = ap (λ (z : BusState). after_status z 15) is;
@@ -150,8 +150,8 @@ module _ {L D E : Type 0} (e : DeviceModel E) (base : ℕ) (plan : Plan) (m : Mo
   ordered_is is_pass count lane end at is = terms_are count (e.base end) (base_kept is_pass lane at end is)
       ∙ ap (λ (z : Mode). order_of q count (ring_in z k q) (record { 0 = e.base end }) plan.size plan.features (map_in plan z)) is_pass
 
-  pub ordered_shadow : (l : LayoutModel) → base ≡ l.fresh_base → m ≡ Shadow → (count : ℕ) (lane : Lane L D E) → slice_get lanes q ≡ Some lane
-      → terms (serving b q) q count ≡ shadow_order l plan k q count
+  pub ordered_shadow : (l : LayoutModel) → base ≡ l.fresh_base → m ≡ Shadow → (count : ℕ) (lane : Lane L D E)
+      → slice_get lanes q ≡ Some lane → terms (serving b q) q count ≡ shadow_order l plan k q count
   ordered_shadow l fresh is_shadow count lane at = terms_are count l.fresh_base (base_fresh is_shadow lane at ∙ fresh)
       ∙ ap (λ (z : Mode). order_of q count (ring_in z k q) (record { 0 = l.fresh_base }) plan.size plan.features (map_in plan z)) is_shadow
 

@@ -1,8 +1,8 @@
-use Rattle.std.proofs.Common.{◌≡◌, ◌<◌, ℕ, ◌+◌, ◌-◌, length, arith, subst, sym, refl, ap, ◌∙◌}
+use Rattle.std.proofs.Common.{◌≡◌, ◌<◌, ℕ, ◌+◌, ◌-◌, arith, subst, sym, refl, ap, ◌∙◌}
 use denote.Enum.Bare.{sameb}
 use Rattle.vd_model.specs.contracts.base.Mode.{the_type}
 use Rattle.vd_machine.specs.File.{view, Plan}
-use Rattle.vd_play.specs.Kits.{HasKits, IsShadowRing}
+use Rattle.vd_play.specs.Kits.{HasKits}
 use Rattle.vd_play.proofs.KitsMade.{kits_none, kits_more, kits_same, is_shadow, not_shadow}
 use Rattle.vd_play.proofs.preparing.make_kits.Goals as goal
 use Rattle.vd_play.proofs.preparing.make_kits.Goals.{then-eq+in_ok-make_shadow_ring+in_ok-push, else-eq}
@@ -33,12 +33,14 @@ loop-i-preserved g c =
           c.if-eq.kits.items) (sym same) (elim c.if-eq.branch [
         | then-eq+in_ok-make_shadow_ring+in_ok-push w ↦
             kits_more g.L.Driver.DriverEnd.driver g.L.Device.DeviceEnd.device g.L.Layout.layout plan c.args.queue k c.loop-i.kits.items
-            c.if-eq.kits.items _ (sym c.mode_of.ensures ∙ is_shadow (sameb the_type) c.mode_of.result refl (sym c.eq.ensures ∙ w.if-eq.true))
+            c.if-eq.kits.items _
+            (sym c.mode_of.ensures ∙ is_shadow (sameb the_type) c.mode_of.result refl (sym c.eq.ensures ∙ w.if-eq.true))
             (ap (λ (z : _). z.items) w.kits-is ∙ w.in_ok-push.ensures.items) w.in_ok-make_shadow_ring.ensures before
         | else-eq w ↦
             subst (λ (z : _). HasKits g.L.Driver.DriverEnd.driver g.L.Device.DeviceEnd.device g.L.Layout.layout plan c.args.queue k z.items)
             (sym w.kits-is) (kits_same g.L.Driver.DriverEnd.driver g.L.Device.DeviceEnd.device g.L.Layout.layout plan c.args.queue k
-            c.loop-i.kits.items (λ is. not_shadow (sameb the_type) c.mode_of.result refl (sym c.eq.ensures ∙ w.if-eq.false) (c.mode_of.ensures ∙ is)) before)
+            c.loop-i.kits.items (λ is. not_shadow (sameb the_type) c.mode_of.result refl (sym c.eq.ensures ∙ w.if-eq.false)
+            (c.mode_of.ensures ∙ is)) before)
       ]);
     }
 

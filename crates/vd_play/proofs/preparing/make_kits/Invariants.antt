@@ -1,4 +1,4 @@
-use Rattle.std.proofs.Common.{◌≡◌, ℕ, ◌+◌, ◌-◌, length}
+use Rattle.std.proofs.Common.{◌≡◌, ◌+◌, ◌-◌, length}
 use Rattle.vd_machine.specs.File.{view}
 use Rattle.vd_play.specs.Kits.{HasKits}
 use Rattle.vd_play.proofs.preparing.make_kits.Given as goal

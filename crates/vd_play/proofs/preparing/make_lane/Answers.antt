@@ -1,4 +1,4 @@
-use Rattle.std.proofs.Common.{◌≡◌, ◌≤◌, ℕ, length, arith, sym, refl, ap, subst, ◌∙◌, List, [], replicate, false, Some}
+use Rattle.std.proofs.Common.{◌≡◌, ℕ, length, arith, sym, refl, ap, subst, ◌∙◌, List, [], replicate, false, Some}
 use Rattle.std.specs.List.{All}
 use Rattle.std.proofs.lemmas.Option.{slice_get_read, get_or_from_slice_get}
 use Rattle.vd_model.specs.Chains.{IsChain}

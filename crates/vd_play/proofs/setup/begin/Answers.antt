@@ -5,8 +5,15 @@ use Rattle.vd_machine.proofs.Facts.{size_bounds}
 use Rattle.vd_machine.specs.File.{view, Plan}
 use Rattle.vd_play.specs.Journal.{map_in}
 use Rattle.vd_play.proofs.RingsSet.{rings_kept, rings_mapped}
-use Rattle.vd_play.proofs.Setups.{rings_ready, begun_is, driver_ok, ready_first}
+use Rattle.vd_play.proofs.Setups.{rings_ready, rings_sized, begun_is, driver_ok, ready_first}
 use Rattle.vd_play.proofs.setup.begin.Goals as goal
+
+pub set_bases-requires-clause-sizes : goal.set_bases-requires-clause-sizes
+set_bases-requires-clause-sizes g c =
+    let plan : Plan = view c.args.m.now in
+    let m : Mode = c.args.m.now.start in
+    rings_sized plan m 0 c.map_regions.new.bus (rings_mapped plan m 0 (map_in plan m) c.args.bus.now c.map_regions.new.bus
+    c.map_regions.ensures c.requires.rings)
 
 pub set_status-requires : goal.set_status-requires
 set_status-requires g c =

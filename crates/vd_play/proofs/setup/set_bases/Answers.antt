@@ -5,14 +5,32 @@ use Rattle.std.proofs.lemmas.Option.{slice_get_read, slice_get_within}
 use Rattle.vd_model.specs.declared.base.Base.{Base}
 use Rattle.vd_bus.specs.Bus.{BusState}
 use Rattle.vd_bus.specs.BusRings.{after_base}
+use Rattle.vd_layout.specs.Device.{IsStill}
+use Rattle.vd_machine.proofs.Facts.{few_queues}
 use Rattle.vd_machine.specs.File.{view, Plan}
 use Rattle.vd_play.specs.declared.floor.Lane.{Lane}
 use Rattle.vd_play.specs.Setup.{Stands, HasSizes, KeepsRings, with_vrings, vring_at, base_in}
 use Rattle.vd_play.proofs.Buses.{stands_vrings, same_put}
 use Rattle.vd_play.proofs.Lists.{some_same, found_by}
-use Rattle.vd_play.proofs.RingsSet.{keeps_through, sizes_kept, base_lawful, no_fault_of_base, based_is, based_keeps, based_here, based_other}
+use Rattle.vd_play.proofs.RingsSet.{if_some, keeps_through, sizes_kept, base_lawful, no_fault_of_base, based_is, based_keeps, based_here, based_other}
 use Rattle.vd_play.proofs.setup.set_bases.Goals as goal
 use Rattle.vd_play.proofs.setup.set_bases.Goals.{in-Some, in_default}
+
+pub base_in-requires : goal.base_in-requires
+base_in-requires g c =
+    let q : ℕ = c.loop-q.q in
+    let low : q < length c.args.m.now.queues = omega (arith, c.loop-q-test.true, c.len-q-end.ensures) in
+    let at = slice_get_read c.args.lanes.now _ q c.index-lanes-q.result refl (omega (arith, low, c.requires.many)) c.index-lanes-q.is in
+    record {
+      end = if_some c.index-lanes-q.result.still (IsStill g.L.Device.DeviceEnd.device)
+          (λ end is. (c.requires.ends q c.index-lanes-q.result end at is).still);
+    }
+
+pub overflow_cast-v : goal.overflow_cast-v
+overflow_cast-v g c =
+    let q : ℕ = c.loop-q.q in
+    let low : q < length c.args.m.now.queues = omega (arith, c.loop-q-test.true, c.len-q-end.ensures) in
+    omega (arith, low, few_queues c.args.m.now.queues c.args.m.now.counted)
 
 pub set_base-requires : goal.set_base-requires
 set_base-requires g c =
