@@ -32,3 +32,4 @@ pub mod ShadowKeep
 pub mod ShadowPace
 pub mod ShadowQuiet
 pub mod ShadowRounds
+pub mod ShadowChains
