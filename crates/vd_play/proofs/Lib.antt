@@ -33,3 +33,4 @@ pub mod ShadowPace
 pub mod ShadowQuiet
 pub mod ShadowRounds
 pub mod ShadowChains
+pub mod ShadowStops
