@@ -34,3 +34,4 @@ pub mod ShadowQuiet
 pub mod ShadowRounds
 pub mod ShadowChains
 pub mod ShadowStops
+pub mod ShadowLanes
