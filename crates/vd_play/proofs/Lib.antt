@@ -40,3 +40,6 @@ pub mod ShadowKeep
 pub mod ShadowPace
 pub mod ShadowQuiet
 pub mod ShadowRounds
+pub mod ShadowChains
+pub mod ShadowStops
+pub mod ShadowLanes

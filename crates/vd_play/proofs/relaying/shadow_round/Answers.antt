@@ -11,6 +11,8 @@ use Rattle.vd_play.specs.Rounds.{LaneGoes}
 use Rattle.vd_play.specs.Setting.{setting_of}
 use Rattle.vd_play.proofs.relaying.shadow_round.Goals as goal
 use Rattle.vd_play.proofs.ShadowRounds.{turned, winds_on, all_turned, shadows_on}
+use Rattle.vd_play.proofs.ShadowChains.{begun_chains, lane_lens, given_lawful}
+use Rattle.vd_play.proofs.ShadowStops.{winds_from, stops}
 
 -- src/relaying.rt:53:9
 pub guest_turn-by_guest-requires : goal.guest_turn-by_guest-requires
