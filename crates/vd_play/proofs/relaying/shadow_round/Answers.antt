@@ -1,5 +1,6 @@
 use Rattle.std.proofs.lemmas.Bool.{false≢true}
 use Rattle.std.proofs.Common.{rules, ◌≡◌, ℕ, ◌+◌, ◌≤◌, Bool, true, false, Some, None, refl, sym, ◌∙◌, ap, subst, arith}
+use Rattle.std.specs.Option.{option_copied_mut}
 use Rattle.vd_machine.specs.File.{Plan}
 use Rattle.vd_play.specs.Journal.{tree_map}
 use Rattle.vd_play.specs.Progress.{InEpoch, IsRelaying, IsShadowing, RelayingBy}
@@ -30,9 +31,9 @@ relay_turn-by_relay-requires-clause-on g c =
     let s = setting_of g.L.Driver.DriverEnd.driver g.L.Device.DeviceEnd.device g.L.Layout.layout g.G.Guest.party g.V.Device.party in
     let law : IsLawful s = record { layout = g.met.L.Layout.lawful; guest = g.met.G.Guest.lawful; party = g.met.V.Device.lawful } in
     let q = c.requires.lane in
-    let x = c.in-Some.relaying in
+    let x = c.in-Some.relaying.now in
     let h = relaying_of s q.0 q.1 q.3 q.4 c.args.lane.now.words x c.args.lane.now.relayed c.args.guest.now c.args.device.now q.2
-    c.args.lane.now.still c.args.lane.now.relaying c.in-Some.is q.6.held in
+    c.args.lane.now.still c.args.lane.now.relaying (sym c.as_mut.ensures.value ∙ ap option_copied_mut c.in-Some.is) q.6.held in
     let p = works_by s q.0 q.1 q.3 q.4 _ _ _ _ _ _ _ _ h.2 in
     let y = can_relay s law q.0 q.1 q.3 q.4 c.guest_turn-by_guest.result c.args.tree.now.mappings q.5 c.args.lane.now.words
     c.guest_turn-by_guest.new.words x.words.words x.lane.relay.state x.lane.relay.counts c.args.lane.now.relayed c.args.guest.now
@@ -48,9 +49,9 @@ overflow_add-lane g c =
     let s = setting_of g.L.Driver.DriverEnd.driver g.L.Device.DeviceEnd.device g.L.Layout.layout g.G.Guest.party g.V.Device.party in
     let law : IsLawful s = record { layout = g.met.L.Layout.lawful; guest = g.met.G.Guest.lawful; party = g.met.V.Device.lawful } in
     let q = c.requires.lane in
-    let x = c.in-Some.relaying in
+    let x = c.in-Some.relaying.now in
     let h = relaying_of s q.0 q.1 q.3 q.4 c.args.lane.now.words x c.args.lane.now.relayed c.args.guest.now c.args.device.now q.2
-    c.args.lane.now.still c.args.lane.now.relaying c.in-Some.is q.6.held in
+    c.args.lane.now.still c.args.lane.now.relaying (sym c.as_mut.ensures.value ∙ ap option_copied_mut c.in-Some.is) q.6.held in
     let p = works_by s q.0 q.1 q.3 q.4 _ _ _ _ _ _ _ _ h.2 in
     let low = few_relayed s law q.0 q.1 q.3 q.4 _ _ _ _ _ _ _ p in
     omega (arith, low, c.relay_turn-by_relay.ensures.few)
@@ -61,9 +62,9 @@ stop-requires g c =
     let s = setting_of g.L.Driver.DriverEnd.driver g.L.Device.DeviceEnd.device g.L.Layout.layout g.G.Guest.party g.V.Device.party in
     let law : IsLawful s = record { layout = g.met.L.Layout.lawful; guest = g.met.G.Guest.lawful; party = g.met.V.Device.lawful } in
     let q = c.requires.lane in
-    let x = c.in-Some.relaying in
+    let x = c.in-Some.relaying.now in
     let h = relaying_of s q.0 q.1 q.3 q.4 c.args.lane.now.words x c.args.lane.now.relayed c.args.guest.now c.args.device.now q.2
-    c.args.lane.now.still c.args.lane.now.relaying c.in-Some.is q.6.held in
+    c.args.lane.now.still c.args.lane.now.relaying (sym c.as_mut.ensures.value ∙ ap option_copied_mut c.in-Some.is) q.6.held in
     let p = works_by s q.0 q.1 q.3 q.4 _ _ _ _ _ _ _ _ h.2 in
     let rests : Rattle.vd_relay.specs.Stages.is_rested c.relay_turn-by_relay.new.lane.relay.state.stage ≡ true =
     sym c.rested.ensures ∙ c.if-rested.true in
@@ -84,9 +85,9 @@ pub returns-then-rested-clause-goes : goal.returns-then-rested-clause-goes
 returns-then-rested-clause-goes g c = λ plan is q on k n h0.
     let s = setting_of g.L.Driver.DriverEnd.driver g.L.Device.DeviceEnd.device g.L.Layout.layout g.G.Guest.party g.V.Device.party in
     let law : IsLawful s = record { layout = g.met.L.Layout.lawful; guest = g.met.G.Guest.lawful; party = g.met.V.Device.lawful } in
-    let x = c.in-Some.relaying in
+    let x = c.in-Some.relaying.now in
     let h = relaying_of s plan q k n c.args.lane.now.words x c.args.lane.now.relayed c.args.guest.now c.args.device.now on
-    c.args.lane.now.still c.args.lane.now.relaying c.in-Some.is h0.held in
+    c.args.lane.now.still c.args.lane.now.relaying (sym c.as_mut.ensures.value ∙ ap option_copied_mut c.in-Some.is) h0.held in
     let rests : Rattle.vd_relay.specs.Stages.is_rested c.relay_turn-by_relay.new.lane.relay.state.stage ≡ true =
     sym c.rested.ensures ∙ c.if-rested.true in
     let y = rests_by s law plan q k n c.guest_turn-by_guest.result c.args.tree.now.mappings is c.args.lane.now.words
@@ -110,9 +111,9 @@ pub returns-then-winds-clause-goes : goal.returns-then-winds-clause-goes
 returns-then-winds-clause-goes g c = λ plan is q on k n h0.
     let s = setting_of g.L.Driver.DriverEnd.driver g.L.Device.DeviceEnd.device g.L.Layout.layout g.G.Guest.party g.V.Device.party in
     let law : IsLawful s = record { layout = g.met.L.Layout.lawful; guest = g.met.G.Guest.lawful; party = g.met.V.Device.lawful } in
-    let x = c.in-Some.relaying in
+    let x = c.in-Some.relaying.now in
     let h = relaying_of s plan q k n c.args.lane.now.words x c.args.lane.now.relayed c.args.guest.now c.args.device.now on
-    c.args.lane.now.still c.args.lane.now.relaying c.in-Some.is h0.held in
+    c.args.lane.now.still c.args.lane.now.relaying (sym c.as_mut.ensures.value ∙ ap option_copied_mut c.in-Some.is) h0.held in
     let y = winds_by s law plan q k n c.guest_turn-by_guest.result c.args.tree.now.mappings is c.args.lane.now.words
     c.guest_turn-by_guest.new.words x.words.words x.lane.relay.state x.lane.relay.counts c.args.lane.now.relayed c.args.guest.now
     c.guest_turn-by_guest.new.guest c.args.device.now c.guest_turn-by_guest.ensures.ring c.guest_turn-by_guest.ensures.turn
@@ -135,9 +136,9 @@ device_turn-by_device-requires-clause-live g c =
     let s = setting_of g.L.Driver.DriverEnd.driver g.L.Device.DeviceEnd.device g.L.Layout.layout g.G.Guest.party g.V.Device.party in
     let law : IsLawful s = record { layout = g.met.L.Layout.lawful; guest = g.met.G.Guest.lawful; party = g.met.V.Device.lawful } in
     let q = c.requires.lane in
-    let x = c.in-Some.relaying in
+    let x = c.in-Some.relaying.now in
     let h = relaying_of s q.0 q.1 q.3 q.4 c.args.lane.now.words x c.args.lane.now.relayed c.args.guest.now c.args.device.now q.2
-    c.args.lane.now.still c.args.lane.now.relaying c.in-Some.is q.6.held in
+    c.args.lane.now.still c.args.lane.now.relaying (sym c.as_mut.ensures.value ∙ ap option_copied_mut c.in-Some.is) q.6.held in
     let off = sym c.winds.ensures ∙ c.if-winds.false in
     let p = shadows_by s law q.0 q.1 q.3 q.4 c.guest_turn-by_guest.result c.args.tree.now.mappings q.5 c.args.lane.now.words
     c.guest_turn-by_guest.new.words x.words.words x.lane.relay.state x.lane.relay.counts c.args.lane.now.relayed c.args.guest.now
@@ -154,9 +155,9 @@ device_turn-by_device-requires-clause-on g c =
     let s = setting_of g.L.Driver.DriverEnd.driver g.L.Device.DeviceEnd.device g.L.Layout.layout g.G.Guest.party g.V.Device.party in
     let law : IsLawful s = record { layout = g.met.L.Layout.lawful; guest = g.met.G.Guest.lawful; party = g.met.V.Device.lawful } in
     let q = c.requires.lane in
-    let x = c.in-Some.relaying in
+    let x = c.in-Some.relaying.now in
     let h = relaying_of s q.0 q.1 q.3 q.4 c.args.lane.now.words x c.args.lane.now.relayed c.args.guest.now c.args.device.now q.2
-    c.args.lane.now.still c.args.lane.now.relaying c.in-Some.is q.6.held in
+    c.args.lane.now.still c.args.lane.now.relaying (sym c.as_mut.ensures.value ∙ ap option_copied_mut c.in-Some.is) q.6.held in
     let off = sym c.winds.ensures ∙ c.if-winds.false in
     let p = shadows_by s law q.0 q.1 q.3 q.4 c.guest_turn-by_guest.result c.args.tree.now.mappings q.5 c.args.lane.now.words
     c.guest_turn-by_guest.new.words x.words.words x.lane.relay.state x.lane.relay.counts c.args.lane.now.relayed c.args.guest.now
@@ -178,9 +179,9 @@ begin_wind_up-requires-clause-held g c =
     let s = setting_of g.L.Driver.DriverEnd.driver g.L.Device.DeviceEnd.device g.L.Layout.layout g.G.Guest.party g.V.Device.party in
     let law : IsLawful s = record { layout = g.met.L.Layout.lawful; guest = g.met.G.Guest.lawful; party = g.met.V.Device.lawful } in
     let l = c.requires.lane in
-    let x = c.in-Some.relaying in
+    let x = c.in-Some.relaying.now in
     let h = relaying_of s l.0 l.1 l.3 l.4 c.args.lane.now.words x c.args.lane.now.relayed c.args.guest.now c.args.device.now l.2
-    c.args.lane.now.still c.args.lane.now.relaying c.in-Some.is l.6.held in
+    c.args.lane.now.still c.args.lane.now.relaying (sym c.as_mut.ensures.value ∙ ap option_copied_mut c.in-Some.is) l.6.held in
     let off = sym c.winds.ensures ∙ c.if-winds.false in
     let p = shadows_by s law l.0 l.1 l.3 l.4 c.guest_turn-by_guest.result c.args.tree.now.mappings l.5 c.args.lane.now.words
     c.guest_turn-by_guest.new.words x.words.words x.lane.relay.state x.lane.relay.counts c.args.lane.now.relayed c.args.guest.now
@@ -203,9 +204,9 @@ pub returns-clause-goes : goal.returns-clause-goes
 returns-clause-goes g c = λ plan is q on k n h0.
     let s = setting_of g.L.Driver.DriverEnd.driver g.L.Device.DeviceEnd.device g.L.Layout.layout g.G.Guest.party g.V.Device.party in
     let law : IsLawful s = record { layout = g.met.L.Layout.lawful; guest = g.met.G.Guest.lawful; party = g.met.V.Device.lawful } in
-    let x = c.in-Some.relaying in
+    let x = c.in-Some.relaying.now in
     let h = relaying_of s plan q k n c.args.lane.now.words x c.args.lane.now.relayed c.args.guest.now c.args.device.now on
-    c.args.lane.now.still c.args.lane.now.relaying c.in-Some.is h0.held in
+    c.args.lane.now.still c.args.lane.now.relaying (sym c.as_mut.ensures.value ∙ ap option_copied_mut c.in-Some.is) h0.held in
     let off = sym c.winds.ensures ∙ c.if-winds.false in
     let p = shadows_by s law plan q k n c.guest_turn-by_guest.result c.args.tree.now.mappings is c.args.lane.now.words
     c.guest_turn-by_guest.new.words x.words.words x.lane.relay.state x.lane.relay.counts c.args.lane.now.relayed c.args.guest.now
@@ -265,9 +266,9 @@ returns-clause-carried g c =
     let s = setting_of g.L.Driver.DriverEnd.driver g.L.Device.DeviceEnd.device g.L.Layout.layout g.G.Guest.party g.V.Device.party in
     let law : IsLawful s = record { layout = g.met.L.Layout.lawful; guest = g.met.G.Guest.lawful; party = g.met.V.Device.lawful } in
     let l = c.requires.lane in
-    let x = c.in-Some.relaying in
+    let x = c.in-Some.relaying.now in
     let h = relaying_of s l.0 l.1 l.3 l.4 c.args.lane.now.words x c.args.lane.now.relayed c.args.guest.now c.args.device.now l.2
-    c.args.lane.now.still c.args.lane.now.relaying c.in-Some.is l.6.held in
+    c.args.lane.now.still c.args.lane.now.relaying (sym c.as_mut.ensures.value ∙ ap option_copied_mut c.in-Some.is) l.6.held in
     let off = sym c.winds.ensures ∙ c.if-winds.false in
     let p = shadows_by s law l.0 l.1 l.3 l.4 c.guest_turn-by_guest.result c.args.tree.now.mappings l.5 c.args.lane.now.words
     c.guest_turn-by_guest.new.words x.words.words x.lane.relay.state x.lane.relay.counts c.args.lane.now.relayed c.args.guest.now
@@ -295,9 +296,9 @@ returns-clause-faults g c =
     let s = setting_of g.L.Driver.DriverEnd.driver g.L.Device.DeviceEnd.device g.L.Layout.layout g.G.Guest.party g.V.Device.party in
     let law : IsLawful s = record { layout = g.met.L.Layout.lawful; guest = g.met.G.Guest.lawful; party = g.met.V.Device.lawful } in
     let l = c.requires.lane in
-    let x = c.in-Some.relaying in
+    let x = c.in-Some.relaying.now in
     let h = relaying_of s l.0 l.1 l.3 l.4 c.args.lane.now.words x c.args.lane.now.relayed c.args.guest.now c.args.device.now l.2
-    c.args.lane.now.still c.args.lane.now.relaying c.in-Some.is l.6.held in
+    c.args.lane.now.still c.args.lane.now.relaying (sym c.as_mut.ensures.value ∙ ap option_copied_mut c.in-Some.is) l.6.held in
     let off = sym c.winds.ensures ∙ c.if-winds.false in
     let p = shadows_by s law l.0 l.1 l.3 l.4 c.guest_turn-by_guest.result c.args.tree.now.mappings l.5 c.args.lane.now.words
     c.guest_turn-by_guest.new.words x.words.words x.lane.relay.state x.lane.relay.counts c.args.lane.now.relayed c.args.guest.now
