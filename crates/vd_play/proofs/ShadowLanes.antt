@@ -1,5 +1,5 @@
 -- A round of a lane in a shadow epoch, by whether its relay winds up, and by what the lane holds.
-use Rattle.std.proofs.Common.{◌≡◌, ℕ, ◌+◌, ◌≤◌, Bool, true, false, Option, Some, None, List, refl, sym, ◌∙◌, ap, subst, arith}
+use Rattle.std.proofs.Common.{◌≡◌, ℕ, ◌+◌, ◌≤◌, Bool, true, false, Option, Some, None, is_some, List, refl, sym, ◌∙◌, ap, subst, arith}
 use Rattle.std.proofs.lemmas.Bool.{false≢true}
 use Rattle.vd_model.specs.declared.map.Mapping.{Mapping}
 use Rattle.vd_words.specs.Plain.{RingWords}
@@ -25,6 +25,10 @@ use Rattle.vd_play.proofs.ShadowRounds.{Works, works_by, shadowing_works, windin
 use Rattle.vd_play.proofs.ShadowStops.{winds_from, stops}
 
 -- ---- a lane by what it holds
+
+pub some_in : {A : Type 0} (o : Option A) → is_some o ≡ true → (x : A) × (o ≡ Some x)
+some_in None h = absurd (false≢true h)
+some_in (Some x) h = (x, refl)
 
 module _ {L D E G X C : Type 0} (s : Setting D E G X C) (plan : Plan) (q k n : ℕ) (words : RingWords) (x : Relaying L D E) (relayed : ℕ)
     (guest : G) (device : X) where

@@ -51,7 +51,7 @@ pub(crate) fn shadow_round<L: Layout, G: Guest<L>, V: Device<L>>(
     ensures faults { V.party.faults device.new ≡ V.party.faults device.old }
 {
     let by_guest = guest_turn::<L, G>(&mut lane.words, guest, draws);
-    let Some(relaying) = &mut lane.relaying else {
+    let Some(relaying) = lane.relaying.as_mut() else {
         unreachable!()
     };
     let by_relay = relay_turn::<L>(
