@@ -10,7 +10,6 @@ use Rattle.vd_play.proofs.ShadowLanes.{some_in, relaying_of, epoch_of, stopped_o
 use Rattle.vd_play.proofs.relaying.shadow_round.Goals as goal
 use Rattle.vd_play.proofs.relaying.shadow_round.Goals.{then-done, else-done}
 
--- src/relaying.rt:53:9
 pub guest_turn-by_guest-requires : goal.guest_turn-by_guest-requires
 guest_turn-by_guest-requires g c =
     let s = setting_of g.L.Driver.DriverEnd.driver g.L.Device.DeviceEnd.device g.L.Layout.layout g.G.Guest.party g.V.Device.party in
@@ -21,11 +20,6 @@ guest_turn-by_guest-requires g c =
     let p = works_by s q.0 q.1 q.3 q.4 _ _ _ _ _ _ _ _ h.2 in
     record { on = (p.view, p.device_view, p.kept.driven.ring, p.kept.driven.part.holds) }
 
--- src/relaying.rt:57:9
-pub relay_turn-by_relay-requires-clause-stub : goal.relay_turn-by_relay-requires-clause-stub
-relay_turn-by_relay-requires-clause-stub g c = ?
-
--- src/relaying.rt:57:9
 pub relay_turn-by_relay-requires-clause-on : goal.relay_turn-by_relay-requires-clause-on
 relay_turn-by_relay-requires-clause-on g c =
     let s = setting_of g.L.Driver.DriverEnd.driver g.L.Device.DeviceEnd.device g.L.Layout.layout g.G.Guest.party g.V.Device.party in
@@ -41,9 +35,8 @@ relay_turn-by_relay-requires-clause-on g c =
     let t = guest_at s law q.0 q.1 q.3 q.4 c.guest_turn-by_guest.result c.args.tree.now.mappings q.5 c.args.lane.now.words
     c.guest_turn-by_guest.new.words x.words.words x.lane.relay.state x.lane.relay.counts c.args.lane.now.relayed c.args.guest.now
     c.guest_turn-by_guest.new.guest c.args.device.now c.guest_turn-by_guest.ensures.ring c.guest_turn-by_guest.ensures.turn p in
-    (p.kept.start, p.kept.old, _, p.by, t.run.view, p.device_view, p.shadow_view, p.shadow_device_view, y.0, y.1, y.2)
+    (p.kept.start, p.kept.old, _, p.by, t.run.view, p.device_view, p.shadow_view, p.shadow_device_view, y.1, y.2, y.0)
 
--- src/relaying.rt:64:5
 pub overflow_add-lane : goal.overflow_add-lane
 overflow_add-lane g c =
     let s = setting_of g.L.Driver.DriverEnd.driver g.L.Device.DeviceEnd.device g.L.Layout.layout g.G.Guest.party g.V.Device.party in
@@ -56,7 +49,6 @@ overflow_add-lane g c =
     let low = few_relayed s law q.0 q.1 q.3 q.4 _ _ _ _ _ _ _ p in
     omega (arith, low, c.relay_turn-by_relay.ensures.few)
 
--- src/relaying.rt:66:9
 pub stop-requires : goal.stop-requires
 stop-requires g c =
     let s = setting_of g.L.Driver.DriverEnd.driver g.L.Device.DeviceEnd.device g.L.Layout.layout g.G.Guest.party g.V.Device.party in
@@ -76,11 +68,10 @@ stop-requires g c =
             c.guest_turn-by_guest.new.guest c.args.device.now c.guest_turn-by_guest.ensures.ring c.guest_turn-by_guest.ensures.turn
             c.relay_turn-by_relay.result c.guest_turn-by_guest.ensures.few c.relay_turn-by_relay.ensures.few
             c.relay_turn-by_relay.new.words c.relay_turn-by_relay.new.shadow.words c.relay_turn-by_relay.new.lane.relay.state
-            c.relay_turn-by_relay.new.lane.relay.counts c.relay_turn-by_relay.ensures.ring.0 c.relay_turn-by_relay.ensures.turn p,
+            c.relay_turn-by_relay.new.lane.relay.counts c.relay_turn-by_relay.ensures.ring c.relay_turn-by_relay.ensures.turn p,
       );
     }
 
--- src/relaying.rt:67:9
 pub returns-then-rested-clause-goes : goal.returns-then-rested-clause-goes
 returns-then-rested-clause-goes g c = λ plan is q on k n h0.
     let s = setting_of g.L.Driver.DriverEnd.driver g.L.Device.DeviceEnd.device g.L.Layout.layout g.G.Guest.party g.V.Device.party in
@@ -95,7 +86,7 @@ returns-then-rested-clause-goes g c = λ plan is q on k n h0.
     c.guest_turn-by_guest.new.guest c.args.device.now c.guest_turn-by_guest.ensures.ring c.guest_turn-by_guest.ensures.turn
     c.relay_turn-by_relay.result c.guest_turn-by_guest.ensures.few c.relay_turn-by_relay.ensures.few
     c.relay_turn-by_relay.new.words c.relay_turn-by_relay.new.shadow.words c.relay_turn-by_relay.new.lane.relay.state
-    c.relay_turn-by_relay.new.lane.relay.counts c.relay_turn-by_relay.ensures.ring.0 c.relay_turn-by_relay.ensures.turn
+    c.relay_turn-by_relay.new.lane.relay.counts c.relay_turn-by_relay.ensures.ring c.relay_turn-by_relay.ensures.turn
     x.lane.relay.state.winding refl h.2 rests in (
       record {
         held = stopped_of s plan q k (n + 1) c.relay_turn-by_relay.new.words _ c.guest_turn-by_guest.new.guest c.args.device.now
@@ -106,7 +97,6 @@ returns-then-rested-clause-goes g c = λ plan is q on k n h0.
       y.1,
     )
 
--- src/relaying.rt:70:9
 pub returns-then-winds-clause-goes : goal.returns-then-winds-clause-goes
 returns-then-winds-clause-goes g c = λ plan is q on k n h0.
     let s = setting_of g.L.Driver.DriverEnd.driver g.L.Device.DeviceEnd.device g.L.Layout.layout g.G.Guest.party g.V.Device.party in
@@ -119,7 +109,7 @@ returns-then-winds-clause-goes g c = λ plan is q on k n h0.
     c.guest_turn-by_guest.new.guest c.args.device.now c.guest_turn-by_guest.ensures.ring c.guest_turn-by_guest.ensures.turn
     c.relay_turn-by_relay.result c.guest_turn-by_guest.ensures.few c.relay_turn-by_relay.ensures.few
     c.relay_turn-by_relay.new.words c.relay_turn-by_relay.new.shadow.words c.relay_turn-by_relay.new.lane.relay.state
-    c.relay_turn-by_relay.new.lane.relay.counts c.relay_turn-by_relay.ensures.ring.0 c.relay_turn-by_relay.ensures.turn
+    c.relay_turn-by_relay.new.lane.relay.counts c.relay_turn-by_relay.ensures.ring c.relay_turn-by_relay.ensures.turn
     x.lane.relay.state.winding refl h.2 (sym c.rested.ensures ∙ c.if-rested.false) (sym c.winds.ensures ∙ c.if-winds.true) in (
       record {
         held = epoch_of s plan q k (n + 1) c.relay_turn-by_relay.new.words
@@ -130,7 +120,6 @@ returns-then-winds-clause-goes g c = λ plan is q on k n h0.
       y.1,
     )
 
--- src/relaying.rt:72:9
 pub device_turn-by_device-requires-clause-live : goal.device_turn-by_device-requires-clause-live
 device_turn-by_device-requires-clause-live g c =
     let s = setting_of g.L.Driver.DriverEnd.driver g.L.Device.DeviceEnd.device g.L.Layout.layout g.G.Guest.party g.V.Device.party in
@@ -145,11 +134,10 @@ device_turn-by_device-requires-clause-live g c =
     c.guest_turn-by_guest.new.guest c.args.device.now c.guest_turn-by_guest.ensures.ring c.guest_turn-by_guest.ensures.turn
     c.relay_turn-by_relay.result c.guest_turn-by_guest.ensures.few c.relay_turn-by_relay.ensures.few
     c.relay_turn-by_relay.new.words c.relay_turn-by_relay.new.shadow.words c.relay_turn-by_relay.new.lane.relay.state
-    c.relay_turn-by_relay.new.lane.relay.counts c.relay_turn-by_relay.ensures.ring.0 c.relay_turn-by_relay.ensures.turn
+    c.relay_turn-by_relay.new.lane.relay.counts c.relay_turn-by_relay.ensures.ring c.relay_turn-by_relay.ensures.turn
     x.lane.relay.state.winding refl h.2 off in
     p.serves.live
 
--- src/relaying.rt:72:9
 pub device_turn-by_device-requires-clause-on : goal.device_turn-by_device-requires-clause-on
 device_turn-by_device-requires-clause-on g c =
     let s = setting_of g.L.Driver.DriverEnd.driver g.L.Device.DeviceEnd.device g.L.Layout.layout g.G.Guest.party g.V.Device.party in
@@ -164,16 +152,15 @@ device_turn-by_device-requires-clause-on g c =
     c.guest_turn-by_guest.new.guest c.args.device.now c.guest_turn-by_guest.ensures.ring c.guest_turn-by_guest.ensures.turn
     c.relay_turn-by_relay.result c.guest_turn-by_guest.ensures.few c.relay_turn-by_relay.ensures.few
     c.relay_turn-by_relay.new.words c.relay_turn-by_relay.new.shadow.words c.relay_turn-by_relay.new.lane.relay.state
-    c.relay_turn-by_relay.new.lane.relay.counts c.relay_turn-by_relay.ensures.ring.0 c.relay_turn-by_relay.ensures.turn
+    c.relay_turn-by_relay.new.lane.relay.counts c.relay_turn-by_relay.ensures.ring c.relay_turn-by_relay.ensures.turn
     x.lane.relay.state.winding refl h.2 off in
     can_serve s law q.0 q.1 q.3 q.4 c.guest_turn-by_guest.result c.args.tree.now.mappings q.5 c.args.lane.now.words
     c.guest_turn-by_guest.new.words x.words.words x.lane.relay.state x.lane.relay.counts c.args.lane.now.relayed c.args.guest.now
     c.guest_turn-by_guest.new.guest c.args.device.now c.guest_turn-by_guest.ensures.ring c.guest_turn-by_guest.ensures.turn
     c.relay_turn-by_relay.result c.guest_turn-by_guest.ensures.few c.relay_turn-by_relay.ensures.few
     c.relay_turn-by_relay.new.words c.relay_turn-by_relay.new.shadow.words c.relay_turn-by_relay.new.lane.relay.state
-    c.relay_turn-by_relay.new.lane.relay.counts c.relay_turn-by_relay.ensures.ring.0 c.relay_turn-by_relay.ensures.turn p
+    c.relay_turn-by_relay.new.lane.relay.counts c.relay_turn-by_relay.ensures.ring c.relay_turn-by_relay.ensures.turn p
 
--- src/relaying.rt:74:9
 pub begin_wind_up-requires-clause-held : goal.begin_wind_up-requires-clause-held
 begin_wind_up-requires-clause-held g c =
     let s = setting_of g.L.Driver.DriverEnd.driver g.L.Device.DeviceEnd.device g.L.Layout.layout g.G.Guest.party g.V.Device.party in
@@ -188,18 +175,17 @@ begin_wind_up-requires-clause-held g c =
     c.guest_turn-by_guest.new.guest c.args.device.now c.guest_turn-by_guest.ensures.ring c.guest_turn-by_guest.ensures.turn
     c.relay_turn-by_relay.result c.guest_turn-by_guest.ensures.few c.relay_turn-by_relay.ensures.few
     c.relay_turn-by_relay.new.words c.relay_turn-by_relay.new.shadow.words c.relay_turn-by_relay.new.lane.relay.state
-    c.relay_turn-by_relay.new.lane.relay.counts c.relay_turn-by_relay.ensures.ring.0 c.relay_turn-by_relay.ensures.turn
+    c.relay_turn-by_relay.new.lane.relay.counts c.relay_turn-by_relay.ensures.ring c.relay_turn-by_relay.ensures.turn
     x.lane.relay.state.winding refl h.2 off in
     device_holds s law l.0 l.1 l.3 l.4 c.guest_turn-by_guest.result c.args.tree.now.mappings l.5 c.args.lane.now.words
     c.guest_turn-by_guest.new.words x.words.words x.lane.relay.state x.lane.relay.counts c.args.lane.now.relayed c.args.guest.now
     c.guest_turn-by_guest.new.guest c.args.device.now c.guest_turn-by_guest.ensures.ring c.guest_turn-by_guest.ensures.turn
     c.relay_turn-by_relay.result c.guest_turn-by_guest.ensures.few c.relay_turn-by_relay.ensures.few
     c.relay_turn-by_relay.new.words c.relay_turn-by_relay.new.shadow.words c.relay_turn-by_relay.new.lane.relay.state
-    c.relay_turn-by_relay.new.lane.relay.counts c.relay_turn-by_relay.ensures.ring.0 c.relay_turn-by_relay.ensures.turn
+    c.relay_turn-by_relay.new.lane.relay.counts c.relay_turn-by_relay.ensures.ring c.relay_turn-by_relay.ensures.turn
     c.device_turn-by_device.result c.device_turn-by_device.ensures.few c.device_turn-by_device.new.words.words
     c.device_turn-by_device.new.device c.device_turn-by_device.ensures.turn p
 
--- src/relaying.rt:36:1
 pub returns-clause-goes : goal.returns-clause-goes
 returns-clause-goes g c = λ plan is q on k n h0.
     let s = setting_of g.L.Driver.DriverEnd.driver g.L.Device.DeviceEnd.device g.L.Layout.layout g.G.Guest.party g.V.Device.party in
@@ -213,7 +199,7 @@ returns-clause-goes g c = λ plan is q on k n h0.
     c.guest_turn-by_guest.new.guest c.args.device.now c.guest_turn-by_guest.ensures.ring c.guest_turn-by_guest.ensures.turn
     c.relay_turn-by_relay.result c.guest_turn-by_guest.ensures.few c.relay_turn-by_relay.ensures.few
     c.relay_turn-by_relay.new.words c.relay_turn-by_relay.new.shadow.words c.relay_turn-by_relay.new.lane.relay.state
-    c.relay_turn-by_relay.new.lane.relay.counts c.relay_turn-by_relay.ensures.ring.0 c.relay_turn-by_relay.ensures.turn
+    c.relay_turn-by_relay.new.lane.relay.counts c.relay_turn-by_relay.ensures.ring c.relay_turn-by_relay.ensures.turn
     x.lane.relay.state.winding refl h.2 off in
     elim c.if-done.branch [
       | then-done w ↦ (
@@ -222,7 +208,7 @@ returns-clause-goes g c = λ plan is q on k n h0.
           c.guest_turn-by_guest.new.guest c.args.device.now c.guest_turn-by_guest.ensures.ring c.guest_turn-by_guest.ensures.turn
           c.relay_turn-by_relay.result c.guest_turn-by_guest.ensures.few c.relay_turn-by_relay.ensures.few
           c.relay_turn-by_relay.new.words c.relay_turn-by_relay.new.shadow.words c.relay_turn-by_relay.new.lane.relay.state
-          c.relay_turn-by_relay.new.lane.relay.counts c.relay_turn-by_relay.ensures.ring.0 c.relay_turn-by_relay.ensures.turn
+          c.relay_turn-by_relay.new.lane.relay.counts c.relay_turn-by_relay.ensures.ring c.relay_turn-by_relay.ensures.turn
           c.device_turn-by_device.result c.device_turn-by_device.ensures.few c.device_turn-by_device.new.words.words
           c.device_turn-by_device.new.device c.device_turn-by_device.ensures.turn p
           w.begin_wind_up.new.device w.begin_wind_up.new.self.relay.state w.begin_wind_up.new.self.relay.counts
@@ -244,7 +230,7 @@ returns-clause-goes g c = λ plan is q on k n h0.
           c.guest_turn-by_guest.new.guest c.args.device.now c.guest_turn-by_guest.ensures.ring c.guest_turn-by_guest.ensures.turn
           c.relay_turn-by_relay.result c.guest_turn-by_guest.ensures.few c.relay_turn-by_relay.ensures.few
           c.relay_turn-by_relay.new.words c.relay_turn-by_relay.new.shadow.words c.relay_turn-by_relay.new.lane.relay.state
-          c.relay_turn-by_relay.new.lane.relay.counts c.relay_turn-by_relay.ensures.ring.0 c.relay_turn-by_relay.ensures.turn
+          c.relay_turn-by_relay.new.lane.relay.counts c.relay_turn-by_relay.ensures.ring c.relay_turn-by_relay.ensures.turn
           c.device_turn-by_device.result c.device_turn-by_device.ensures.few c.device_turn-by_device.new.words.words
           c.device_turn-by_device.new.device c.device_turn-by_device.ensures.turn p
           off (λ z. absurd (false≢true (sym w.if-done.false ∙ c.done.ensures.1 z))) in
@@ -260,7 +246,6 @@ returns-clause-goes g c = λ plan is q on k n h0.
           )
     ]
 
--- src/relaying.rt:36:1
 pub returns-clause-carried : goal.returns-clause-carried
 returns-clause-carried g c =
     let s = setting_of g.L.Driver.DriverEnd.driver g.L.Device.DeviceEnd.device g.L.Layout.layout g.G.Guest.party g.V.Device.party in
@@ -275,14 +260,14 @@ returns-clause-carried g c =
     c.guest_turn-by_guest.new.guest c.args.device.now c.guest_turn-by_guest.ensures.ring c.guest_turn-by_guest.ensures.turn
     c.relay_turn-by_relay.result c.guest_turn-by_guest.ensures.few c.relay_turn-by_relay.ensures.few
     c.relay_turn-by_relay.new.words c.relay_turn-by_relay.new.shadow.words c.relay_turn-by_relay.new.lane.relay.state
-    c.relay_turn-by_relay.new.lane.relay.counts c.relay_turn-by_relay.ensures.ring.0 c.relay_turn-by_relay.ensures.turn
+    c.relay_turn-by_relay.new.lane.relay.counts c.relay_turn-by_relay.ensures.ring c.relay_turn-by_relay.ensures.turn
     x.lane.relay.state.winding refl h.2 off in
     let y = device_carries s law l.0 l.1 l.3 l.4 c.guest_turn-by_guest.result c.args.tree.now.mappings l.5 c.args.lane.now.words
     c.guest_turn-by_guest.new.words x.words.words x.lane.relay.state x.lane.relay.counts c.args.lane.now.relayed c.args.guest.now
     c.guest_turn-by_guest.new.guest c.args.device.now c.guest_turn-by_guest.ensures.ring c.guest_turn-by_guest.ensures.turn
     c.relay_turn-by_relay.result c.guest_turn-by_guest.ensures.few c.relay_turn-by_relay.ensures.few
     c.relay_turn-by_relay.new.words c.relay_turn-by_relay.new.shadow.words c.relay_turn-by_relay.new.lane.relay.state
-    c.relay_turn-by_relay.new.lane.relay.counts c.relay_turn-by_relay.ensures.ring.0 c.relay_turn-by_relay.ensures.turn
+    c.relay_turn-by_relay.new.lane.relay.counts c.relay_turn-by_relay.ensures.ring c.relay_turn-by_relay.ensures.turn
     c.device_turn-by_device.result c.device_turn-by_device.ensures.few c.device_turn-by_device.new.words.words
     c.device_turn-by_device.new.device c.device_turn-by_device.ensures.turn p in
     elim c.if-done.branch [
@@ -290,7 +275,6 @@ returns-clause-carried g c =
       | else-done w ↦ ap g.V.Device.party.carried w.device-is ∙ y.0
     ]
 
--- src/relaying.rt:36:1
 pub returns-clause-faults : goal.returns-clause-faults
 returns-clause-faults g c =
     let s = setting_of g.L.Driver.DriverEnd.driver g.L.Device.DeviceEnd.device g.L.Layout.layout g.G.Guest.party g.V.Device.party in
@@ -305,14 +289,14 @@ returns-clause-faults g c =
     c.guest_turn-by_guest.new.guest c.args.device.now c.guest_turn-by_guest.ensures.ring c.guest_turn-by_guest.ensures.turn
     c.relay_turn-by_relay.result c.guest_turn-by_guest.ensures.few c.relay_turn-by_relay.ensures.few
     c.relay_turn-by_relay.new.words c.relay_turn-by_relay.new.shadow.words c.relay_turn-by_relay.new.lane.relay.state
-    c.relay_turn-by_relay.new.lane.relay.counts c.relay_turn-by_relay.ensures.ring.0 c.relay_turn-by_relay.ensures.turn
+    c.relay_turn-by_relay.new.lane.relay.counts c.relay_turn-by_relay.ensures.ring c.relay_turn-by_relay.ensures.turn
     x.lane.relay.state.winding refl h.2 off in
     let y = device_carries s law l.0 l.1 l.3 l.4 c.guest_turn-by_guest.result c.args.tree.now.mappings l.5 c.args.lane.now.words
     c.guest_turn-by_guest.new.words x.words.words x.lane.relay.state x.lane.relay.counts c.args.lane.now.relayed c.args.guest.now
     c.guest_turn-by_guest.new.guest c.args.device.now c.guest_turn-by_guest.ensures.ring c.guest_turn-by_guest.ensures.turn
     c.relay_turn-by_relay.result c.guest_turn-by_guest.ensures.few c.relay_turn-by_relay.ensures.few
     c.relay_turn-by_relay.new.words c.relay_turn-by_relay.new.shadow.words c.relay_turn-by_relay.new.lane.relay.state
-    c.relay_turn-by_relay.new.lane.relay.counts c.relay_turn-by_relay.ensures.ring.0 c.relay_turn-by_relay.ensures.turn
+    c.relay_turn-by_relay.new.lane.relay.counts c.relay_turn-by_relay.ensures.ring c.relay_turn-by_relay.ensures.turn
     c.device_turn-by_device.result c.device_turn-by_device.ensures.few c.device_turn-by_device.new.words.words
     c.device_turn-by_device.new.device c.device_turn-by_device.ensures.turn p in
     elim c.if-done.branch [
