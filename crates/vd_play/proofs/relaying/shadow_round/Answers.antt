@@ -22,10 +22,6 @@ guest_turn-by_guest-requires g c =
     record { on = (p.view, p.device_view, p.kept.driven.ring, p.kept.driven.part.holds) }
 
 -- src/relaying.rt:57:9
-pub relay_turn-by_relay-requires-clause-stub : goal.relay_turn-by_relay-requires-clause-stub
-relay_turn-by_relay-requires-clause-stub g c = ?
-
--- src/relaying.rt:57:9
 pub relay_turn-by_relay-requires-clause-on : goal.relay_turn-by_relay-requires-clause-on
 relay_turn-by_relay-requires-clause-on g c =
     let s = setting_of g.L.Driver.DriverEnd.driver g.L.Device.DeviceEnd.device g.L.Layout.layout g.G.Guest.party g.V.Device.party in
