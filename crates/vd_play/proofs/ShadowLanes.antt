@@ -22,7 +22,8 @@ use Rattle.vd_turns.specs.Turns.{GuestTurn, GuestTurns, DeviceTurn, DeviceTurns}
 use Rattle.vd_play.proofs.ShadowKeep.{keeps_guest}
 use Rattle.vd_play.proofs.ShadowPace.{bounds_of, low_of}
 use Rattle.vd_play.proofs.ShadowRounds.{Works, works_by, shadowing_works, winding_works, turned, winds_on, shadows_on, all_turned}
-use Rattle.vd_play.proofs.ShadowStops.{winds_from, stops}
+use Rattle.vd_play.proofs.ShadowEnds.{stops}
+use Rattle.vd_play.proofs.ShadowStops.{winds_from}
 
 -- ---- a lane by what it holds
 
