@@ -42,4 +42,5 @@ pub mod ShadowQuiet
 pub mod ShadowRounds
 pub mod ShadowChains
 pub mod ShadowStops
+pub mod ShadowEnds
 pub mod ShadowLanes

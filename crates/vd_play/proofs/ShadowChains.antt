@@ -129,7 +129,8 @@ module _ {D E G X C : Type 0} (s : Setting D E G X C) (law : IsLawful s) (plan :
       sv sw p.lane in
       let count = begun_count s.device s.driver s.layout law.layout p.start p.old r (s.party.begun device) by words.words shadow_words v w
       sv sw p.lane in
-      omega (arith, count, length-map all f, length_le (map f all) (takes w.done) (prefix_take (map f all) (takes w.done) (length all) front))
+      omega (arith, count, length-map all f,
+      length_le (map f all) (takes w.done) (prefix_take (map f all) (takes w.done) (length all) front))
 
   -- the chains begun since the attach are the epoch's, where all of them are begun
   pub begun_chains : length (s.party.begun device) ≡ begun_at plan q (k + 1)

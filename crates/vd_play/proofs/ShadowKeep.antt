@@ -70,7 +70,8 @@ module _ {D E G X C : Type 0} (s : Setting D E G X C) (law : IsLawful s) (plan :
   pub keeps_relay : (words words' : RingWords) (shadow_words shadow_words' : List ℕ) (r r' : State E D) (c c' : Counts) (guest : G)
       (device : X) (by : Attached) (v : DriverView) (w : DeviceView) (sv : DriverView) (sw : DeviceView) → words'.ring ≡ words.ring
       → (p : IsRelayed s plan q k words shadow_words r c guest device by v w sv sw)
-      → (u : RelayRun s.layout s.device s.driver p.start p.old (s.party.begun device) by words'.words shadow_words' v w sv sw r r' c c' made)
+      → (u : RelayRun s.layout s.device s.driver p.start p.old (s.party.begun device) by words'.words shadow_words' v w sv sw r r' c c'
+      made)
       → IsRelayed s plan q k words' shadow_words' r' c' guest device by v u.view u.shadow_view sw
   keeps_relay words words' shadow_words shadow_words' r r' c c' guest device by v w sv sw same p u = record {
     epoch = p.epoch;

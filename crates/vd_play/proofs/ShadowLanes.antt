@@ -22,7 +22,8 @@ use Rattle.vd_turns.specs.Turns.{GuestTurn, GuestTurns, DeviceTurn, DeviceTurns}
 use Rattle.vd_play.proofs.ShadowKeep.{keeps_guest}
 use Rattle.vd_play.proofs.ShadowPace.{bounds_of, low_of}
 use Rattle.vd_play.proofs.ShadowRounds.{Works, works_by, shadowing_works, winding_works, turned, winds_on, shadows_on, all_turned}
-use Rattle.vd_play.proofs.ShadowStops.{winds_from, stops}
+use Rattle.vd_play.proofs.ShadowEnds.{stops}
+use Rattle.vd_play.proofs.ShadowStops.{winds_from}
 
 -- ---- a lane by what it holds
 
@@ -118,7 +119,8 @@ module _ {D E G X C : Type 0} (s : Setting D E G X C) (law : IsLawful s) (plan :
         let y = winding_works s plan q k n words shadow_words r c relayed guest device p in
         let x = winds_on s law plan q k n a b few_a few_b words words1 words2 shadow_words shadow_words1 r r1 c c1 relayed guest guest1
         device p same1 same2 (guest_at y) (relay_at y) live in
-        (subst (λ (z : Bool). RelayingBy z s plan q k (n + 1) words2 shadow_words1 r1 c1 (relayed + b) guest1 device) (sym winding) x.0, x.1)
+        (subst (λ (z : Bool). RelayingBy z s plan q k (n + 1) words2 shadow_words1 r1 c1 (relayed + b) guest1 device) (sym winding) x.0,
+        x.1)
 
     -- a relay that doesn't wind up after its turn didn't before
     pub shadows_by : (w : Bool) → r.winding ≡ w → RelayingBy w s plan q k n words shadow_words r c relayed guest device

@@ -35,8 +35,9 @@ module _ {D E G X C : Type 0} (s : Setting D E G X C) (plan : Plan) (q k n : ℕ
     pub paced : IsPaced s (length (queue_chains plan q)) (k + 1) guest device view
     pub heard : HasRelayHeard s plan q k relayed r c device view device_view shadow_view shadow_device_view
 
-  abbrev pub shadowing_works : (words : RingWords) (shadow_words : List ℕ) (r : State E D) (c : Counts) (relayed : ℕ) (guest : G) (device : X)
-      → IsShadowing s plan q k n words shadow_words r c relayed guest device → Works words shadow_words r c relayed guest device
+  abbrev pub shadowing_works : (words : RingWords) (shadow_words : List ℕ) (r : State E D) (c : Counts) (relayed : ℕ) (guest : G)
+      (device : X) → IsShadowing s plan q k n words shadow_words r c relayed guest device
+      → Works words shadow_words r c relayed guest device
   shadowing_works words shadow_words r c relayed guest device p = record {
     by = p.by;
     view = p.view;
@@ -163,7 +164,8 @@ module _ {D E G X C : Type 0} (s : Setting D E G X C) (law : IsLawful s) (plan :
         t.run.view p.device_view p.shadow_view p.shadow_device_view r r1 c c1 b)
         → (x : DeviceTurn s.layout s.party shadow_words2 u.run.shadow_view p.shadow_device_view device device1 d)
         → AllTurned words2 shadow_words2 r1 c1 relayed guest guest1 device device1 p.by t.run.view u.run.view u.run.shadow_view x.run.view
-    all_turned words words1 words2 shadow_words shadow_words1 shadow_words2 r r1 c c1 relayed guest guest1 device device1 p same1 same2 t u x =
+    all_turned words words1 words2 shadow_words shadow_words1 shadow_words2 r r1 c c1 relayed guest guest1 device device1 p same1
+        same2 t u x =
         let y = turned words words1 words2 shadow_words shadow_words1 r r1 c c1 relayed guest guest1 device
         (shadowing_works s plan q k n words shadow_words r c relayed guest device p) same1 same2 t u in
         let off : r1.winding ≡ false = u.run.kept.0 ∙ p.awake.0 in
@@ -223,7 +225,8 @@ module _ {D E G X C : Type 0} (s : Setting D E G X C) (law : IsLawful s) (plan :
         → (s.party.is_done device1 → ⊥)
         → IsShadowing s plan q k (n + 1) words2 shadow_words2 r1 c1 (relayed + b) guest1 device1
         × (steps s (relayed + b) guest1 device1 ≡ steps s relayed guest device + (a + b + d))
-    shadows_on words words1 words2 shadow_words shadow_words1 shadow_words2 r r1 c c1 relayed guest guest1 device device1 p same1 same2 t u x live =
+    shadows_on words words1 words2 shadow_words shadow_words1 shadow_words2 r r1 c c1 relayed guest guest1 device device1 p same1
+        same2 t u x live =
         let y = all_turned words words1 words2 shadow_words shadow_words1 shadow_words2 r r1 c c1 relayed guest guest1 device device1 p
         same1 same2 t u x in (
           record {
