@@ -14,6 +14,7 @@ use Rattle.vd_play.proofs.Modes.{mode_first}
 use Rattle.vd_play.specs.Tree.{IsLaid}
 use Rattle.vd_play.proofs.Setups.{still_serve}
 use Rattle.vd_play.proofs.Benches.{keeps_none, keeps_through, lanes_kept, fault_later, same_many}
+use Rattle.vd_play.proofs.Chained.{few_switches}
 use Rattle.vd_play.proofs.Cut.{if_err_by, if_err_any}
 use Rattle.vd_play.proofs.Each.{each_queue}
 use Rattle.vd_play.proofs.Lasting.{all_closed, all_low, last_epoch}
@@ -233,3 +234,26 @@ pub returns-clause-faults : goal.returns-clause-faults
 returns-clause-faults g c =
     let m = g.V.Device.party in
     ap (λ xs. map m.faults xs.items) c.halt_all.ensures.devices ∙ c.drain-made.ensures.faults ∙ c.loop-epoch.invariant.faults
+
+pub overflow_add-epoch-end : goal.overflow_add-epoch-end
+overflow_add-epoch-end g c = omega (arith, c.len-epoch-end.ensures, few_switches c.args.m.now.switches c.args.m.now.switched)
+
+pub overflow_add-made : goal.overflow_add-made
+overflow_add-made g c = omega (
+  arith,
+  c.loop-epoch.invariant.few,
+  c.run_epoch-made.ensures.few,
+  c.loop-epoch-test.true,
+  c.len-epoch-end.ensures,
+  few_switches c.args.m.now.switches c.args.m.now.switched,
+)
+
+pub overflow_add-made-2 : goal.overflow_add-made-2
+overflow_add-made-2 g c = omega (
+  arith,
+  c.loop-epoch.invariant.few,
+  c.drain-made.ensures.few,
+  c.loop-epoch.auto.epoch-end,
+  c.len-epoch-end.ensures,
+  few_switches c.args.m.now.switches c.args.m.now.switched,
+)
