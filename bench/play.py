@@ -1,7 +1,8 @@
 #!/usr/bin/env python3
 """Times `vdpa play` on machine files with many chains beside a plain Rust program that does the same: baseline.rs, way `file`, reads the
 file, steps ends with this project's interface, keeps journal and lists of the same size and writes the same report. The last rows stand beside
-its way `stepped`, which has no file and no report: guest and device in turn make one access each, as the program's parties do.
+its way `stepped`, which has no file and no report: guest and device in turn make one access each, as the program's parties do. Plays of one shadow
+epoch stand alone.
 
 Processor time of whole runs, file and report included; medians of runs that alternate with the peer's. With valgrind on the machine,
 instructions a chain too. It tests nothing, but that both outputs are equal.
@@ -10,6 +11,7 @@ usage: bench/play.py [ROUNDS]   (default 5; after `rt run` in crates/vd_main or 
 """
 
 import os
+import statistics
 import subprocess
 import sys
 import tempfile
@@ -34,6 +36,32 @@ def by_text(layout, chains):
 def by_one(layout, chains):
     """One text for so many chains of one piece."""
     return f'layout = "{layout}"\nsize = 256\nwindow = 16\nregions = [{{ addr = 0, size = 4096 }}]\nqueues = [["{chains}*r0+10"]]\n'
+
+
+def shadowed(layout, chains):
+    """One text for so many chains of one piece, all of them in one shadow epoch."""
+    return by_one(layout, chains) + 'start = "shadow"\n'
+
+
+def alone(program, layout, path, rounds):
+    """Chains through a relay: processor time, instructions and the most memory, which grow with the chains and no faster."""
+    for chains in (50000, 100000, 200000):
+        with open(path, "w") as file:
+            file.write(shadowed(layout, chains))
+        words = [program, "play", "--brief"]
+        times = [cpu(words, path) for _ in range(rounds)]
+        count = instructions(words, path)
+        told = "" if count is None else f", {count / chains:.0f} instructions a chain"
+        print(f"{layout}, {chains} chains in a shadow epoch: {statistics.median(times) / chains:.0f} ns a chain{told}, {memory(words, path)} KiB", flush=True)
+
+
+def memory(words, path):
+    """The most memory that a run has had, in KiB."""
+    with open(path, "rb") as file:
+        child = subprocess.Popen(words, stdin=file, stdout=subprocess.DEVNULL)
+        _, _, usage = os.wait4(child.pid, 0)
+        child.returncode = 0
+    return usage.ru_maxrss
 
 
 def beside_steps(program, plain, layout, chains, path, rounds):
@@ -79,6 +107,7 @@ def main():
             print(f"{name}: {here:.0f} ns a chain, peer {there:.0f} ns, ratio {ratio:.2f}{told}{same}", flush=True)
         for layout in ("split", "packed"):
             beside_steps(program, plain, layout, 200000, path, rounds)
+            alone(program, layout, path, rounds)
 
 
 main()

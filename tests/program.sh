@@ -37,10 +37,12 @@ expect 'the canonical text' 0 '' 'layout = "split"
 size = 4
 features = []
 window = 1
+start = "pass"
 iova_first = 4096
 iova_last = 281474976710655
 regions = [{ addr = 4096, size = 8192 }]
 queues = [["r4096+10 w8192+64"]]
+switches = []
 ' check
 expect 'no word' 1 "$usage" '' 
 expect 'another word' 1 "$usage" '' run
@@ -65,6 +67,42 @@ chain 0 0 15
 epoch 0 0 pass 0 1
 drained 1
 ' play
+cp examples/live-switch.toml "$work/in"
+expect 'two switches' 0 '' 'queue 0 chains 6 bytes 60
+chain 0 0 10
+chain 0 1 10
+chain 0 2 10
+chain 0 3 10
+chain 0 4 10
+chain 0 5 10
+epoch 0 0 pass 0 2
+epoch 0 1 shadow 2 4
+epoch 0 2 pass 4 6
+drained 6
+' play
+expect 'two switches by a seed' 0 '' 'queue 0 chains 6 bytes 60
+epoch 0 0 pass 0 2
+epoch 0 1 shadow 2 4
+epoch 0 2 pass 4 6
+drained 6
+' play --brief --seed 7
+cp examples/shadowed.toml "$work/in"
+expect 'a shadow epoch from the start' 0 '' 'queue 0 chains 1 bytes 10
+chain 0 0 10
+epoch 0 0 shadow 0 1
+drained 1
+' play
+cp examples/migration.toml "$work/in"
+expect 'a shadow epoch in the middle' 0 '' 'queue 0 chains 1000 bytes 0
+epoch 0 0 pass 0 200
+epoch 0 1 shadow 200 600
+epoch 0 2 pass 600 1000
+queue 1 chains 300 bytes 4800
+epoch 1 0 pass 0 200
+epoch 1 1 shadow 200 300
+epoch 1 2 pass 300 300
+drained 1300
+' play --brief
 cp examples/three-queues.toml "$work/in"
 expect 'three queues' 0 '' 'queue 0 chains 3 bytes 20
 chain 0 0 10

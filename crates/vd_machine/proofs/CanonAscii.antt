@@ -7,16 +7,23 @@ use Rattle.std.proofs.lemmas.Bool.{and_parts, ltb-true}
 use Rattle.std.proofs.lemmas.Bool.Decides.{nat_tests}
 use Rattle.std.proofs.lemmas.List.Folds.{list_all-append}
 use Rattle.std.proofs.lemmas.Str.{IsUtf8-from_ascii}
+use Rattle.vd_model.specs.declared.base.Mode.{Mode}
+use Rattle.vd_model.specs.declared.base.Mode.TheVariants as mode
 use Rattle.vd_model.specs.declared.record.Run.{Run}
 use Rattle.vd_model.specs.declared.record.Script.{Script}
 use Rattle.vd_text.specs.Canonical.{run_text}
 use Rattle.vd_text.proofs.Canonical.{decimal_digits}
-use Rattle.vd_machine.specs.Canon.{quoted, more_items, items_text, list_text, layout_name, feature_names, region_text, queue_text, line, lines_text, entries, canon}
+use Rattle.vd_machine.specs.Canon.{quoted, more_items, items_text, list_text, layout_name, feature_names, region_text, queue_text, mode_name, to_name, switch_text, line, lines_text, entries, canon}
 use Rattle.vd_machine.specs.File.{Plan}
 use Rattle.vd_machine.specs.Queues.{most_pieces}
 use Rattle.vd_machine.specs.Regions.{is_region}
+use Rattle.vd_machine.specs.Switches.{is_switch}
+use Rattle.vd_machine.specs.declared.machine.Switch.{Switch}
+use Rattle.vd_machine.specs.declared.machine.To.{To}
+use Rattle.vd_machine.specs.declared.machine.To.TheVariants as to
 use Rattle.vd_machine.specs.declared.regions.Region.{Region}
 use Rattle.vd_machine.proofs.CanonBack.{Fits}
+use Rattle.vd_machine.proofs.CanonSwitches.{switch_after}
 use Rattle.vd_machine.proofs.CanonStrings.{is_plain, run_is_plain}
 use Rattle.vd_machine.proofs.Fitting.{fits_run, fits_script, run_parts, script_parts, region_fits}
 
@@ -74,6 +81,15 @@ low_layout : (b : Bool) → AreLow (quoted (layout_name b))
 low_layout true = refl
 low_layout false = refl
 
+low_mode : (m : Mode) → AreLow (quoted (mode_name m))
+low_mode mode.Pass = refl
+low_mode mode.Shadow = refl
+
+low_to : (t : To) → AreLow (quoted (to_name t) ++ codes " }")
+low_to to.Pass = refl
+low_to to.Shadow = refl
+low_to to.Renew = refl
+
 low_features : (a b c : Bool) → AreLow (list_text (map quoted (feature_names (record { indirect = a; event_idx = b; in_order = c }))))
 low_features true true true = refl
 low_features true true false = refl
@@ -89,6 +105,11 @@ low_region r h =
     let parts = region_fits r h in
     low_append (decimal r.addr) (codes ", size = " ++ (decimal r.size ++ codes " }")) (low_decimal r.addr (omega (arith, parts.0, parts.1)))
     (low_append (decimal r.size) (codes " }") (low_decimal r.size (omega (arith, parts.2))) refl)
+
+low_switch : (s : Switch) → is_switch s ≡ true → AreLow (switch_text s)
+low_switch s h =
+    low_append (decimal s.after) (codes ", to = " ++ (quoted (to_name s.to) ++ codes " }"))
+    (low_decimal s.after (omega (arith, switch_after s h))) (low_to s.to)
 
 low_run : (most : ℕ) (r : Run) → fits_run most r ≡ true → AreLow (quoted (run_text r))
 low_run most r h =
@@ -126,14 +147,22 @@ low_canon p h =
             low_decimal p.window (omega (arith, h.window)),
             (
               refl,
-              low_decimal p.first (omega (arith, h.first)),
+              low_mode p.start,
               (
                 refl,
-                low_decimal p.last (omega (arith, h.last)),
+                low_decimal p.first (omega (arith, h.first)),
                 (
                   refl,
-                  low_list region_text is_region low_region p.regions h.regions,
-                  (refl, low_list queue_text (fits_script most) (low_queue most) p.queues h.queues, tt),
+                  low_decimal p.last (omega (arith, h.last)),
+                  (
+                    refl,
+                    low_list region_text is_region low_region p.regions h.regions,
+                    (
+                      refl,
+                      low_list queue_text (fits_script most) (low_queue most) p.queues h.queues,
+                      (refl, low_list switch_text is_switch low_switch p.switches h.switches, tt),
+                    ),
+                  ),
                 ),
               ),
             ),

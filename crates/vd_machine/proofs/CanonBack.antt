@@ -13,13 +13,15 @@ use Rattle.vd_model.specs.declared.features.Features.{Features}
 use Rattle.vd_model.specs.declared.record.Run.{Run}
 use Rattle.vd_model.specs.declared.record.Script.{Script}
 use Rattle.vd_text.specs.Canonical.{run_text}
-use Rattle.vd_machine.specs.Canon.{quoted, list_text, layout_name, feature_names, region_text, queue_text, line, lines_text, entries, canon}
+use Rattle.vd_machine.specs.Canon.{quoted, list_text, layout_name, feature_names, region_text, queue_text, mode_name, switch_text, line, lines_text, entries, canon}
 use Rattle.vd_machine.specs.File.{Plan}
 use Rattle.vd_machine.specs.declared.regions.Region.{Region}
 use Rattle.vd_machine.proofs.CanonStrings.{is_plain, run_is_plain}
 use Rattle.vd_machine.proofs.Fitting.{fits_run, fits_script, run_parts, script_parts, region_fits}
 use Rattle.vd_machine.specs.Queues.{most_pieces}
 use Rattle.vd_machine.specs.Regions.{is_region}
+use Rattle.vd_machine.specs.Switches.{is_switch}
+use Rattle.vd_machine.proofs.CanonSwitches.{switch_data, switch_value, shallow_switch, mode_value}
 use Rattle.vd_machine.proofs.CanonValues.{items_from, string_value, number_value, list_value, IsShallow, shallow_list, region_data, region_value}
 
 abbrev pub features_data : Features → Data
@@ -35,9 +37,10 @@ queue_data q = array (items_from (map run_data q.runs))
 abbrev values : Plan → List (List ℕ × Data)
 values p =
     (codes "layout", string (layout_name p.packed)) ∷ (codes "size", integer (pos p.size)) ∷ (codes "features", features_data p.features)
-    ∷ (codes "window", integer (pos p.window)) ∷ (codes "iova_first", integer (pos p.first)) ∷ (codes "iova_last", integer (pos p.last))
-    ∷ (codes "regions", array (items_from (map region_data p.regions)))
-    ∷ (codes "queues", array (items_from (map queue_data p.queues))) ∷ []
+    ∷ (codes "window", integer (pos p.window)) ∷ (codes "start", string (mode_name p.start)) ∷ (codes "iova_first", integer (pos p.first))
+    ∷ (codes "iova_last", integer (pos p.last)) ∷ (codes "regions", array (items_from (map region_data p.regions)))
+    ∷ (codes "queues", array (items_from (map queue_data p.queues)))
+    ∷ (codes "switches", array (items_from (map switch_data p.switches))) ∷ []
 
 -- its document, the keys in the order of a table
 abbrev pub sorted : Plan → Members
@@ -46,7 +49,9 @@ sorted p =
     (member (codes "iova_last") (integer (pos p.last)) (member (codes "layout") (string (layout_name p.packed))
     (member (codes "queues") (array (items_from (map queue_data p.queues)))
     (member (codes "regions") (array (items_from (map region_data p.regions)))
-    (member (codes "size") (integer (pos p.size)) (member (codes "window") (integer (pos p.window)) no_members)))))))
+    (member (codes "size") (integer (pos p.size)) (member (codes "start") (string (mode_name p.start))
+    (member (codes "switches") (array (items_from (map switch_data p.switches)))
+    (member (codes "window") (integer (pos p.window)) no_members)))))))))
 
 -- what a machine that is written keeps
 pub record Fits (p : Plan) : Type 0 where
@@ -56,6 +61,7 @@ pub record Fits (p : Plan) : Type 0 where
   pub last : p.last < 2 ^ 63
   pub regions : list_all is_region p.regions ≡ true
   pub queues : list_all (fits_script (most_pieces p.features p.size)) p.queues ≡ true
+  pub switches : list_all is_switch p.switches ≡ true
 
 fits : (n : ℕ) → n < 2 ^ 63 → FitsSigned w64 (pos n)
 fits n h = fits_signed_from_abs w64 (pos n) h
@@ -127,14 +133,22 @@ lines_are_text p h =
             number_value p.window (fits p.window h.window),
             (
               refl,
-              number_value p.first (fits p.first h.first),
+              mode_value p.start,
               (
                 refl,
-                number_value p.last (fits p.last h.last),
+                number_value p.first (fits p.first h.first),
                 (
                   refl,
-                  list_value region_data region_text is_region region_is_text p.regions h.regions,
-                  (refl, list_value queue_data queue_text (fits_script most) (queue_is_text most) p.queues h.queues, tt),
+                  number_value p.last (fits p.last h.last),
+                  (
+                    refl,
+                    list_value region_data region_text is_region region_is_text p.regions h.regions,
+                    (
+                      refl,
+                      list_value queue_data queue_text (fits_script most) (queue_is_text most) p.queues h.queues,
+                      (refl, list_value switch_data switch_text is_switch switch_value p.switches h.switches, tt),
+                    ),
+                  ),
                 ),
               ),
             ),
@@ -161,7 +175,8 @@ all_printed : (p : Plan) → AllPrinted (expressions_of (values p))
 all_printed p =
     let features = shallow_list string 0 shallow_string (feature_names p.features) in
     let regions = shallow_list region_data 1 shallow_region p.regions in
-    let queues = shallow_list queue_data 1 shallow_queue p.queues in (
+    let queues = shallow_list queue_data 1 shallow_queue p.queues in
+    let switches = shallow_list switch_data 1 shallow_switch p.switches in (
       (refl, omega arith, refl),
       (
         (refl, omega arith, refl),
@@ -174,8 +189,14 @@ all_printed p =
               (
                 (refl, omega arith, refl),
                 (
-                  (refl, omega (arith, regions.depth), regions.dates),
-                  ((refl, omega (arith, queues.depth), queues.dates), tt),
+                  (refl, omega arith, refl),
+                  (
+                    (refl, omega (arith, regions.depth), regions.dates),
+                    (
+                      (refl, omega (arith, queues.depth), queues.dates),
+                      ((refl, omega (arith, switches.depth), switches.dates), tt),
+                    ),
+                  ),
                 ),
               ),
             ),

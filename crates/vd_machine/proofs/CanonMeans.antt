@@ -3,7 +3,8 @@ use Rattle.std.proofs.Common.{◌≡◌, ℕ, ◌==◌, Bool, true, false, List,
 use Rattle.std.specs.List.{list_all}
 use Rattle.std.proofs.lemmas.Bool.{and_parts, eqb-true}
 use Rattle.toml.specs.Data.{Data, string}
-use Rattle.vd_model.specs.declared.base.Mode.TheVariants.{Pass}
+use Rattle.vd_model.specs.declared.base.Mode.{Mode}
+use Rattle.vd_model.specs.declared.base.Mode.TheVariants as mode
 use Rattle.vd_model.specs.declared.record.Run.{Run}
 use Rattle.vd_model.specs.declared.record.Script.{Script}
 use Rattle.vd_text.specs.Grammar.{all_some}
@@ -11,14 +12,17 @@ use Rattle.vd_text.proofs.Canonical.{run_back, run_within_back}
 use Rattle.vd_machine.specs.Canon.{feature_names}
 use Rattle.vd_machine.specs.File.{Plan, plan, first_in}
 use Rattle.vd_machine.specs.Iovas.{is_range, range_of, are_laid}
-use Rattle.vd_machine.specs.Keys.{known_keys, complete, if_table, region_has_known_keys, region_is_complete}
+use Rattle.vd_machine.specs.Keys.{known_keys, complete, if_table, region_has_known_keys, region_is_complete, switch_has_known_keys, switch_is_complete}
 use Rattle.vd_machine.specs.Lookup.{list_of}
 use Rattle.vd_machine.specs.Queues.{most_pieces, writes_chain, queue_writes_chains, all_write_chains, run_of, script_of, scripts_of, all_lie, few}
 use Rattle.vd_machine.specs.Regions.{are_regions, region_of, regions_of}
 use Rattle.vd_machine.specs.Rings.{is_lawful_size, is_window, layout_of, size_of, features_of, if_features, window_of}
-use Rattle.vd_machine.specs.Types.{is_text, queue_is_typed, region_is_typed, typed}
+use Rattle.vd_machine.specs.Switches.{start_of, switch_of, is_switch, are_in_order, are_switches, switches_of}
+use Rattle.vd_machine.specs.Types.{is_text, queue_is_typed, region_is_typed, switch_is_typed, typed}
+use Rattle.vd_machine.specs.Words.{ring_words, ring_count, are_few_words}
 use Rattle.vd_machine.specs.declared.regions.Region.{Region}
 use Rattle.vd_machine.proofs.CanonBack.{run_data, queue_data, sorted}
+use Rattle.vd_machine.proofs.CanonSwitches.{switch_data, switch_back}
 use Rattle.vd_machine.proofs.CanonValues.{items_from, region_data}
 use Rattle.vd_machine.proofs.Fitting.{fits_run, fits_script, run_parts, script_parts}
 
@@ -32,9 +36,9 @@ pub record Keeps (p : Plan) : Type 0 where
   pub counted : few p.queues ≡ true
   pub ranged : is_range p.first p.last ≡ true
   pub laid : are_laid p.first p.last p.regions ≡ true
-  pub passing : p.start ≡ Pass
-  pub unswitched : p.switches ≡ []
+  pub switched : are_switches p.switches ≡ true
   pub uncontrolled : p.control ≡ None
+  pub worded : are_few_words (ring_words p.packed p.size p.features) (ring_count p.start p.switches (length p.queues)) ≡ true
 
 list_from : (ds : List Data) → list_of (items_from ds) ≡ ds
 list_from [] = refl
@@ -92,6 +96,11 @@ window_back : (p : Plan) → Keeps p → window_of (sorted p) ≡ Some p.window
 unfolding window_of
 window_back p h = rw h.windowed refl
 
+start_back : (p : Plan) (m : Mode) → p.start ≡ m → start_of (sorted p) ≡ Some p.start
+unfolding start_of
+start_back p mode.Pass e = rw e refl
+start_back p mode.Shadow e = rw e refl
+
 range_back : (p : Plan) → Keeps p → range_of (sorted p) ≡ Some (record { first = p.first; last = p.last })
 unfolding range_of
 range_back p h = rw h.ranged refl
@@ -110,6 +119,16 @@ regions_back p h =
       list_from (map region_data p.regions),
       each_back region_of region_data (λ r. true) region_back p.regions (always p.regions),
       h.placed,
+    ) refl
+
+switches_back : (p : Plan) → Keeps p → switches_of (sorted p) ≡ Some p.switches
+unfolding switches_of
+switches_back p h =
+    let parts = and_parts (are_in_order p.switches) (list_all is_switch p.switches) h.switched in
+    rw (
+      list_from (map switch_data p.switches),
+      each_back switch_of switch_data is_switch switch_back p.switches parts.1,
+      parts.0,
     ) refl
 
 run_data_back : (most : ℕ) (r : Run) → fits_run most r ≡ true → run_of most (run_data r) ≡ Some r
@@ -135,11 +154,23 @@ scripts_back most p h =
 
 known : (p : Plan) → known_keys (sorted p) ≡ true
 unfolding known_keys
-known p = rw (list_from (map region_data p.regions)) (all_pass region_data (if_table region_has_known_keys) (λ r. refl) p.regions)
+known p =
+    rw (
+      list_from (map region_data p.regions),
+      all_pass region_data (if_table region_has_known_keys) (λ r. refl) p.regions,
+      list_from (map switch_data p.switches),
+      all_pass switch_data (if_table switch_has_known_keys) (λ s. refl) p.switches,
+    ) refl
 
 is_complete : (p : Plan) → complete (sorted p) ≡ true
 unfolding complete
-is_complete p = rw (list_from (map region_data p.regions)) (all_pass region_data (if_table region_is_complete) (λ r. refl) p.regions)
+is_complete p =
+    rw (
+      list_from (map region_data p.regions),
+      all_pass region_data (if_table region_is_complete) (λ r. refl) p.regions,
+      list_from (map switch_data p.switches),
+      all_pass switch_data (if_table switch_is_complete) (λ s. refl) p.switches,
+    ) refl
 
 queue_typed : (q : Script) → queue_is_typed (queue_data q) ≡ true
 queue_typed q = rw (list_from (map run_data q.runs)) (all_pass run_data is_text (λ r. refl) q.runs)
@@ -154,6 +185,8 @@ is_typed p =
       all_pass region_data region_is_typed (λ r. refl) p.regions,
       list_from (map queue_data p.queues),
       all_pass queue_data queue_is_typed queue_typed p.queues,
+      list_from (map switch_data p.switches),
+      all_pass switch_data switch_is_typed (λ s. refl) p.switches,
     ) refl
 
 run_writes : (most : ℕ) (r : Run) → fits_run most r ≡ true → writes_chain (run_data r) ≡ true
@@ -183,8 +216,8 @@ means_back p h =
       range_back p h,
       regions_back p h,
       scripts_back (most_pieces p.features p.size) p h.fitted,
-      h.passing,
-      h.unswitched,
+      start_back p p.start refl,
+      switches_back p h,
       h.uncontrolled,
     ) refl
 
@@ -196,6 +229,7 @@ breaks_none p h =
       is_complete p,
       is_typed p,
       layout_back p p.packed refl,
+      start_back p p.start refl,
       size_back p h,
       features_back p,
       window_back p h,
@@ -204,6 +238,8 @@ breaks_none p h =
       scripts_back (most_pieces p.features p.size) p h.fitted,
       h.inside,
       h.counted,
+      switches_back p h,
       range_back p h,
       h.laid,
+      h.worded,
     ) refl

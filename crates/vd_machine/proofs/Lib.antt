@@ -2,6 +2,7 @@ pub mod CanonAscii
 pub mod CanonBack
 pub mod CanonMeans
 pub mod CanonStrings
+pub mod CanonSwitches
 pub mod CanonValues
 pub mod Collect
 pub mod Document

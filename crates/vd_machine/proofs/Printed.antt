@@ -1,9 +1,11 @@
 -- The canonical text of a machine breaks no rule and means that machine.
-use Rattle.std.proofs.Common.{◌≡◌, ℕ, true, List, [], ◌∷◌, ◌++◌, length, Option, Some, None, is_none, refl, ap, ◌∙◌, arith, append_assoc}
-use Rattle.std.proofs.lemmas.Bool.{false≢true}
+use Rattle.std.proofs.Common.{◌≡◌, ℕ, true, List, ◌++◌, Option, Some, None, is_none, refl, ap, ◌∙◌, arith, append_assoc}
+use Rattle.std.specs.List.{list_all}
+use Rattle.std.proofs.lemmas.Bool.{and_parts, false≢true}
 use Rattle.vd_machine.specs.Canon.{canon}
 use Rattle.vd_machine.specs.File.{Plan, view, document, first, first_in, means}
 use Rattle.vd_machine.specs.Queues.{most_pieces}
+use Rattle.vd_machine.specs.Switches.{is_switch, are_in_order}
 use Rattle.vd_machine.specs.declared.machine.Machine.{Machine}
 use Rattle.vd_machine.proofs.CanonAscii.{canon_is_utf8}
 use Rattle.vd_machine.proofs.CanonBack.{Fits, reads, sorted}
@@ -11,10 +13,6 @@ use Rattle.vd_machine.proofs.CanonMeans.{Keeps, means_back, breaks_none}
 use Rattle.vd_machine.proofs.Document.{document_text}
 use Rattle.vd_machine.proofs.Facts.{size_bounds, window_bounds, region_parts, range_bounds, few_parts}
 use Rattle.vd_machine.proofs.Fitting.{scripts_fit}
-
-none_of : {A : Type 0} (xs : List A) → length xs ≡ 0 → xs ≡ []
-none_of [] h = refl
-none_of (x ∷ xs) h = absurd (omega arith)
 
 nothing_of : {A : Type 0} (o : Option A) → is_none o ≡ true → o ≡ None
 nothing_of None h = refl
@@ -30,9 +28,9 @@ machine_keeps m = record {
   counted = m.counted;
   ranged = m.ranged;
   laid = m.laid;
-  passing = m.passing;
-  unswitched = none_of m.switches m.unswitched;
+  switched = m.switched;
   uncontrolled = nothing_of m.control m.uncontrolled;
+  worded = m.worded;
 }
 
 keeps_fit : (p : Plan) → Keeps p → Fits p
@@ -46,6 +44,7 @@ keeps_fit p h =
       last = range.1;
       regions = (region_parts p.regions h.placed).1;
       queues = h.fitted;
+      switches = (and_parts (are_in_order p.switches) (list_all is_switch p.switches) h.switched).1;
     }
 
 document_is : (p : Plan) → Keeps p → document (canon p) ≡ Some (sorted p)

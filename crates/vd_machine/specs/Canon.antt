@@ -1,10 +1,15 @@
 -- The canonical text of a machine: one line for each key, in this order.
 use Rattle.std.specs.Prelude.{ℕ, Bool, if◌then◌else◌, List, [], ◌∷◌, ◌++◌, map, codes, decimal}
+use Rattle.vd_model.specs.declared.base.Mode.{Mode}
+use Rattle.vd_model.specs.declared.base.Mode.TheVariants as mode
 use Rattle.vd_model.specs.declared.features.Features.{Features}
 use Rattle.vd_model.specs.declared.record.Run.{Run}
 use Rattle.vd_model.specs.declared.record.Script.{Script}
 use Rattle.vd_text.specs.Canonical.{run_text}
 use Rattle.vd_machine.specs.File.{Plan}
+use Rattle.vd_machine.specs.declared.machine.Switch.{Switch}
+use Rattle.vd_machine.specs.declared.machine.To.{To}
+use Rattle.vd_machine.specs.declared.machine.To.TheVariants as to
 use Rattle.vd_machine.specs.declared.regions.Region.{Region}
 
 -- a text in quotes
@@ -29,6 +34,17 @@ list_text ts = codes "[" ++ (items_text ts ++ codes "]")
 abbrev pub layout_name : Bool → List ℕ
 layout_name packed = if packed then codes "packed" else codes "split"
 
+-- the name of a mode
+abbrev pub mode_name : Mode → List ℕ
+mode_name mode.Pass = codes "pass"
+mode_name mode.Shadow = codes "shadow"
+
+-- the name of a switch's end
+abbrev pub to_name : To → List ℕ
+to_name to.Pass = codes "pass"
+to_name to.Shadow = codes "shadow"
+to_name to.Renew = codes "renew"
+
 -- a name where it is on
 abbrev pub if_on : Bool → List ℕ → List (List ℕ)
 if_on on name = if on then name ∷ [] else []
@@ -45,6 +61,10 @@ region_text r = codes "{ addr = " ++ (decimal r.addr ++ (codes ", size = " ++ (d
 abbrev pub queue_text : Script → List ℕ
 queue_text q = list_text (map (λ (r : Run). quoted (run_text r)) q.runs)
 
+-- a switch with its count and its name
+abbrev pub switch_text : Switch → List ℕ
+switch_text s = codes "{ after = " ++ (decimal s.after ++ (codes ", to = " ++ (quoted (to_name s.to) ++ codes " }")))
+
 -- a key and its value
 abbrev pub line : List ℕ → List ℕ → List ℕ
 line key value = key ++ (codes " = " ++ (value ++ codes "\n"))
@@ -59,8 +79,9 @@ abbrev pub entries : Plan → List (List ℕ × List ℕ)
 entries p =
     (codes "layout", quoted (layout_name p.packed)) ∷ (codes "size", decimal p.size)
     ∷ (codes "features", list_text (map quoted (feature_names p.features))) ∷ (codes "window", decimal p.window)
-    ∷ (codes "iova_first", decimal p.first) ∷ (codes "iova_last", decimal p.last)
-    ∷ (codes "regions", list_text (map region_text p.regions)) ∷ (codes "queues", list_text (map queue_text p.queues)) ∷ []
+    ∷ (codes "start", quoted (mode_name p.start)) ∷ (codes "iova_first", decimal p.first) ∷ (codes "iova_last", decimal p.last)
+    ∷ (codes "regions", list_text (map region_text p.regions)) ∷ (codes "queues", list_text (map queue_text p.queues))
+    ∷ (codes "switches", list_text (map switch_text p.switches)) ∷ []
 
 -- the canonical text
 unfoldable pub canon : Plan → List ℕ

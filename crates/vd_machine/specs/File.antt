@@ -1,5 +1,5 @@
 -- The machine that a file means, and the first rule that it breaks.
-use Rattle.std.specs.Prelude.{◌≡◌, ℕ, Bool, true, false, not, ◌==◌, if◌then◌else◌, List, [], ◌∷◌, length, Option, Some, None, option_map, unwrap_or, is_none, is_some, ◌&&◌, find, ⊤}
+use Rattle.std.specs.Prelude.{◌≡◌, ℕ, Bool, true, false, not, ◌==◌, if◌then◌else◌, List, [], ◌∷◌, length, Option, Some, None, option_map, unwrap_or, is_none, is_some, ◌&&◌, ◌||◌, find, ⊤}
 use Rattle.std.specs.Str.Lossy.{utf8_valid_len}
 use Rattle.toml.specs.Data.{Members}
 use Rattle.toml.specs.Parse.{parse_document}
@@ -12,13 +12,15 @@ use Rattle.vd_machine.specs.Keys.{known_keys, complete}
 use Rattle.vd_machine.specs.Queues.{most_pieces, all_write_chains, scripts_of, all_lie, few}
 use Rattle.vd_machine.specs.Regions.{regions_of}
 use Rattle.vd_machine.specs.Rings.{layout_of, size_of, features_of, features_in, window_of}
+use Rattle.vd_machine.specs.Switches.{start_of, switches_of}
 use Rattle.vd_machine.specs.Types.{typed}
+use Rattle.vd_machine.specs.Words.{ring_words, ring_count, are_few_words}
 use Rattle.vd_machine.specs.declared.iovas.Iovas.{Iovas}
 use Rattle.vd_machine.specs.declared.regions.Region.{Region}
 use Rattle.vd_machine.specs.declared.machine.Machine.{Machine}
 use Rattle.vd_machine.specs.declared.machine.Switch.{Switch}
 use Rattle.vd_machine.specs.declared.machine.MachineFault.{MachineFault}
-use Rattle.vd_machine.specs.declared.machine.MachineFault.TheVariants.{M1, M2, M3, M4, M5, M6, M7, M8, M9, M10, M11, M12, M13, M16}
+use Rattle.vd_machine.specs.declared.machine.MachineFault.TheVariants.{M1, M2, M3, M4, M5, M6, M7, M8, M9, M10, M11, M12, M13, M14, M16, M17}
 use Rattle.vd_machine.specs.declared.machine.ReadRefusal.{ReadRefusal}
 use Rattle.vd_machine.specs.declared.machine.ReadRefusal.TheVariants.{Fault, Memory}
 
@@ -74,6 +76,10 @@ features_or_none ms = unwrap_or (features_of ms) (features_in [])
 abbrev pub most_in : Members → ℕ
 most_in ms = most_pieces (features_or_none ms) (size_in ms)
 
+-- the mode at the start
+abbrev pub start_in : Members → Mode
+start_in ms = unwrap_or (start_of ms) Pass
+
 -- the regions
 abbrev pub regions_in : Members → List Region
 regions_in ms = unwrap_or (regions_of ms) []
@@ -81,6 +87,10 @@ regions_in ms = unwrap_or (regions_of ms) []
 -- the scripts
 abbrev pub scripts_in : Members → List Script
 scripts_in ms = unwrap_or (scripts_of (most_in ms) ms) []
+
+-- the switches
+abbrev pub switches_in : Members → List Switch
+switches_in ms = unwrap_or (switches_of ms) []
 
 -- the range of iovas
 abbrev pub iovas_in : Members → Iovas
@@ -90,30 +100,34 @@ iovas_in ms = unwrap_or (range_of ms) (record { first = 0; last = 0 })
 abbrev pub has_iovas : Members → Bool
 has_iovas ms = is_some (range_of ms) && are_laid (iovas_in ms).first (iovas_in ms).last (regions_in ms)
 
--- the machine that a document means: it starts in the mode pass, and has no switches and no control queue
+-- its rings have no more words than there may be
+abbrev pub has_few_words : Members → Bool
+has_few_words ms = are_few_words (ring_words (packed_in ms) (size_in ms) (features_or_none ms))
+    (ring_count (start_in ms) (switches_in ms) (length (scripts_in ms)))
+
+-- the machine that a document means: it has no control queue
 unfoldable pub plan : Members → Plan
 plan ms = record {
   packed = packed_in ms;
   size = size_in ms;
   features = features_or_none ms;
   window = unwrap_or (window_of ms) 0;
-  start = Pass;
+  start = start_in ms;
   first = (iovas_in ms).first;
   last = (iovas_in ms).last;
   regions = regions_in ms;
   queues = scripts_in ms;
-  switches = [];
+  switches = switches_in ms;
   control = None;
 }
 
--- whether a document breaks a rule; it has no switches and no commands, which the rules 14 and 15 are about, and its rings never
--- have too many words, of which rule 17 speaks
+-- whether a document breaks a rule; it has no commands, which rule 15 is about
 abbrev pub breaks : Members → MachineFault → Bool
 breaks ms M1 = false
 breaks ms M2 = not (known_keys ms)
 breaks ms M3 = not (complete ms)
 breaks ms M4 = not (typed ms)
-breaks ms M5 = is_none (layout_of ms)
+breaks ms M5 = is_none (layout_of ms) || is_none (start_of ms)
 breaks ms M6 = is_none (size_of (packed_in ms) ms)
 breaks ms M7 = is_none (features_of ms)
 breaks ms M8 = is_none (window_of ms)
@@ -122,12 +136,14 @@ breaks ms M10 = not (all_write_chains ms)
 breaks ms M11 = is_none (scripts_of (most_in ms) ms)
 breaks ms M12 = not (all_lie (regions_in ms) (scripts_in ms))
 breaks ms M13 = not (few (scripts_in ms))
+breaks ms M14 = is_none (switches_of ms)
 breaks ms M16 = not (has_iovas ms)
+breaks ms M17 = not (has_few_words ms)
 breaks ms _ = false
 
 -- the rules in their order
 abbrev pub rules : List MachineFault
-rules = M1 ∷ M2 ∷ M3 ∷ M4 ∷ M5 ∷ M6 ∷ M7 ∷ M8 ∷ M9 ∷ M10 ∷ M11 ∷ M12 ∷ M13 ∷ M16 ∷ []
+rules = M1 ∷ M2 ∷ M3 ∷ M4 ∷ M5 ∷ M6 ∷ M7 ∷ M8 ∷ M9 ∷ M10 ∷ M11 ∷ M12 ∷ M13 ∷ M14 ∷ M16 ∷ M17 ∷ []
 
 -- the first rule that a document breaks
 unfoldable pub first_in : Members → Option MachineFault

@@ -6,4 +6,6 @@ pub mod Lookup
 pub mod Queues
 pub mod Regions
 pub mod Rings
+pub mod Switches
 pub mod Types
+pub mod Words

@@ -21,6 +21,10 @@ is_list_at key ms = option_map_or (λ d. is_some (as_array d)) (get_member key m
 abbrev pub region_is_typed : Data → Bool
 region_is_typed d = option_map_or (λ t. is_number_at (codes "addr") t && is_number_at (codes "size") t) (as_table d) false
 
+-- a table of a whole number and a text
+abbrev pub switch_is_typed : Data → Bool
+switch_is_typed d = option_map_or (λ t. is_number_at (codes "after") t && is_text_at (codes "to") t) (as_table d) false
+
 -- a value is a text
 abbrev pub is_text : Data → Bool
 is_text d = is_some (as_str d)
@@ -31,9 +35,10 @@ queue_is_typed d = option_map_or (list_all is_text) (list_in d) false
 
 -- the values of the file itself
 abbrev pub file_is_typed : Members → Bool
-file_is_typed ms = ((((((is_text_at (codes "layout") ms && is_number_at (codes "size") ms) && is_list_at (codes "features") ms)
-    && is_number_at (codes "window") ms) && is_number_at (codes "iova_first") ms)
-    && is_number_at (codes "iova_last") ms) && is_list_at (codes "regions") ms) && is_list_at (codes "queues") ms
+file_is_typed ms = ((((((((is_text_at (codes "layout") ms && is_number_at (codes "size") ms) && is_list_at (codes "features") ms)
+    && is_number_at (codes "window") ms) && is_text_at (codes "start") ms) && is_number_at (codes "iova_first") ms)
+    && is_number_at (codes "iova_last") ms) && is_list_at (codes "regions") ms) && is_list_at (codes "queues") ms)
+    && is_list_at (codes "switches") ms
 
 -- each feature is a text
 abbrev pub features_are_typed : Members → Bool
@@ -47,6 +52,10 @@ regions_are_typed ms = list_all region_is_typed (items_at (codes "regions") ms)
 abbrev pub queues_are_typed : Members → Bool
 queues_are_typed ms = list_all queue_is_typed (items_at (codes "queues") ms)
 
+-- each switch is such a table
+abbrev pub switches_are_typed : Members → Bool
+switches_are_typed ms = list_all switch_is_typed (items_at (codes "switches") ms)
+
 -- each value has its type
 unfoldable pub typed : Members → Bool
-typed ms = ((file_is_typed ms && features_are_typed ms) && regions_are_typed ms) && queues_are_typed ms
+typed ms = (((file_is_typed ms && features_are_typed ms) && regions_are_typed ms) && queues_are_typed ms) && switches_are_typed ms

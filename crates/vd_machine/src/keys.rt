@@ -7,6 +7,7 @@ ghost use Rattle.vd_machine.specs.Lookup.{names_of, items_at};
 ghost use Rattle.vd_machine.specs.Keys.{is_file_key, is_region_key, region_has_known_keys, region_is_complete, if_table, known_keys, complete, has_file_keys};
 
 use crate::lookup::{has, items_at};
+use crate::switch_tables::{switches_are_complete, switches_have_known_keys};
 use toml::{Table, Value};
 
 fn is_file_key(key: &str) -> bool
@@ -16,10 +17,12 @@ fn is_file_key(key: &str) -> bool
         || key == "size"
         || key == "features"
         || key == "window"
+        || key == "start"
         || key == "iova_first"
         || key == "iova_last"
         || key == "regions"
         || key == "queues"
+        || key == "switches"
 }
 
 fn is_region_key(key: &str) -> bool
@@ -78,7 +81,7 @@ fn regions_have_known_keys(file: &Table) -> bool
 pub fn known_keys(file: &Table) -> bool
     ensures { result ≡ known_keys (table_view file.now) }
 {
-    file_has_known_keys(file) && regions_have_known_keys(file)
+    file_has_known_keys(file) && regions_have_known_keys(file) && switches_have_known_keys(file)
 }
 
 fn region_is_complete(region: &Value) -> bool
@@ -113,5 +116,5 @@ fn has_file_keys(file: &Table) -> bool
 pub fn complete(file: &Table) -> bool
     ensures { result ≡ complete (table_view file.now) }
 {
-    has_file_keys(file) && regions_are_complete(file)
+    has_file_keys(file) && regions_are_complete(file) && switches_are_complete(file)
 }

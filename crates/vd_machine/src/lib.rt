@@ -12,14 +12,17 @@ mod queues;
 mod reading;
 mod regions;
 mod rings;
+mod switch_lines;
+mod switch_tables;
+mod switches;
 mod types;
+mod words;
 
 pub use limits::MOST_CHAINS;
 pub use machine::{Machine, MachineFault, ReadRefusal, Switch, To};
 pub use regions::Region;
 pub use rings::{MOST_PLACES, MOST_WINDOW};
+pub use switches::MOST_SWITCHES;
 
-#[cfg(test)]
-mod printing_tests;
 #[cfg(test)]
 mod tests;

@@ -1,10 +1,11 @@
 //! A machine, and why none was read.
 ghost use Rattle.std.specs.Prelude.{◌≡◌, true, false, length, is_none};
-ghost use Rattle.vd_model.specs.declared.base.Mode.TheVariants.{Pass};
 ghost use Rattle.vd_machine.specs.Queues.{most_pieces, are_scripts, all_lie, few};
 ghost use Rattle.vd_machine.specs.Iovas.{is_range, are_laid};
 ghost use Rattle.vd_machine.specs.Regions.{are_regions};
 ghost use Rattle.vd_machine.specs.Rings.{is_lawful_size, is_window};
+ghost use Rattle.vd_machine.specs.Switches.{are_switches};
+ghost use Rattle.vd_machine.specs.Words.{ring_words, ring_count, are_few_words};
 
 use crate::Region;
 use sqlite_items::Items;
@@ -60,11 +61,11 @@ pub struct Machine {
     ghost fitted: { are_scripts (most_pieces features size) queues ≡ true },
     ghost inside: { all_lie regions queues ≡ true },
     ghost counted: { few queues ≡ true },
-    ghost passing: { start ≡ Pass },
     ghost ranged: { is_range first last ≡ true },
     ghost laid: { are_laid first last regions ≡ true },
-    ghost unswitched: { length switches ≡ 0 },
+    ghost switched: { are_switches switches ≡ true },
     ghost uncontrolled: { is_none control ≡ true },
+    ghost worded: { are_few_words (ring_words packed size features) (ring_count start switches (length queues)) ≡ true },
 }
 
 /// The rule that a machine file breaks.
@@ -78,7 +79,7 @@ pub enum MachineFault {
     M3,
     /// A value has another type.
     M4,
-    /// The layout is none that there is.
+    /// The layout, or the mode at the start, is none that there is.
     M5,
     /// The size is not lawful.
     M6,

@@ -4,6 +4,7 @@ ghost use Rattle.vd_machine.specs.Canon.{canon, line, quoted, list_text, layout_
 ghost use Rattle.vd_machine.specs.File.{view, first, means};
 
 use crate::listing::{feature_texts, print_queues, print_regions, push_number, push_text};
+use crate::switch_lines::{print_switch_line, start_line};
 use crate::{Machine, Region};
 use std::alloc::{AllocError, Global};
 use vd_model::{Features, Script};
@@ -63,9 +64,11 @@ impl Machine {
         print_number("size", self.size as u64, out)?;
         print_features(self.features, out)?;
         print_number("window", self.window as u64, out)?;
+        push_text(start_line(self.start), out)?;
         print_number("iova_first", self.first, out)?;
         print_number("iova_last", self.last, out)?;
         print_region_line(self.regions.as_slice(), out)?;
-        print_queue_line(self.queues.as_slice(), out)
+        print_queue_line(self.queues.as_slice(), out)?;
+        print_switch_line(self.switches.as_slice(), out)
     }
 }

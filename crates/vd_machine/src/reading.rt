@@ -10,12 +10,12 @@ use crate::limits::{all_lie, few, most_pieces};
 use crate::queues::{all_write_chains, scripts_of};
 use crate::regions::regions_of;
 use crate::rings::{features_of, layout_of, size_of, window_of};
+use crate::switches::{start_of, switches_of};
 use crate::types::typed;
+use crate::words::{are_few_words, ring_count, ring_words};
 use crate::{Machine, MachineFault, ReadRefusal};
-use sqlite_items::Items;
 use std::alloc::{AllocError, Global};
 use toml::Table;
-use vd_model::Mode;
 
 impl From<AllocError> for ReadRefusal {
     ghost from_gives = { λ _ e. e ≡ Memory };
@@ -79,6 +79,7 @@ fn machine_of(alloc: Global, file: &Table) -> Result<Machine, ReadRefusal>
     keep(complete(file), MachineFault::M3)?;
     keep(typed(file), MachineFault::M4)?;
     let packed = given(layout_of(file), MachineFault::M5)?;
+    let start = given(start_of(file), MachineFault::M5)?;
     let size = given(size_of(packed, file), MachineFault::M6)?;
     let features = given(features_of(file), MachineFault::M7)?;
     let window = given(window_of(file), MachineFault::M8)?;
@@ -91,22 +92,26 @@ fn machine_of(alloc: Global, file: &Table) -> Result<Machine, ReadRefusal>
         MachineFault::M12,
     )?;
     keep(few(queues.as_slice()), MachineFault::M13)?;
+    let switches = given(switches_of(alloc, file)?, MachineFault::M14)?;
     let iovas = given(range_of(file), MachineFault::M16)?;
     keep(
         are_laid(alloc, iovas, regions.as_slice())?,
         MachineFault::M16,
     )?;
+    let words = ring_words(packed, size, features);
+    let rings = ring_count(start, switches.as_slice(), queues.as_slice());
+    keep(are_few_words(words, rings), MachineFault::M17)?;
     Ok(Machine {
         packed,
         size,
         features,
         window,
-        start: Mode::Pass,
+        start,
         first: iovas.first,
         last: iovas.last,
         regions,
         queues,
-        switches: Items::new(alloc),
+        switches,
         control: None,
     })
 }

@@ -6,9 +6,11 @@ ghost use Rattle.vd_machine.specs.Lookup.{items_at};
 ghost use Rattle.vd_machine.specs.Types.{typed, is_number_at, is_text_at, is_list_at, file_is_typed, features_are_typed, region_is_typed, regions_are_typed, is_text, queue_is_typed, queues_are_typed};
 
 use crate::lookup::{items_at, list_in, member};
+use crate::switch_tables::switches_are_typed;
 use toml::{Table, Value};
 
-fn is_number_at(table: &Table, key: &str) -> bool
+/// Whether a whole number stands at a key, or nothing.
+pub fn is_number_at(table: &Table, key: &str) -> bool
     ensures { result ≡ is_number_at key.now (table_view table.now) }
 {
     match member(table, key) {
@@ -17,7 +19,8 @@ fn is_number_at(table: &Table, key: &str) -> bool
     }
 }
 
-fn is_text_at(table: &Table, key: &str) -> bool
+/// Whether a text stands at a key, or nothing.
+pub fn is_text_at(table: &Table, key: &str) -> bool
     ensures { result ≡ is_text_at key.now (table_view table.now) }
 {
     match member(table, key) {
@@ -96,10 +99,12 @@ fn file_is_typed(file: &Table) -> bool
         && is_number_at(file, "size")
         && is_list_at(file, "features")
         && is_number_at(file, "window")
+        && is_text_at(file, "start")
         && is_number_at(file, "iova_first")
         && is_number_at(file, "iova_last")
         && is_list_at(file, "regions")
         && is_list_at(file, "queues")
+        && is_list_at(file, "switches")
 }
 
 /// Whether each value has its type.
@@ -111,4 +116,5 @@ pub fn typed(file: &Table) -> bool
         && features_are_typed(file)
         && regions_are_typed(file)
         && queues_are_typed(file)
+        && switches_are_typed(file)
 }

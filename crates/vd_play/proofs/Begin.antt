@@ -1,5 +1,5 @@
 -- A lane that is still, and its device's attach.
-use Rattle.std.proofs.Common.{◌≡◌, ℕ, ◌+◌, ◌-◌, ◌<◌, ◌≤◌, Option, Some, None, true, false, List, [], ◌∷◌, ◌++◌, length, slice_get, refl, sym, ◌∙◌, ap, subst, arith}
+use Rattle.std.proofs.Common.{◌≡◌, ℕ, ◌+◌, ◌-◌, ◌<◌, ◌≤◌, Option, Some, None, true, false, List, [], ◌∷◌, ◌++◌, length, slice_get, refl, sym, ◌∙◌, ap, arith}
 use Rattle.std.proofs.lemmas.Bool.{lt-ltb}
 use Rattle.std.proofs.lemmas.Option.{get_or_from_slice_get}
 use Rattle.vd_model.specs.declared.record.Script.{Script}
@@ -13,52 +13,49 @@ use Rattle.vd_bus.specs.Device.{IsAttach}
 use Rattle.vd_bus.specs.Orders.{Terms, FitsQueue, mode_of}
 use Rattle.vd_bus.specs.Pace.{attaches}
 use Rattle.vd_machine.specs.File.{Plan}
+use Rattle.vd_ring.specs.declared.driver.DriverView.{DriverView}
 use Rattle.vd_ring.specs.declared.frame.Frame.{Frame}
+use Rattle.vd_play.specs.declared.floor.Relaying.{Relaying}
 use Rattle.vd_play.specs.Journal.{queue_script, queue_chains, queue_epochs, guest_frame, attach_event, base_at, pass_map}
-use Rattle.vd_play.specs.Lane.{events_before, begun_at}
+use Rattle.vd_play.specs.Before.{events_before, begun_at}
 use Rattle.vd_play.specs.Orders.{pass_order, stop_of, CanAttach}
-use Rattle.vd_play.specs.Progress.{IsStopped, IsPassing, StoppedWith, InEpochWith}
+use Rattle.vd_play.specs.Epochs.{mode_at}
+use Rattle.vd_play.specs.Progress.{IsPaced, IsStopped, IsPassing, StoppedWith, InEpochWith}
 use Rattle.vd_play.specs.Setting.{Setting, IsLawful}
 use Rattle.vd_play.proofs.Bounds.{bounded, stops_at, many_epochs, chains_count}
-use Rattle.vd_play.proofs.Keep.{kept_still, begun_of, base_of}
+use Rattle.vd_play.proofs.Keep.{kept_still, base_of}
 use Rattle.vd_play.proofs.Pace.{attaches_more}
 
 passes : (q : ℕ) → q < 8 → mode_of q ≡ Pass
 passes q low = rw (lt-ltb q 16 (omega arith)) refl
 
--- a guest's ring of a data queue is no control ring
-fits : (t : Terms) (f g : Frame) → f ≡ g → g.control ≡ false → (t.queue ≡ 15 → ⊥) → FitsQueue t f
+-- a ring of a data queue is no control ring
+pub fits : (t : Terms) (f g : Frame) → f ≡ g → g.control ≡ false → (t.queue ≡ 15 → ⊥) → FitsQueue t f
 fits t f g is plain other = (λ h. absurd (cc (h, ap (λ (z : Frame). z.control) is, plain)), λ h. absurd (other h))
 
-module _ {D E G X C : Type 0} (s : Setting D E G X C) (law : IsLawful s) (plan : Plan) (q k : ℕ) where
-  pub asks : (to : ℕ) (words : RingWords) (still : Option E) (guest : G) (device : X) → to ≡ begun_at plan q (k + 1)
-      → k < length (queue_epochs plan q) → StoppedWith s plan q k words still guest device
-      → (length (s.party.begun device) ≤ to) × CanAttach s.device s.party q (to - length (s.party.begun device)) still device
-  asks to words None guest device is more p = absurd p
-  asks to words (Some end) guest device is more p =
-      let b = bounded (length (queue_chains plan q)) (queue_epochs plan q) k p.kept.driven.queue.chained more in
-      let many : length (s.party.begun device) ≡ begun_at plan q k =
-      begun_of s law plan q (s.party.begun device) p.device_view p.kept.account ∙ p.rests.taken in (
-        omega (arith, is, b.rises, many),
-        record {
-          low = p.kept.driven.queue.low;
-          still_end = p.rests.still;
-          free = p.rests.free;
-          events = omega (arith, p.rests.room, more);
-          chains = omega (arith, is, b.low, p.kept.room);
-          few = omega (arith, is, b.low, b.rises, many, p.kept.driven.queue.few);
-        },
-      )
+-- a device that is attached has kept its pace
+pub paced_attached : {D E G X C : Type 0} (s : Setting D E G X C) (plan : Plan) (q k : ℕ) (guest : G) (device device' : X) (v : DriverView)
+    → IsPaced s (length (queue_chains plan q)) k guest device v
+    → (s.party.accesses device' ≡ s.party.accesses device) × (s.party.heard device' ≡ s.party.heard device)
+    → attaches (s.party.events device') ≡ attaches (s.party.events device) + 1
+    → IsPaced s (length (queue_chains plan q)) (k + 1) guest device' v
+paced_attached s plan q k guest device device' v p same counted = record {
+  guest_heard = p.guest_heard;
+  guest_low = p.guest_low;
+  device_low = omega (arith, p.device_low, same.0, same.1, counted);
+  times = omega (arith, p.times, counted);
+}
 
-  starts : (to : ℕ) (words : RingWords) (end : E) (guest : G) (device device' : X) → to ≡ begun_at plan q (k + 1)
-      → k < length (queue_epochs plan q) → IsStopped s plan q k 0 words end guest device
+module _ {D E G X C : Type 0} (s : Setting D E G X C) (law : IsLawful s) (plan : Plan) (q k : ℕ) where
+  -- by the machine's order for an epoch of the mode pass
+  pub pass_starts : (to : ℕ) (words : RingWords) (end : E) (relayed : ℕ) (guest : G) (device device' : X) → to ≡ begun_at plan q (k + 1)
+      → k < length (queue_epochs plan q) → mode_at plan k ≡ Pass → IsStopped s plan q k 0 words end relayed guest device
       → IsAttach s.device s.party (pass_order s.device plan q (to - length (s.party.begun device)) end) None end device device'
-      → IsPassing s plan q k 0 words guest device'
-  starts to words end guest device device' is more p a =
+      → IsPassing s plan q k 0 words relayed guest device'
+  pass_starts to words end relayed guest device device' is more mode p a =
       let order : Terms = pass_order s.device plan q (to - length (s.party.begun device)) end in
       let b = bounded (length (queue_chains plan q)) (queue_epochs plan q) k p.kept.driven.queue.chained more in
-      let many : length (s.party.begun device) ≡ begun_at plan q k =
-      begun_of s law plan q (s.party.begun device) p.device_view p.kept.account ∙ p.rests.taken in
+      let many : length (s.party.begun device) ≡ begun_at plan q k = p.rests.begun in
       let framed : p.device_view.frame ≡ guest_frame s.layout plan q =
       (law.layout.wide words.words p.view p.device_view p.kept.driven.ring).1 ∙ p.kept.driven.part.framed in
       let other : q ≡ 15 → ⊥ = λ h. omega (arith, h, p.kept.driven.queue.low) in
@@ -75,9 +72,10 @@ module _ {D E G X C : Type 0} (s : Setting D E G X C) (law : IsLawful s) (plan :
       record {
         view = p.view;
         device_view = p.device_view;
-        kept = kept_still s law plan q words guest device device' p.view p.device_view a.noted.begun a.noted.window a.noted.room.1 p.kept;
+        kept = kept_still s law plan q k words guest device device' p.view p.device_view a.noted.begun a.noted.window a.noted.room.1 p.kept;
         serves = record {
           epoch = more;
+          mode = mode;
           holds = a.holds p.device_view p.rests.stands (fits order p.device_view.frame (guest_frame s.layout plan q) framed refl other);
           by = record { queue = q; count = to - length (s.party.begun device); at = length (s.party.begun device); from = a.from };
           attached = a.attached;
@@ -89,29 +87,53 @@ module _ {D E G X C : Type 0} (s : Setting D E G X C) (law : IsLawful s) (plan :
           room = omega (arith, p.rests.room, a.noted.room.0);
           live = a.live;
         };
-        paced = record {
-          guest_heard = p.paced.guest_heard;
-          guest_low = p.paced.guest_low;
-          device_heard = omega (arith, p.paced.device_heard, a.noted.counts.1);
-          device_low = omega (arith, p.paced.device_low, a.noted.counts.0, counted);
-          times = omega (arith, p.paced.times, counted);
+        paced = paced_attached s plan q k guest device device' p.view p.paced a.noted.counts counted;
+        heard = record {
+          relays = p.heard.relays;
+          heard = omega (arith, p.heard.heard, a.noted.counts.1);
+          low = p.heard.low;
         };
         rounds = omega arith;
       }
 
-  pub begins : (to : ℕ) (words words' : RingWords) (still still' : Option E) (guest : G) (device device' : X)
-      → to ≡ begun_at plan q (k + 1) → k < length (queue_epochs plan q) → words' ≡ words → still' ≡ None
+module _ {L D E G X C : Type 0} (s : Setting D E G X C) (law : IsLawful s) (plan : Plan) (q k : ℕ) where
+  pub asks : (to : ℕ) (words : RingWords) (still : Option E) (relaying : Option (Relaying L D E)) (relayed : ℕ) (guest : G) (device : X)
+      → to ≡ begun_at plan q (k + 1) → k < length (queue_epochs plan q)
+      → StoppedWith s plan q k words still relaying relayed guest device
+      → (length (s.party.begun device) ≤ to) × CanAttach s.device s.party q (to - length (s.party.begun device)) still device
+  asks to words None relaying relayed guest device is more p = absurd p
+  asks to words (Some end) (Some x) relayed guest device is more p = absurd p
+  asks to words (Some end) None relayed guest device is more p =
+      let b = bounded (length (queue_chains plan q)) (queue_epochs plan q) k p.kept.driven.queue.chained more in (
+        omega (arith, is, b.rises, p.rests.begun),
+        record {
+          low = p.kept.driven.queue.low;
+          still_end = p.rests.still;
+          free = p.rests.free;
+          events = omega (arith, p.rests.room, more);
+          chains = omega (arith, is, b.low, p.kept.reserved.room);
+          few = omega (arith, is, b.low, b.rises, p.rests.begun, p.kept.driven.queue.few);
+        },
+      )
+
+  -- the lane and its device begin the epoch
+  pub pass_begins : (to : ℕ) (words words' : RingWords) (still still' : Option E) (relaying relaying' : Option (Relaying L D E))
+      (relayed relayed' : ℕ) (guest : G) (device device' : X) → to ≡ begun_at plan q (k + 1) → k < length (queue_epochs plan q)
+      → mode_at plan k ≡ Pass → (words' ≡ words) × (relayed' ≡ relayed) → still' ≡ None → relaying' ≡ relaying
       → ((end : E) → still ≡ Some end
       → IsAttach s.device s.party (pass_order s.device plan q (to - length (s.party.begun device)) end) None end device device')
-      → StoppedWith s plan q k words still guest device
-      → InEpochWith s plan q true k 0 words' still' guest device' × (s.party.accesses device' ≡ s.party.accesses device)
-  begins to words words' None still' guest device device' is more same none a p = absurd p
-  begins to words words' (Some end) still' guest device device' is more same none a p = (
-    subst (λ o. InEpochWith s plan q true k 0 words' o guest device') (sym none)
-        (subst (λ ws. IsPassing s plan q k 0 ws guest device') (sym same)
-        (starts to words end guest device device' is more p (a end refl))),
-    (a end refl).noted.counts.0,
-  )
+      → StoppedWith s plan q k words still relaying relayed guest device
+      → InEpochWith s plan q true k 0 words' still' relaying' relayed' guest device' × (s.party.accesses device' ≡ s.party.accesses device)
+  pass_begins to words words' None still' relaying relaying' relayed relayed' guest device device' is more mode same none as_before a p =
+      absurd p
+  pass_begins to words words' (Some end) still' (Some x) relaying' relayed relayed' guest device device' is more mode same none as_before
+      a p = absurd p
+  pass_begins to words words' (Some end) still' None relaying' relayed relayed' guest device device' is more mode same none as_before a p =
+      let begun : IsPassing s plan q k 0 words relayed guest device' =
+      pass_starts s law plan q k to words end relayed guest device device' is more mode p (a end refl) in (
+        rw (same.0, none, as_before, same.1) begun,
+        (a end refl).noted.counts.0,
+      )
 
 -- where the next epoch of a queue ends, as the code finds it
 pub stop_is : (plan : Plan) (q k n to : ℕ) (qs : List Script) (s : Script) → qs ≡ plan.queues → slice_get qs q ≡ Some s

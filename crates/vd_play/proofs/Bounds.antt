@@ -1,21 +1,19 @@
 -- The bounds of the epochs.
-use Rattle.std.proofs.Common.{◌≡◌, ℕ, zero, suc, add-one, ◌+◌, ◌<◌, ◌≤◌, min, Bool, false, Option, Some, List, [], ◌∷◌, ◌++◌, length, take, replicate, flat_map, slice_get, inl, inr, refl, sym, ◌∙◌, ap, subst, arith, length-append}
+use Rattle.std.proofs.Common.{◌≡◌, ℕ, zero, suc, add-one, ◌+◌, ◌<◌, ◌≤◌, min, Bool, false, Option, Some, List, [], ◌∷◌, ◌++◌, length, take, replicate, flat_map, slice_get, inl, inr, refl, sym, ◌∙◌, ap, arith, length-append}
 use Rattle.std.proofs.lemmas.List.{length-replicate}
 use Rattle.std.proofs.lemmas.List.Sums.{sum_by-cons}
 use Rattle.vd_model.specs.declared.base.Mode.{Mode}
-use Rattle.vd_model.specs.declared.base.Mode.TheVariants.{Pass}
 use Rattle.vd_model.specs.declared.record.Run.{Run}
 use Rattle.vd_bus.specs.Scripts.{run_chains, run_count}
 use Rattle.vd_machine.specs.File.{Plan}
 use Rattle.vd_machine.specs.declared.machine.Switch.{Switch}
 use Rattle.vd_play.specs.Orders.{stop_of}
-use Rattle.vd_play.proofs.Lists.{some_same}
 use Rattle.std.specs.Option.{option_map_or}
 use Rattle.std.proofs.Math.Seq.{take-suc}
 use Rattle.std.proofs.lemmas.Grind.{flat_map-append}
 use Rattle.std.proofs.lemmas.List.{append-nil}
 use Rattle.std.proofs.lemmas.Option.{slice_get_within, get_or_from_slice_get, slice_get_cases}
-use Rattle.vd_play.specs.Epochs.{Epoch, AreChained, ArePassing, begun_before, epochs, epochs_from, closing, mode_after, is_renewal}
+use Rattle.vd_play.specs.Epochs.{Epoch, AreChained, begun_before, epochs, epochs_from, closing, mode_after, is_renewal}
 
 pub at_index : {A : Type 0} (xs : List A) (i : ℕ) → i < length xs → (x : A) × (slice_get xs i ≡ Some x)
 at_index xs i h = elim (slice_get_cases xs i).1 [ inl f ↦ (f.0, f.2) | inr f ↦ absurd (omega (arith, f.0)) ]
@@ -36,6 +34,11 @@ bounded n es k c h =
     let end : begun_before es (k + 1) ≡ x.0.end =
     ap (begun_before es) (add-one k) ∙ ap (λ (o : Option Epoch). option_map_or (λ (ep : Epoch). ep.end) o 0) x.1 in
     record { epoch = x.0; is = x.1; first = a.0; end = sym end; rises = omega (arith, a.0, a.1, end); low = omega (arith, a.2, end) }
+
+-- never more than all
+pub begun_low : (n : ℕ) (es : List Epoch) (k : ℕ) → AreChained n es → k ≤ length es → begun_before es k ≤ n
+begun_low n es zero c h = omega arith
+begun_low n es (suc k) c h = omega (arith, (bounded n es k c (omega arith)).low, ap (begun_before es) (add-one k))
 
 -- one more of what each of the first k gives
 pub flat_more : {A B : Type 0} (f : A → List B) (xs : List A) (k : ℕ) (x : A) → slice_get xs k ≡ Some x
@@ -68,46 +71,6 @@ many_from e (s ∷ ss) m renewed first n j = omega (arith, many_from (e + 1) ss 
 
 pub many_epochs : (plan : Plan) (n : ℕ) → length (epochs plan n) ≡ length plan.switches + 2
 many_epochs plan n = many_from 0 plan.switches plan.start false 0 n (length plan.switches + 1)
-
-abbrev first_epoch : Mode → ℕ → Epoch
-first_epoch m n = record { number = 0; mode = m; renewed = false; first = 0; end = n }
-
-two_chained : (m : Mode) (n j : ℕ) (es : List Epoch) → es ≡ first_epoch m n ∷ closing j n ∷ [] → AreChained n es
-two_chained m n j es is = subst (AreChained n) (sym is) record { at = at; whole = refl }
-  where
-    at : (k : ℕ) (ep : Epoch) → slice_get (first_epoch m n ∷ closing j n ∷ []) k ≡ Some ep
-        → (ep.first ≡ begun_before (first_epoch m n ∷ closing j n ∷ []) k) × (ep.first ≤ ep.end) × (ep.end ≤ n)
-    at zero ep h = subst (λ (z : Epoch). (z.first ≡ 0) × (z.first ≤ z.end) × (z.end ≤ n))
-        (some_same (first_epoch m n) ep (Some (first_epoch m n)) refl h) (refl, omega arith, omega arith)
-    at (suc zero) ep h = subst (λ (z : Epoch). (z.first ≡ n) × (z.first ≤ z.end) × (z.end ≤ n))
-        (some_same (closing j n) ep (Some (closing j n)) refl h) (refl, omega arith, omega arith)
-    at (suc (suc k)) ep h = absurd (cc)
-
-two_passing : (m : Mode) (n j : ℕ) (es : List Epoch) → m ≡ Pass → es ≡ first_epoch m n ∷ closing j n ∷ [] → ArePassing es
-two_passing m n j es pass is = subst ArePassing (sym is) record { at = at }
-  where
-    at : (k : ℕ) (ep : Epoch) → slice_get (first_epoch m n ∷ closing j n ∷ []) k ≡ Some ep → (ep.mode ≡ Pass) × (ep.renewed ≡ false)
-    at zero ep h = subst (λ (z : Epoch). (z.mode ≡ Pass) × (z.renewed ≡ false))
-        (some_same (first_epoch m n) ep (Some (first_epoch m n)) refl h) (pass, refl)
-    at (suc zero) ep h = subst (λ (z : Epoch). (z.mode ≡ Pass) × (z.renewed ≡ false))
-        (some_same (closing j n) ep (Some (closing j n)) refl h) (refl, refl)
-    at (suc (suc k)) ep h = absurd (cc)
-
-no_switches : (ss : List Switch) → length ss ≡ 0 → ss ≡ []
-no_switches [] h = refl
-no_switches (s ∷ ss) h = absurd (omega arith)
-
--- a machine without switches has one epoch and the closing one
-two_epochs : (plan : Plan) (n : ℕ) → length plan.switches ≡ 0 → epochs plan n ≡ first_epoch plan.start n
-    ∷ closing (length plan.switches + 1) n ∷ []
-two_epochs plan n none = ap (λ (ss : List Switch). epochs_from 0 ss plan.start false 0 n ++ closing (length plan.switches + 1) n ∷ [])
-    (no_switches plan.switches none)
-
-pub chained : (plan : Plan) (n : ℕ) → length plan.switches ≡ 0 → AreChained n (epochs plan n)
-chained plan n none = two_chained plan.start n (length plan.switches + 1) (epochs plan n) (two_epochs plan n none)
-
-pub passing : (plan : Plan) (n : ℕ) → length plan.switches ≡ 0 → plan.start ≡ Pass → ArePassing (epochs plan n)
-passing plan n none pass = two_passing plan.start n (length plan.switches + 1) (epochs plan n) pass (two_epochs plan n none)
 
 pub chains_count : (rs : List Run) → length (run_chains rs) ≡ run_count rs
 chains_count [] = refl

@@ -1,25 +1,46 @@
 -- A lane in the course of a play has the beginning of its journal.
-use Rattle.std.proofs.Common.{◌≡◌, ℕ, ◌+◌, Option, Some, None, Result, Ok, Err, IfErr, IsErrAnd, List, [], ◌∷◌, ◌++◌, length, true, false, Bool, take, drop, flat_map, sym, ◌∙◌, ap, subst}
+use Rattle.std.proofs.Common.{◌≡◌, ℕ, ◌+◌, ◌-◌, ◌<◌, ◌≤◌, Option, Some, None, Result, Ok, Err, IfErr, IsErrAnd, List, [], ◌∷◌, ◌++◌, length, slice_get, set, true, false, Bool, take, drop, flat_map, refl, sym, ◌∙◌, ap, subst, arith}
 use Rattle.std.specs.List.{All}
 use Rattle.std.proofs.lemmas.Grind.{flat_map-append}
-use Rattle.std.proofs.lemmas.List.{append_assoc, take-append-drop}
+use Rattle.std.proofs.lemmas.List.{append_assoc, length-drop, length-map, take-append-drop, take_all}
 use mathlib.Core.List.{IsPrefix}
+use Rattle.vd_model.specs.declared.base.Mode.TheVariants.{Shadow}
+use Rattle.vd_model.specs.declared.chain.Piece.{Piece}
 use Rattle.vd_model.specs.declared.record.Begun.{Begun}
 use Rattle.vd_words.specs.Plain.{RingWords}
 use Rattle.vd_ring.specs.declared.driver.DriverView.{DriverView}
 use Rattle.vd_ring.specs.declared.device.DeviceView.{DeviceView}
-use Rattle.vd_bus.specs.Device.{IsRefused, IsBegun, chains_of, lens_of}
+use Rattle.vd_ring.specs.History.{takes, gives}
+use Rattle.vd_bus.specs.declared.device.Attached.{Attached}
+use Rattle.vd_bus.specs.declared.event.Event.{Event}
+use Rattle.vd_bus.specs.Device.{IsRefused, IsServing, IsBegun, chains_of, lens_of}
+use Rattle.vd_layout.specs.Device.{DeviceModel}
+use Rattle.vd_layout.specs.Layout.{LayoutModel}
 use Rattle.vd_machine.specs.File.{Plan}
-use Rattle.vd_play.specs.Journal.{queue_script, queue_chains, queue_epochs, epoch_events, attach_event, suspend_event, journal_events, journal_chains, HasLen}
-use Rattle.vd_play.specs.Lane.{IsKept, events_before, begun_at}
+use Rattle.vd_relay.specs.declared.counts.Counts.{Counts}
+use Rattle.vd_relay.specs.declared.state.State.{State}
+use Rattle.vd_play.specs.declared.bench.Bench.{Bench}
+use Rattle.vd_play.specs.declared.floor.Lane.{Lane}
+use Rattle.vd_play.specs.declared.floor.Relaying.{Relaying}
+use Rattle.vd_play.specs.Journal.{queue_script, queue_chains, queue_epochs, epoch_chains, epoch_events, epoch_suspend, attach_event, suspend_event, journal_events, journal_chains, HasLen}
+use Rattle.vd_play.specs.Before.{events_before, begun_at, chains_before}
+use Rattle.vd_play.specs.Each.{EachLane, Stage}
+use Rattle.vd_play.specs.Epochs.{Epoch}
+use Rattle.vd_play.specs.Lane.{HasGiven, IsDriven, Serves, IsKept}
+use Rattle.vd_play.specs.Orders.{shadow_attach}
 use Rattle.vd_play.specs.Played.{IsCut}
-use Rattle.vd_play.specs.Progress.{IsStopped, IsPassing, StoppedWith, InEpochWith}
+use Rattle.vd_play.specs.Progress.{IsStopped, IsPassing, IsShadowing, IsWinding, RelayingBy, StoppedWith, InEpochWith, Stopped, InEpoch}
 use Rattle.vd_play.specs.Setting.{Setting, IsLawful}
-use Rattle.vd_play.proofs.Bounds.{bounded, flat_more}
+use Rattle.vd_play.specs.Shadowed.{IsRelayed}
+use Rattle.vd_play.proofs.Bounds.{at_index, bounded, flat_more}
+use Rattle.vd_play.proofs.Each.{stage_read, all_but_one}
 use Rattle.vd_play.proofs.Keep.{prefix_of}
 use Rattle.vd_play.proofs.Lists.{prefix_through}
-use Rattle.vd_play.proofs.Passed.{pass_events, all_chains}
+use Rattle.vd_play.proofs.Moves.{before_prefix, within_prefix}
+use Rattle.vd_play.proofs.Parts.{drop_prefix, own_part, pass_part, begun_within}
+use Rattle.vd_play.proofs.Passed.{pass_events}
 use Rattle.vd_play.proofs.Returns.{some_returned}
+use Rattle.vd_play.proofs.ShadowCut.{given_shadowing, shadow_prefix}
 
 front_of : {A B : Type 0} (f : A → List B) (xs : List A) (k : ℕ) → IsPrefix (flat_map f (take k xs)) (flat_map f xs)
 front_of f xs k = (flat_map f (drop k xs), sym (flat_map-append f (take k xs) (drop k xs)) ∙ ap (flat_map f) (take-append-drop k xs))
@@ -27,40 +48,135 @@ front_of f xs k = (flat_map f (drop k xs), sym (flat_map-append f (take k xs) (d
 attach_front : {A : Type 0} (xs : List A) (a b : A) → IsPrefix (xs ++ a ∷ []) (xs ++ a ∷ b ∷ [])
 attach_front xs a b = (b ∷ [], append_assoc xs (a ∷ []) (b ∷ []))
 
-module _ {D E G X C : Type 0} (s : Setting D E G X C) (law : IsLawful s) (plan : Plan) (q : ℕ) where
-  cut_kept : (words : RingWords) (guest : G) (device : X) (v : DriverView) (w : DeviceView) → IsKept s plan q words guest device v w
-      → IsPrefix (s.party.events device) (journal_events s.device s.layout plan q) → IsCut s plan q guest device
-  cut_kept words guest device v w p events =
-      let k = p.driven in
-      let back = some_returned v.frame v.done w.done (lens_of (s.party.begun device)) (s.guest.returned guest)
-      (law.layout.lists words.words v w k.ring) p.account.given
-      (law.guest.returned guest v (queue_script plan q) k.part.holds k.part.script k.queue.plain) in
-      record {
-        events = events;
-        chains = subst (λ zs. IsPrefix (chains_of (s.party.begun device)) zs) (sym (all_chains plan q k.queue.chained k.queue.passing))
-            (subst (λ zs. IsPrefix zs (queue_chains plan q)) (sym p.account.chains) (prefix_of s law plan q words guest v w k));
-        each = p.account.each;
-        once = back.0;
-        returned = back.1;
-      }
+-- the events of the epochs before, and the first of the epoch's two
+begun_front : {E : Type 0} (e : DeviceModel E) (l : LayoutModel) (plan : Plan) (q k : ℕ) (ep : Epoch) (a b : Event)
+    → slice_get (queue_epochs plan q) k ≡ Some ep → epoch_events e l plan q ep ≡ a ∷ b ∷ []
+    → IsPrefix (events_before e l plan q k ++ a ∷ []) (journal_events e l plan q)
+begun_front e l plan q k ep a b is two =
+    let more : events_before e l plan q (k + 1) ≡ events_before e l plan q k ++ a ∷ b ∷ [] =
+    flat_more (epoch_events e l plan q) (queue_epochs plan q) k ep is ∙ ap (λ zs. events_before e l plan q k ++ zs) two in
+    prefix_through (events_before e l plan q k ++ a ∷ []) (events_before e l plan q (k + 1)) (journal_events e l plan q)
+    (subst (λ zs. IsPrefix (events_before e l plan q k ++ a ∷ []) zs) (sym more) (attach_front (events_before e l plan q k) a b))
+    (front_of (epoch_events e l plan q) (queue_epochs plan q) (k + 1))
 
-  pub cut_stopped : (k r : ℕ) (words : RingWords) (end : E) (guest : G) (device : X) → IsStopped s plan q k r words end guest device
-      → IsCut s plan q guest device
-  cut_stopped k r words end guest device p =
-      cut_kept words guest device p.view p.device_view p.kept
+shadow_events : {E : Type 0} (e : DeviceModel E) (l : LayoutModel) (plan : Plan) (q k : ℕ) (ep : Epoch) → ep.mode ≡ Shadow
+    → ep.renewed ≡ false → ep.number ≡ k → epoch_events e l plan q ep ≡ shadow_attach l plan q k ep.first ∷ epoch_suspend e l plan q ep ∷ []
+shadow_events e l plan q k ep m r n = rw (r, m, n) refl
+
+module _ {D E G X C : Type 0} (s : Setting D E G X C) (law : IsLawful s) (plan : Plan) (q : ℕ) where
+  cut_driven : (words : RingWords) (guest : G) (device : X) (v : DriverView) (w : DeviceView) → IsDriven s plan q words guest v w
+      → All (HasGiven (lens_of (s.party.begun device))) (gives w.done) → All IsBegun (s.party.begun device)
+      → IsPrefix (s.party.events device) (journal_events s.device s.layout plan q)
+      → IsPrefix (chains_of (s.party.begun device)) (journal_chains plan q) → IsCut s plan q guest device
+  cut_driven words guest device v w k given each events chains =
+      let back = some_returned v.frame v.done w.done (lens_of (s.party.begun device)) (s.guest.returned guest)
+      (law.layout.lists words.words v w k.ring) given
+      (law.guest.returned guest v (queue_script plan q) k.part.holds k.part.script k.queue.plain) in
+      record { events = events; chains = chains; each = each; once = back.0; returned = back.1 }
+
+  pub cut_stopped : (k r : ℕ) (words : RingWords) (end : E) (relayed : ℕ) (guest : G) (device : X)
+      → IsStopped s plan q k r words end relayed guest device → IsCut s plan q guest device
+  cut_stopped k r words end relayed guest device p =
+      let begun : List Begun = s.party.begun device in
+      let all : chains_of begun ≡ chains_before plan q k =
+      ap chains_of (sym (take_all (begun_at plan q k) begun (omega (arith, p.rests.begun)))) ∙ p.kept.account.before in
+      cut_driven words guest device p.view p.device_view p.kept.driven p.kept.given p.kept.account.each
       (subst (λ zs. IsPrefix zs (journal_events s.device s.layout plan q)) (sym p.rests.events)
       (front_of (epoch_events s.device s.layout plan q) (queue_epochs plan q) k))
+      (subst (λ zs. IsPrefix zs (journal_chains plan q)) (sym all) (before_prefix plan q k))
 
-  pub cut_still : (k : ℕ) (words : RingWords) (still : Option E) (guest : G) (device : X)
-      → StoppedWith s plan q k words still guest device → IsCut s plan q guest device
-  cut_still k words None guest device p = absurd p
-  cut_still k words (Some end) guest device p = cut_stopped k 0 words end guest device p
+  -- in an epoch of the mode pass its device has begun those before the epoch, and the first ones of the epoch's
+  pass_prefix : (k : ℕ) (words : RingWords) (guest : G) (device : X) (v : DriverView) (w : DeviceView)
+      → IsKept s plan q k words guest device v w → Serves s plan q k device w
+      → IsPrefix (chains_of (s.party.begun device)) (journal_chains plan q)
+  pass_prefix k words guest device v w p serves =
+      let begun : List Begun = s.party.begun device in
+      let n : ℕ = begun_at plan q k in
+      let b = bounded (length (queue_chains plan q)) (queue_epochs plan q) k p.driven.queue.chained serves.epoch in
+      let mode = (p.driven.queue.numbered.at k b.epoch b.is).1 ∙ serves.mode in
+      let on : IsServing begun serves.by w.done = law.party.serves device w serves.by serves.holds serves.attached serves.for_data in
+      let xs : List (List Piece) = drop n (takes w.done) in
+      let taken : chains_of (drop n begun) ≡ xs =
+      ap (λ j. chains_of (drop j begun)) (sym serves.from.0) ∙ on.chains ∙ ap (λ j. drop j (takes w.done)) serves.from.1 in
+      let many : length xs ≡ length begun - n =
+      sym (ap length taken) ∙ length-map (drop n begun) (λ (z : Begun). z.chain) ∙ length-drop n begun in
+      let low : n ≤ length (takes w.done) = omega (arith, on.as_many, on.after, serves.from.0, serves.from.1) in
+      let front : IsPrefix xs (drop n (queue_chains plan q)) =
+      drop_prefix n (takes w.done) (queue_chains plan q) (prefix_of s law plan q words guest v w p.driven) low in
+      let own = own_part plan q n b.epoch xs (sym b.first) front
+      (omega (arith, many, on.few, serves.from.0, serves.to, b.first, b.end)) in
+      let here : chains_of (drop n begun) ≡ take (length xs) (epoch_chains plan q b.epoch) =
+      taken ∙ own ∙ ap (take (length xs)) (pass_part plan q b.epoch mode) in
+      subst (λ zs. IsPrefix zs (journal_chains plan q)) (sym (begun_within plan q k n (length xs) b.epoch begun p.account.before here))
+      (within_prefix plan q k (length xs) b.epoch b.is)
+
+  cut_passing : (k r : ℕ) (words : RingWords) (relayed : ℕ) (guest : G) (device : X)
+      → IsPassing s plan q k r words relayed guest device → IsCut s plan q guest device
+  cut_passing k r words relayed guest device p =
+      let e = s.device in
+      let l = s.layout in
+      let b = bounded (length (queue_chains plan q)) (queue_epochs plan q) k p.kept.driven.queue.chained p.serves.epoch in
+      let at = p.kept.driven.queue.numbered.at k b.epoch b.is in
+      let two : epoch_events e l plan q b.epoch ≡ attach_event e l plan q (begun_at plan q k) ∷ suspend_event e l plan q b.epoch.end ∷ [] =
+      pass_events e l plan q b.epoch (at.1 ∙ p.serves.mode) at.2
+      ∙ ap (λ n. attach_event e l plan q n ∷ suspend_event e l plan q b.epoch.end ∷ []) b.first in
+      cut_driven words guest device p.view p.device_view p.kept.driven p.kept.given p.kept.account.each
+      (subst (λ zs. IsPrefix zs (journal_events e l plan q)) (sym p.serves.events)
+      (begun_front e l plan q k b.epoch (attach_event e l plan q (begun_at plan q k)) (suspend_event e l plan q b.epoch.end) b.is two))
+      (pass_prefix k words guest device p.view p.device_view p.kept p.serves)
+
+  -- ---- with a relay
+
+  cut_relayed : (k : ℕ) (words : RingWords) (shadow_words : List ℕ) (r : State E D) (c : Counts) (guest : G) (device : X) (by : Attached)
+      (v : DriverView) (w : DeviceView) (sv : DriverView) (sw : DeviceView)
+      → IsRelayed s plan q k words shadow_words r c guest device by v w sv sw
+      → IsPrefix (s.party.events device) (journal_events s.device s.layout plan q) → IsCut s plan q guest device
+  cut_relayed k words shadow_words r c guest device by v w sv sw p events =
+      cut_driven words guest device v w p.driven (given_shadowing s law plan q k words shadow_words r c guest device by v w sv sw p)
+      p.account.each events (shadow_prefix s law plan q k words shadow_words r c guest device by v w sv sw p)
+
+  cut_shadowing : (k n : ℕ) (words : RingWords) (shadow_words : List ℕ) (r : State E D) (c : Counts) (relayed : ℕ) (guest : G) (device : X)
+      → IsShadowing s plan q k n words shadow_words r c relayed guest device → IsCut s plan q guest device
+  cut_shadowing k n words shadow_words r c relayed guest device p =
+      let e = s.device in
+      let l = s.layout in
+      let b = bounded (length (queue_chains plan q)) (queue_epochs plan q) k p.kept.driven.queue.chained p.kept.epoch in
+      let at = p.kept.driven.queue.numbered.at k b.epoch b.is in
+      let two : epoch_events e l plan q b.epoch ≡ shadow_attach l plan q k (begun_at plan q k) ∷ epoch_suspend e l plan q b.epoch ∷ [] =
+      shadow_events e l plan q k b.epoch (at.1 ∙ p.kept.mode) at.2 at.0
+      ∙ ap (λ j. shadow_attach l plan q k j ∷ epoch_suspend e l plan q b.epoch ∷ []) b.first in
+      cut_relayed k words shadow_words r c guest device p.by p.view p.device_view p.shadow_view p.shadow_device_view p.kept
+      (subst (λ zs. IsPrefix zs (journal_events e l plan q)) (sym p.serves.events)
+      (begun_front e l plan q k b.epoch (shadow_attach l plan q k (begun_at plan q k)) (epoch_suspend e l plan q b.epoch) b.is two))
+
+  cut_winding : (k n : ℕ) (words : RingWords) (shadow_words : List ℕ) (r : State E D) (c : Counts) (relayed : ℕ) (guest : G) (device : X)
+      → IsWinding s plan q k n words shadow_words r c relayed guest device → IsCut s plan q guest device
+  cut_winding k n words shadow_words r c relayed guest device p =
+      cut_relayed k words shadow_words r c guest device p.by p.view p.device_view p.shadow_view p.shadow_device_view p.kept
+      (subst (λ zs. IsPrefix zs (journal_events s.device s.layout plan q)) (sym p.served.events)
+      (front_of (epoch_events s.device s.layout plan q) (queue_epochs plan q) (k + 1)))
+
+  cut_relaying : (on : Bool) (k n : ℕ) (words : RingWords) (shadow_words : List ℕ) (r : State E D) (c : Counts) (relayed : ℕ) (guest : G)
+      (device : X) → RelayingBy on s plan q k n words shadow_words r c relayed guest device → IsCut s plan q guest device
+  cut_relaying false k n words shadow_words r c relayed guest device p =
+      cut_shadowing k n words shadow_words r c relayed guest device p
+  cut_relaying true k n words shadow_words r c relayed guest device p = cut_winding k n words shadow_words r c relayed guest device p
+
+-- ---- a lane
+
+module _ {L D E G X C : Type 0} (s : Setting D E G X C) (law : IsLawful s) (plan : Plan) (q : ℕ) where
+  pub cut_still : (k : ℕ) (words : RingWords) (still : Option E) (relaying : Option (Relaying L D E)) (relayed : ℕ) (guest : G) (device : X)
+      → StoppedWith s plan q k words still relaying relayed guest device → IsCut s plan q guest device
+  cut_still k words None relaying relayed guest device p = absurd p
+  cut_still k words (Some end) (Some x) relayed guest device p = absurd p
+  cut_still k words (Some end) None relayed guest device p = cut_stopped s law plan q k 0 words end relayed guest device p
 
   -- a refused attach has changed nothing of it
-  pub cut_refused : (k : ℕ) (words : RingWords) (still : Option E) (guest : G) (device device' : X) → IsRefused s.party device device'
-      → StoppedWith s plan q k words still guest device → IsCut s plan q guest device'
-  cut_refused k words still guest device device' r p =
-      let c : IsCut s plan q guest device = cut_still k words still guest device p in
+  pub cut_refused : (k : ℕ) (words : RingWords) (still : Option E) (relaying : Option (Relaying L D E)) (relayed : ℕ) (guest : G)
+      (device device' : X) → IsRefused s.party device device' → StoppedWith s plan q k words still relaying relayed guest device
+      → IsCut s plan q guest device'
+  cut_refused k words still relaying relayed guest device device' r p =
+      let c : IsCut s plan q guest device = cut_still k words still relaying relayed guest device p in
       record {
         events = subst (λ zs. IsPrefix zs (journal_events s.device s.layout plan q)) (sym r.events) c.events;
         chains = subst (λ (bs : List Begun). IsPrefix (chains_of bs) (journal_chains plan q)) (sym r.begun) c.chains;
@@ -69,32 +185,32 @@ module _ {D E G X C : Type 0} (s : Setting D E G X C) (law : IsLawful s) (plan :
         returned = subst (λ (bs : List Begun). All (HasLen (lens_of bs)) (s.guest.returned guest)) (sym r.begun) c.returned;
       }
 
-  cut_passing : (k r : ℕ) (words : RingWords) (guest : G) (device : X) → IsPassing s plan q k r words guest device
-      → IsCut s plan q guest device
-  cut_passing k r words guest device p =
-      let e = s.device in
-      let l = s.layout in
-      let b = bounded (length (queue_chains plan q)) (queue_epochs plan q) k p.kept.driven.queue.chained p.serves.epoch in
-      let mode = p.kept.driven.queue.passing.at k b.epoch b.is in
-      let whole : epoch_events e l plan q b.epoch ≡ attach_event e l plan q (begun_at plan q k) ∷ suspend_event e l plan q b.epoch.end
-      ∷ [] = pass_events e l plan q b.epoch mode.0 mode.1
-      ∙ ap (λ n. attach_event e l plan q n ∷ suspend_event e l plan q b.epoch.end ∷ []) b.first in
-      let more : events_before e l plan q (k + 1) ≡ events_before e l plan q k ++ attach_event e l plan q (begun_at plan q k)
-      ∷ suspend_event e l plan q b.epoch.end ∷ [] = flat_more (epoch_events e l plan q) (queue_epochs plan q) k b.epoch b.is
-      ∙ ap (λ zs. events_before e l plan q k ++ zs) whole in
-      let front : IsPrefix (events_before e l plan q k ++ attach_event e l plan q (begun_at plan q k) ∷ [])
-      (journal_events e l plan q) = prefix_through _ (events_before e l plan q (k + 1)) _
-      (subst (λ zs. IsPrefix (events_before e l plan q k ++ attach_event e l plan q (begun_at plan q k) ∷ []) zs) (sym more)
-      (attach_front (events_before e l plan q k) (attach_event e l plan q (begun_at plan q k))
-      (suspend_event e l plan q b.epoch.end))) (front_of (epoch_events e l plan q) (queue_epochs plan q) (k + 1)) in
-      cut_kept words guest device p.view p.device_view p.kept
-      (subst (λ zs. IsPrefix zs (journal_events e l plan q)) (sym p.serves.events) front)
+  pub cut_epoch : (on : Bool) (k r : ℕ) (words : RingWords) (still : Option E) (relaying : Option (Relaying L D E)) (relayed : ℕ)
+      (guest : G) (device : X) → InEpochWith s plan q on k r words still relaying relayed guest device → IsCut s plan q guest device
+  cut_epoch true k r words None None relayed guest device p = cut_passing s law plan q k r words relayed guest device p
+  cut_epoch true k r words None (Some x) relayed guest device p =
+      cut_relaying s law plan q x.lane.relay.state.winding k r words x.words.words x.lane.relay.state x.lane.relay.counts relayed guest
+      device p
+  cut_epoch false k r words None None relayed guest device p = absurd p
+  cut_epoch false k r words None (Some x) relayed guest device p = absurd p
+  cut_epoch on k r words (Some end) None relayed guest device p = cut_stopped s law plan q (k + 1) r words end relayed guest device p
+  cut_epoch on k r words (Some end) (Some x) relayed guest device p = absurd p
 
-  pub cut_epoch : (on : Bool) (k r : ℕ) (words : RingWords) (still : Option E) (guest : G) (device : X)
-      → InEpochWith s plan q on k r words still guest device → IsCut s plan q guest device
-  cut_epoch true k r words None guest device p = cut_passing k r words guest device p
-  cut_epoch false k r words None guest device p = absurd p
-  cut_epoch on k r words (Some end) guest device p = cut_stopped (k + 1) r words end guest device p
+-- the attach of lane i was refused, behind those that have begun the epoch
+pub cut_bench : {L D E G X C : Type 0} (s : Setting D E G X C) (law : IsLawful s) (plan : Plan) (k i : ℕ) (lanes : List (Lane L D E))
+    (bench : Bench G X) (lane lane' : Lane L D E) (device device' : X) → i < length bench.guests.items
+    → EachLane (Stage i (λ q a b x. InEpoch s plan q true k 0 a b x) (λ q a b x. Stopped s plan q k a b x)) lanes bench.guests.items
+    bench.devices.items → slice_get lanes i ≡ Some lane → slice_get bench.devices.items i ≡ Some device → IsRefused s.party device device'
+    → EachLane (λ q a b x. IsCut s plan q b x) (set lanes i lane') bench.guests.items (set bench.devices.items i device')
+cut_bench s law plan k i lanes bench lane lane' device device' there each hl hx refused =
+    let g = at_index bench.guests.items i there in
+    all_but_one (λ q a b x. InEpoch s plan q true k 0 a b x) (λ q a b x. Stopped s plan q k a b x) (λ q a b x. IsCut s plan q b x) i
+    lanes bench.guests.items bench.devices.items lane' g.0 device' g.1 each
+    (λ q a b x p. cut_epoch s law plan q true k 0 a.words a.still a.relaying a.relayed b x p.held)
+    (λ q a b x p. cut_still s law plan q k a.words a.still a.relaying a.relayed b x p.held)
+    (cut_refused s law plan i k lane.words lane.still lane.relaying lane.relayed g.0 device device' refused
+    (stage_read (λ q a b x. InEpoch s plan q true k 0 a b x) (λ q a b x. Stopped s plan q k a b x) i lanes bench.guests.items
+    bench.devices.items lane g.0 device each hl g.1 hx).held)
 
 pub if_err_by : {T F : Type 0} (r : Result T F) (P Q : F → Type 0) → IsErrAnd r P → ((f : F) → P f → Q f) → IfErr r Q
 if_err_by (Ok x) P Q is h = tt

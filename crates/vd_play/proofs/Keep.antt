@@ -1,7 +1,6 @@
 -- What single accesses keep of a lane.
 use Rattle.std.proofs.Common.{◌≡◌, ℕ, ◌≤◌, Some, List, length, drop, take, sym, ◌∙◌, ap, subst, arith}
 use Rattle.std.specs.List.{All}
-use Rattle.std.proofs.lemmas.List.{length-map}
 use mathlib.Core.List.{IsPrefix}
 use Rattle.vd_model.specs.declared.record.Begun.{Begun}
 use Rattle.vd_words.specs.Plain.{RingWords}
@@ -10,14 +9,15 @@ use Rattle.vd_ring.specs.declared.device.DeviceView.{DeviceView}
 use Rattle.vd_ring.specs.History.{offers, takes, gives}
 use Rattle.vd_layout.specs.Device.{IsStill}
 use Rattle.vd_bus.specs.declared.device.Attached.{Attached}
-use Rattle.vd_bus.specs.Device.{IsServing, IsJournalled, chains_of}
+use Rattle.vd_bus.specs.Device.{IsServing, IsServed, IsBegun, IsJournalled, chains_of, lens_of}
 use Rattle.vd_bus.specs.Orders.{IsData}
 use Rattle.vd_machine.specs.File.{Plan}
+use Rattle.vd_play.specs.Before.{begun_at}
 use Rattle.vd_play.specs.Journal.{queue_script, queue_chains, guest_frame, base_at}
-use Rattle.vd_play.specs.Lane.{IsDriven, Account, IsKept}
+use Rattle.vd_play.specs.Lane.{IsDriven, Account, IsReserved, HasGiven, IsKept}
 use Rattle.vd_play.specs.Setting.{Setting, IsLawful}
-use Rattle.vd_play.specs.Turns.{GuestRun, DeviceRun}
-use Rattle.vd_play.proofs.Lists.{prefix_at, prefix_through, prefix_take, chains_joined, begun_joined, given_joined}
+use Rattle.vd_turns.specs.Turns.{GuestRun, DeviceRun}
+use Rattle.vd_play.proofs.Lists.{prefix_at, prefix_through, prefix_take, same_front, length_le, begun_joined, given_joined}
 
 module _ {D E G X C : Type 0} (s : Setting D E G X C) (law : IsLawful s) (plan : Plan) (q : ℕ) where
   -- after some steps of the guest
@@ -40,60 +40,70 @@ module _ {D E G X C : Type 0} (s : Setting D E G X C) (law : IsLawful s) (plan :
       → s.layout.ring words'.words v w' → IsDriven s plan q words guest v w → IsDriven s plan q words' guest v w'
   driven_device words words' guest v w w' same ring k = record { queue = k.queue; numbered = same ∙ k.numbered; ring = ring; part = k.part }
 
-  pub kept_guest : (made : ℕ) (words words' : RingWords) (guest guest' : G) (device : X) (v : DriverView) (w : DeviceView)
-      → words'.ring ≡ words.ring → IsKept s plan q words guest device v w
-      → (r : GuestRun s.layout s.guest words'.words v w guest guest' made) → IsKept s plan q words' guest' device r.view w
-  kept_guest made words words' guest guest' device v w same k r =
-      record {
-        driven = driven_guest made words words' guest guest' v w same k.driven r;
-        account = k.account;
-        window = k.window;
-        room =
-            k.room;
-      }
-
-  -- what was taken and given since the attach is in the journal
-  account_device : (device device' : X) (w w' : DeviceView) (by : Attached) → s.party.holds device w → s.party.attached device ≡ Some by
-      → IsData by.queue → by.from ≡ by.at → Account (s.party.begun device) w
-      → IsPrefix (s.party.begun device) (s.party.begun device') → IsPrefix (takes w.done) (takes w'.done)
-      → IsPrefix (gives w.done) (gives w'.done) → IsServing (s.party.begun device') by w'.done → Account (s.party.begun device') w'
-  account_device device device' w w' by holds is for from a grows more_takes more_gives new =
-      let old : IsServing (s.party.begun device) by w.done = law.party.serves device w by holds is for in
-      let chains : chains_of (drop by.at (s.party.begun device')) ≡ drop by.at (takes w'.done) =
-      new.chains ∙ ap (λ n. drop n (takes w'.done)) from in
-      let given : All (IsJournalled (s.party.begun device') by.at by.at) (drop by.at (gives w'.done)) =
-      subst (λ n. All (IsJournalled (s.party.begun device') by.at n) (drop n (gives w'.done))) from new.given in
-      record {
-        chains = chains_joined (s.party.begun device) (s.party.begun device') (takes w.done) (takes w'.done) by.at grows more_takes
-            a.chains old.after chains;
-        each = begun_joined (s.party.begun device) (s.party.begun device') by.at grows old.after a.each new.each;
-        given = given_joined (s.party.begun device) (s.party.begun device') (gives w.done) (gives w'.done) by.at grows more_gives
-            (omega (arith, old.before, from)) a.given given;
-      }
-
-  pub kept_device : (made : ℕ) (words words' : RingWords) (guest : G) (device device' : X) (v : DriverView) (w : DeviceView)
-      (by : Attached) → words'.ring ≡ words.ring → s.party.holds device w → s.party.attached device ≡ Some by → IsData by.queue
-      → by.from ≡ by.at
-      → IsKept s plan q words guest device v w → (r : DeviceRun s.layout s.party words'.words v w device device' made)
-      → IsKept s plan q words' guest device' v r.view
-  kept_device made words words' guest device device' v w by same holds is for from k r = record {
-    driven = driven_device words words' guest v w r.view same r.ring k.driven;
-    account = account_device device device' w r.view by holds is for from k.account r.served.grows r.grows.takes r.grows.gives
-        (law.party.serves device' r.view by r.holds (r.served.attached ∙ is) for);
-    window = r.served.window ∙ k.window;
-    room = omega (arith, k.room, r.served.room.1);
+  pub kept_guest : (k made : ℕ) (words words' : RingWords) (guest guest' : G) (device : X) (v : DriverView) (w : DeviceView)
+      → words'.ring ≡ words.ring → IsKept s plan q k words guest device v w
+      → (r : GuestRun s.layout s.guest words'.words v w guest guest' made) → IsKept s plan q k words' guest' device r.view w
+  kept_guest k made words words' guest guest' device v w same c r = record {
+    driven = driven_guest made words words' guest guest' v w same c.driven r;
+    account = c.account;
+    given = c.given;
+    reserved = c.reserved;
   }
 
+  -- more was begun behind what the account has
+  pub account_grows : (k at : ℕ) (begun begun' : List Begun) → Account plan q k begun → IsPrefix begun begun' → at ≤ length begun
+      → All IsBegun (drop at begun') → Account plan q k begun'
+  account_grows k at begun begun' a grows le new = record {
+    before = ap chains_of (same_front (begun_at plan q k) begun begun' grows a.many) ∙ a.before;
+    many = omega (arith, a.many, length_le begun begun' grows);
+    each = begun_joined begun begun' at grows le a.each new;
+  }
+
+  -- after some steps of the device, on any ring
+  pub reserved_device : (device device' : X) → IsReserved s plan q device → IsServed s.party device device' → IsReserved s plan q device'
+  reserved_device device device' c served = record {
+    window = served.window ∙ c.window;
+    room = omega (arith, c.room, served.room.1);
+  }
+
+  -- what was given since the attach is in the journal
+  given_device : (device device' : X) (w w' : DeviceView) (by : Attached) → by.from ≡ by.at
+      → IsServing (s.party.begun device) by w.done → IsPrefix (s.party.begun device) (s.party.begun device')
+      → IsPrefix (gives w.done) (gives w'.done) → IsServing (s.party.begun device') by w'.done
+      → All (HasGiven (lens_of (s.party.begun device))) (gives w.done)
+      → All (HasGiven (lens_of (s.party.begun device'))) (gives w'.done)
+  given_device device device' w w' by from old grows more new given =
+      let now : All (IsJournalled (s.party.begun device') by.at by.at) (drop by.at (gives w'.done)) =
+      subst (λ n. All (IsJournalled (s.party.begun device') by.at n) (drop n (gives w'.done))) from new.given in
+      given_joined (s.party.begun device) (s.party.begun device') (gives w.done) (gives w'.done) by.at grows more
+      (omega (arith, old.before, from)) given now
+
+  pub kept_device : (k made : ℕ) (words words' : RingWords) (guest : G) (device device' : X) (v : DriverView) (w : DeviceView)
+      (by : Attached) → words'.ring ≡ words.ring → s.party.holds device w → s.party.attached device ≡ Some by → IsData by.queue
+      → by.from ≡ by.at
+      → IsKept s plan q k words guest device v w → (r : DeviceRun s.layout s.party words'.words v w device device' made)
+      → IsKept s plan q k words' guest device' v r.view
+  kept_device k made words words' guest device device' v w by same holds is for from c r =
+      let old : IsServing (s.party.begun device) by w.done = law.party.serves device w by holds is for in
+      let new : IsServing (s.party.begun device') by r.view.done =
+      law.party.serves device' r.view by r.holds (r.served.attached ∙ is) for in
+      record {
+        driven = driven_device words words' guest v w r.view same r.ring c.driven;
+        account = account_grows k by.at (s.party.begun device) (s.party.begun device') c.account r.served.grows old.after new.each;
+        given = given_device device device' w r.view by from old r.served.grows r.grows.gives new c.given;
+        reserved = reserved_device device device' c.reserved r.served;
+      }
+
   -- after the device's attach or suspension
-  pub kept_still : (words : RingWords) (guest : G) (device device' : X) (v : DriverView) (w : DeviceView)
+  pub kept_still : (k : ℕ) (words : RingWords) (guest : G) (device device' : X) (v : DriverView) (w : DeviceView)
       → s.party.begun device' ≡ s.party.begun device → s.party.window device' ≡ s.party.window device
       → s.party.chain_room device ≤ s.party.chain_room device'
-      → IsKept s plan q words guest device v w → IsKept s plan q words guest device' v w
-  kept_still words guest device device' v w same window room k = record {
-    driven = k.driven;
-    account = subst (λ (bs : List Begun). Account bs w) (sym same) k.account;
-    window = window ∙ k.window;
-    room = omega (arith, k.room, room, ap length same);
+      → IsKept s plan q k words guest device v w → IsKept s plan q k words guest device' v w
+  kept_still k words guest device device' v w same window room c = record {
+    driven = c.driven;
+    account = subst (λ (bs : List Begun). Account plan q k bs) (sym same) c.account;
+    given = subst (λ (bs : List Begun). All (HasGiven (lens_of bs)) (gives w.done)) (sym same) c.given;
+    reserved = record { window = window ∙ c.reserved.window; room = omega (arith, c.reserved.room, room, ap length same) };
   }
 
   pub prefix_of : (words : RingWords) (guest : G) (v : DriverView) (w : DeviceView) → IsDriven s plan q words guest v w
@@ -106,8 +116,10 @@ module _ {D E G X C : Type 0} (s : Setting D E G X C) (law : IsLawful s) (plan :
       → length (takes w.done) ≡ n → takes w.done ≡ take n (queue_chains plan q)
   taken_of words guest v w n k is = prefix_at (takes w.done) (queue_chains plan q) n (prefix_of words guest v w k) is
 
-  pub begun_of : (begun : List Begun) (w : DeviceView) → Account begun w → length begun ≡ length (takes w.done)
-  begun_of begun w a = sym (length-map begun (λ b. b.chain)) ∙ ap length a.chains
+  -- while a device serves the ring from where it began, it has begun all chains that were taken
+  pub begun_of : (begun : List Begun) (by : Attached) (w : DeviceView) → by.from ≡ by.at → IsServing begun by w.done
+      → length begun ≡ length (takes w.done)
+  begun_of begun by w from serves = omega (arith, from, serves.as_many)
 
   -- a still end's base is that of the chains taken
   pub base_of : (words : RingWords) (end : E) (guest : G) (v : DriverView) (w : DeviceView) (n : ℕ) → IsDriven s plan q words guest v w

@@ -1,18 +1,22 @@
 -- Lists that grow at their end.
-use Rattle.std.proofs.Common.{◌≡◌, ℕ, zero, suc, ◌+◌, ◌-◌, ◌≤◌, List, [], ◌∷◌, ◌++◌, length, map, take, drop, Option, Some, slice_get, sym, ◌∙◌, ap, subst, arith, length-append}
+use Rattle.std.proofs.Common.{◌≡◌, ℕ, zero, suc, ◌+◌, ◌-◌, ◌≤◌, List, [], ◌∷◌, ◌++◌, length, map, take, drop, Option, Some, None, slice_get, refl, sym, ◌∙◌, ap, subst, arith, length-append}
 use Rattle.std.specs.List.{All}
-use Rattle.std.proofs.lemmas.List.{take_all, append-nil, append_assoc, map-append, length-map, take-map, drop-map, take-append-drop, take-append-le}
+use Rattle.std.specs.Option.{option_map}
+use Rattle.std.proofs.lemmas.List.{take_all, append-nil, append_assoc, map-append, take-append-drop, take-append-le}
 use Rattle.std.proofs.lemmas.List.Elements.{All-append, All-take, All-weaker, All-same}
 use Rattle.std.proofs.lemmas.Option.{slice_get_within, get_or_from_slice_get}
 use mathlib.Core.List.{IsPrefix}
-use Rattle.vd_model.specs.declared.chain.Piece.{Piece}
 use Rattle.vd_model.specs.declared.record.Begun.{Begun}
 use Rattle.vd_ring.specs.declared.frame.Used.{Used}
-use Rattle.vd_bus.specs.Device.{IsJournalled, IsBegun, chains_of, lens_of}
+use Rattle.vd_bus.specs.Device.{IsJournalled, IsBegun, lens_of}
 use Rattle.vd_play.specs.Lane.{HasGiven}
 
 pub some_same : {A : Type 0} (x y : A) (o : Option A) → o ≡ Some x → o ≡ Some y → x ≡ y
 some_same x y o p q = cc
+
+pub found_by : {A B : Type 0} (f : A → B) (o : Option A) (y : B) → option_map f o ≡ Some y → (x : A) × (o ≡ Some x) × (f x ≡ y)
+found_by f None y e = absurd (cc)
+found_by f (Some x) y e = (x, refl, cc)
 
 pub All-at : {A : Type 0} (P : A → Type 0) (xs : List A) (k : ℕ) (x : A) → slice_get xs k ≡ Some x → All P xs → P x
 All-at P xs k x is all = subst P (get_or_from_slice_get xs k x x is) (all k x (slice_get_within xs k x is))
@@ -25,7 +29,7 @@ slice_get_more (y ∷ xs) ys (suc k) x h = slice_get_more xs ys k x h
 pub length_le : {A : Type 0} (xs ys : List A) → IsPrefix xs ys → length xs ≤ length ys
 length_le xs ys p = omega (arith, length-append xs p.0, ap length p.1)
 
-same_front : {A : Type 0} (n : ℕ) (xs ys : List A) → IsPrefix xs ys → n ≤ length xs → take n ys ≡ take n xs
+pub same_front : {A : Type 0} (n : ℕ) (xs ys : List A) → IsPrefix xs ys → n ≤ length xs → take n ys ≡ take n xs
 same_front n xs ys p le = ap (λ zs. take n zs) (sym p.1) ∙ take-append-le n xs p.0 le
 
 pub prefix_at : {A : Type 0} (xs ys : List A) (n : ℕ) → IsPrefix xs ys → length xs ≡ n → xs ≡ take n ys
@@ -48,17 +52,6 @@ prefix_whole xs ys p same = elim p.0 as (λ t. xs ++ t ≡ ys → xs ≡ ys) [
 ] p.1
 
 -- ---- what a device has begun and given
-
-pub chains_joined : (bs bs' : List Begun) (t t' : List (List Piece)) (at : ℕ) → IsPrefix bs bs' → IsPrefix t t' → chains_of bs ≡ t
-    → at ≤ length bs → chains_of (drop at bs') ≡ drop at t' → chains_of bs' ≡ t'
-chains_joined bs bs' t t' at p q same le rest =
-    let f : Begun → List Piece = λ b. b.chain in
-    let len : at ≤ length t = omega (arith, length-map bs f, ap length same) in
-    let front : take at (map f bs') ≡ take at t' = take-map f at bs' ∙ ap (λ zs. map f zs) (same_front at bs bs' p le)
-    ∙ sym (take-map f at bs) ∙ ap (λ zs. take at zs) same ∙ sym (same_front at t t' q len) in
-    let back : drop at (map f bs') ≡ drop at t' = drop-map f at bs' ∙ rest in
-    sym (take-append-drop at (map f bs')) ∙ ap (λ zs. zs ++ drop at (map f bs')) front ∙ ap (λ zs. take at t' ++ zs) back
-    ∙ take-append-drop at t'
 
 pub begun_joined : (bs bs' : List Begun) (at : ℕ) → IsPrefix bs bs' → at ≤ length bs → All IsBegun bs → All IsBegun (drop at bs')
     → All IsBegun bs'

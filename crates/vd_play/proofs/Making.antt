@@ -3,8 +3,6 @@ use Rattle.std.proofs.Common.{◌≡◌, ℕ, ◌+◌, ◌*◌, ◌<◌, ◌≤�
 use Rattle.std.specs.List.{All}
 use Rattle.std.proofs.lemmas.List.Elements.{All-nil, All-head, All-tail, All-append, All-replicate}
 use Rattle.vd_model.specs.Chains.{IsChain}
-use Rattle.vd_model.specs.declared.base.Mode.TheVariants.{Pass}
-use Rattle.vd_model.specs.declared.record.Begun.{Begun}
 use Rattle.vd_model.specs.declared.record.Run.{Run}
 use Rattle.vd_model.specs.declared.record.Script.{Script}
 use Rattle.vd_words.specs.Plain.{RingWords}
@@ -20,15 +18,19 @@ use Rattle.vd_bus.specs.Scripts.{run_chains}
 use Rattle.vd_machine.specs.File.{Plan}
 use Rattle.vd_machine.specs.Queues.{script, most_pieces, are_scripts, all_lie, few}
 use Rattle.vd_machine.specs.Rings.{is_lawful_size}
+use Rattle.vd_machine.specs.Switches.{are_switches}
 use Rattle.vd_play.proofs.InMap.{chain_in_map}
 use Rattle.vd_machine.proofs.Facts.{size_bounds, few_queues, queue_is_short, queue_has_no_commands, run_at, needs_within}
-use Rattle.vd_play.specs.Journal.{queue_script, queue_chains, guest_frame}
+use Rattle.vd_play.specs.Journal.{queue_script, queue_chains, guest_frame, tree_map}
 use Rattle.vd_play.specs.Lane.{IsQueue, Account, HasGiven}
 use Rattle.vd_play.specs.Prepared.{IsEmptyGuest, IsEmptyDevice}
 use Rattle.vd_play.specs.Progress.{IsStopped}
 use Rattle.vd_play.specs.Setting.{Setting, IsLawful}
+use Rattle.vd_play.specs.Switching.{IsSwitched}
+use Rattle.vd_play.specs.Tree.{IsTreeOf}
 use Rattle.vd_bus.specs.Pace.{attaches}
-use Rattle.vd_play.proofs.Bounds.{chained, passing, chains_count, many_epochs}
+use Rattle.vd_play.proofs.Bounds.{chains_count, many_epochs}
+use Rattle.vd_play.proofs.Chained.{chained, few_epochs, numbered, switched_is}
 
 -- the rules that a machine keeps, as far as a queue needs them
 pub record Keeps (plan : Plan) : Type 0 where
@@ -36,8 +38,7 @@ pub record Keeps (plan : Plan) : Type 0 where
   pub fitted : are_scripts (most_pieces plan.features plan.size) plan.queues ≡ true
   pub inside : all_lie plan.regions plan.queues ≡ true
   pub counted : few plan.queues ≡ true
-  pub unswitched : length plan.switches ≡ 0
-  pub passing : plan.start ≡ Pass
+  pub switched : are_switches plan.switches ≡ true
 
 no_items : {A : Type 0} (xs : List A) → length xs ≡ 0 → xs ≡ []
 no_items [] h = refl
@@ -49,19 +50,25 @@ runs_fit f (r ∷ rs) h = All-append (Fits f) (replicate r.count r.chain) (run_c
     (All-replicate (Fits f) r.count r.chain (All-head (λ (x : Run). Fits f x.chain) r rs h))
     (runs_fit f rs (All-tail (λ (x : Run). Fits f x.chain) r rs h))
 
-pub queue_is : (l : LayoutModel) (plan : Plan) (q : ℕ) → Keeps plan → q < length plan.queues
-    → All (λ (r : Run). IsChain r.chain) (queue_script plan q).runs → IsQueue l plan q
-queue_is l plan q k below are =
+pub queue_is : (l : LayoutModel) (plan : Plan) (q : ℕ) → Keeps plan → CanMake l plan.size plan.features → IsTreeOf plan (tree_map plan)
+    → q < length plan.queues → All (λ (r : Run). IsChain r.chain) (queue_script plan q).runs → IsQueue l plan q
+queue_is l plan q k can laid below are =
     let f : Frame = guest_frame l plan q in
-    let d : Script = script [] in record {
+    let d : Script = script [] in
+    let n : ℕ = length (queue_chains plan q) in
+    let switched : IsSwitched plan = switched_is plan k.switched in
+    let sized = size_bounds plan.packed plan.size k.sized in
+    record {
       low = omega (arith, few_queues plan.queues k.counted, below);
       plain = no_items (queue_script plan q).commands
           (queue_has_no_commands (most_pieces plan.features plan.size) plan.queues d q k.fitted below);
-      sized = (size_bounds plan.packed plan.size k.sized).0;
-      epochs = omega (arith, many_epochs plan (length (queue_chains plan q)), k.unswitched);
+      sized = (sized.0, omega (arith, sized.1));
+      made = can;
+      epochs = few_epochs plan n switched;
       few = omega (arith, chains_count (queue_script plan q).runs, queue_is_short plan.queues d q k.counted below);
-      chained = chained plan (length (queue_chains plan q)) k.unswitched;
-      passing = passing plan (length (queue_chains plan q)) k.unswitched k.passing;
+      chained = chained plan n switched;
+      numbered = numbered plan n switched;
+      tree = laid;
       fits = runs_fit f (queue_script plan q).runs (λ j e within.
           let r = run_at (most_pieces plan.features plan.size) plan.regions plan.queues d e q j k.fitted k.inside below within in record {
             chain = are j e within;
@@ -79,7 +86,7 @@ module _ {D E G X C : Type 0} (s : Setting D E G X C) (law : IsLawful s) (plan :
       × (s.guest.heard guest1 ≡ s.guest.heard guest) → IsBoot s.driver s.guest driver guest1 guest2
       → IsEmptyDevice s.party device → IsUnchanged s.party device device' → s.party.window device' ≡ plan.window
       → 2 * (length plan.switches + 2) ≤ s.party.event_room device' → length (queue_chains plan q) ≤ s.party.chain_room device'
-      → IsStopped s plan q 0 0 words end guest2 device'
+      → IsStopped s plan q 0 0 words end 0 guest2 device'
   made words driver end guest guest1 guest2 device device' queue can number is fresh idle script counts boot empty same window events room =
       let f : Frame = guest_frame s.layout plan q in
       let v : DriverView = fresh_driver f (s.layout.width f) in
@@ -94,7 +101,7 @@ module _ {D E G X C : Type 0} (s : Setting D E G X C) (law : IsLawful s) (plan :
         other = λ h. refl;
         control = λ h. absurd (h queue.plain);
       } in
-      let account : Account [] w = record { chains = refl; each = All-nil IsBegun; given = All-nil (HasGiven (lens_of [])) } in
+      let account : Account plan q 0 [] = record { before = refl; many = omega arith; each = All-nil IsBegun } in
       let times : attaches (s.party.events device') ≡ 0 = ap attaches (same.events ∙ empty.events) in
       record {
         view = v;
@@ -111,24 +118,29 @@ module _ {D E G X C : Type 0} (s : Setting D E G X C) (law : IsLawful s) (plan :
               framed = refl;
             };
           };
-          account = subst (λ (bs : List Begun). Account bs w) (sym none) account;
-          window = window;
-          room = omega (arith, room);
+          account = subst (Account plan q 0) (sym none) account;
+          given = All-nil (HasGiven (lens_of (s.party.begun device')));
+          reserved = record { window = window; room = omega (arith, room) };
         };
         rests = record {
           stands = fresh.serves f with;
           still = inr fresh.unused;
           free = same.attached ∙ empty.free;
           taken = refl;
+          begun = ap length none;
           events = same.events ∙ empty.events;
           room = omega (arith, events, many_epochs plan (length (queue_chains plan q)));
         };
         paced = record {
           guest_heard = omega (arith, boot.counts.1, counts.1, idle.idle.1);
           guest_low = omega (arith, boot.counts.0, counts.0, idle.idle.0);
-          device_heard = omega (arith, same.counts.1, empty.idle.1);
           device_low = omega (arith, same.counts.0, empty.idle.0);
           times = omega (arith, times);
+        };
+        heard = record {
+          relays = 0;
+          heard = omega (arith, same.counts.1, empty.idle.1);
+          low = omega arith;
         };
         early = omega arith;
         late = λ every. inr (omega arith);

@@ -1,5 +1,6 @@
 -- The pace of a lane's parties, by the bells that its ring has.
 use Rattle.std.proofs.Common.{◌≡◌, ℕ, ◌+◌, ◌*◌, ◌≤◌, Some, List, [], ◌∷◌, ◌++◌, length, ◌∙◌, ap, arith}
+use Rattle.std.proofs.Math.Nat.{mul-le-mul_left}
 use Rattle.std.proofs.lemmas.List.{length-map}
 use Rattle.vd_words.specs.Plain.{RingWords}
 use Rattle.vd_ring.specs.declared.driver.DriverView.{DriverView}
@@ -16,12 +17,16 @@ use Rattle.vd_bus.specs.Guest.{as_return}
 use Rattle.vd_bus.specs.Orders.{IsData}
 use Rattle.vd_bus.specs.Pace.{attaches}
 use Rattle.vd_machine.specs.File.{Plan}
-use Rattle.vd_play.specs.Journal.{queue_script, queue_chains}
-use Rattle.vd_play.specs.Lane.{IsDriven}
-use Rattle.vd_play.specs.Progress.{guest_bound, device_bound}
+use Rattle.vd_play.specs.Journal.{queue_script, queue_chains, queue_epochs}
+use Rattle.vd_play.specs.Lane.{IsDriven, IsQueue}
+use Rattle.vd_play.specs.Progress.{guest_bound, device_bound, bells_before}
+use Rattle.vd_play.specs.Rings.{shadows_before}
 use Rattle.vd_play.specs.Setting.{Setting, IsLawful}
-use Rattle.vd_play.specs.Turns.{GuestRun, DeviceRun}
+use Rattle.vd_turns.specs.Turns.{GuestRun, DeviceRun}
+use Rattle.vd_layout.specs.Layout.{LayoutModel}
+use Rattle.vd_play.proofs.Bounds.{begun_low}
 use Rattle.vd_play.proofs.Quiet.{offers_le}
+use Rattle.vd_play.proofs.Rings.{shadows_before_low}
 
 pub attaches_more : (es fs : List Event) → attaches (es ++ fs) ≡ attaches es + attaches fs
 attaches_more [] fs = omega arith
@@ -63,44 +68,52 @@ module _ {D E G X C : Type 0} (s : Setting D E G X C) (law : IsLawful s) (plan :
       }
 
   -- bells that a device hears are stored for chains that were offered
-  device_bells : (words : List ℕ) (v : DriverView) (w : DeviceView) → s.layout.ring words v w → w.heard ≤ length (offers v.done)
+  pub device_bells : (words : List ℕ) (v : DriverView) (w : DeviceView) → s.layout.ring words v w → w.heard ≤ length (offers v.done)
   device_bells words v w ring = let signals : RingSignals v w = law.layout.signals words v w ring in
       omega (arith, signals.kicks.heard, signals.kicks.bells)
 
-  pub record DevicePaced (n : ℕ) (device device' : X) (made : ℕ) (w : DeviceView) : Type 0 where
-    pub heard : s.party.heard device' ≤ device_hearings w
-    pub low : s.party.accesses device' ≤ device_bound n (attaches (s.party.events device'))
+  pub record DevicePaced (n : ℕ) (device device' : X) (made : ℕ) : Type 0 where
+    pub low : s.party.accesses device' ≤ device_bound n (s.party.heard device') (attaches (s.party.events device'))
     pub counted : s.party.accesses device' ≡ s.party.accesses device + made
 
-  -- a device after some steps: what it heard is in the view
+  -- a device after some steps, on any ring
   pub device_paced : (n made : ℕ) (words' : List ℕ) (device device' : X) (v : DriverView) (w : DeviceView) (by : Attached)
-      → s.party.heard device ≤ device_hearings w → s.party.accesses device ≤ device_bound n (attaches (s.party.events device))
+      → s.party.accesses device ≤ device_bound n (s.party.heard device) (attaches (s.party.events device))
       → (r : DeviceRun s.layout s.party words' v w device device' made) → made ≤ 4 → s.party.attached device ≡ Some by → IsData by.queue
-      → by.at + by.count ≤ n → length (offers v.done) ≤ n → n ≤ 200000 → attaches (s.party.events device) ≤ 200
-      → DevicePaced n device device' made r.view
-  device_paced n made words' device device' v w by before low r few is for within offered short times =
+      → by.at + by.count ≤ n → n ≤ 200000 → length (offers v.done) ≤ 300000 → s.party.heard device ≤ 8000000
+      → attaches (s.party.events device) ≤ 200 → DevicePaced n device device' made
+  device_paced n made words' device device' v w by low r few is for within short offered hears times =
       let lists : Lists v.frame v.done r.view.done = law.layout.lists words' v r.view r.ring in
       let is' = r.served.attached ∙ is in
       let serves : IsServing (s.party.begun device') by r.view.done = law.party.serves device' r.view by r.holds is' for in
-      let heard : s.party.heard device' ≤ device_hearings r.view = omega (arith, r.heard, before) in
       let bells : r.view.heard ≤ length (offers v.done) = device_bells words' v r.view r.ring in
-      let counted : s.party.accesses device' ≡ s.party.accesses device + made = r.accesses (omega (arith, low, short, times)) in
-      let pace = law.party.pace device' r.view by r.holds is' (omega (arith, counted, low, short, times))
-      (omega (arith, heard, bells, offered, short)) in
+      let counted : s.party.accesses device' ≡ s.party.accesses device + made = r.accesses (omega (arith, low, short, hears, times)) in
+      let pace = law.party.pace device' r.view by r.holds is' (omega (arith, counted, low, short, hears, times))
+      (omega (arith, r.heard, hears, bells, offered)) in
       record {
-        heard = heard;
-        low = omega (
-          arith,
-          pace,
-          serves.as_many,
-          serves.before,
-          serves.few,
-          lists.count,
-          heard,
-          bells,
-          offered,
-          within,
-          ap attaches r.served.events,
-        );
+        low = omega (arith, pace, serves.as_many, serves.before, serves.few, lists.count, within);
         counted = counted;
       }
+
+-- the bells that were stored before are bounded
+pub bells_low : (l : LayoutModel) (plan : Plan) (q k : ℕ) → IsQueue l plan q → k ≤ 18 → k ≤ length (queue_epochs plan q)
+    → bells_before plan q k ≤ 2 * length (queue_chains plan q) + plan.size * 18
+bells_low l plan q k queue few within =
+    let shadows : shadows_before plan k ≤ 18 = omega (arith, shadows_before_low plan k, few) in omega (
+  arith,
+  begun_low (length (queue_chains plan q)) (queue_epochs plan q) k queue.chained within,
+  mul-le-mul_left plan.size shadows,
+)
+
+pub hears_low : (l : LayoutModel) (plan : Plan) (q k heard relays : ℕ) (v : DriverView) (w : DeviceView) → IsQueue l plan q → k ≤ 18
+    → k ≤ length (queue_epochs plan q) → w.heard ≤ length (offers v.done) → length (offers v.done) ≤ length (queue_chains plan q)
+    → heard + relays ≤ device_hearings w + bells_before plan q k → heard ≤ 8000000
+hears_low l plan q k heard relays v w queue few within bells offered h = omega (
+  arith,
+  h,
+  bells_low l plan q k queue few within,
+  bells,
+  offered,
+  queue.few,
+  queue.sized,
+)

@@ -1,5 +1,5 @@
 -- A quiet lane: where each live party sleeps without a signal, no device is live, and after the last chain no guest is.
-use Rattle.std.proofs.Common.{◌≡◌, ◌⊎◌, inl, inr, ℕ, ◌+◌, ◌<◌, ◌≤◌, Some, List, [], ◌∷◌, length, refl, sym, ◌∙◌, ap, subst, arith}
+use Rattle.std.proofs.Common.{◌≡◌, ◌⊎◌, inl, inr, ℕ, ◌+◌, ◌<◌, ◌≤◌, Some, List, [], ◌∷◌, length, refl, sym, ap, subst, arith}
 use Rattle.std.specs.List.{sum_by}
 use Rattle.std.proofs.lemmas.Option.{get_or_from_slice_get}
 use Rattle.vd_model.specs.declared.chain.Piece.{Piece}
@@ -16,9 +16,11 @@ use Rattle.vd_ring.specs.Sleep.{DriverWaits, DeviceWaits, driver_owed, device_ow
 use Rattle.vd_ring.proofs.Quiet.{quiet_device, quiet_driver}
 use Rattle.vd_layout.specs.Driver.{HasRoom}
 use Rattle.vd_bus.specs.declared.device.Attached.{Attached}
+use Rattle.vd_bus.specs.Device.{IsServing}
+use Rattle.vd_bus.specs.Orders.{IsData}
 use Rattle.vd_machine.specs.File.{Plan}
 use Rattle.vd_play.specs.Journal.{queue_script, queue_chains, guest_frame}
-use Rattle.vd_play.specs.Lane.{IsDriven, IsKept}
+use Rattle.vd_play.specs.Lane.{IsDriven}
 use Rattle.vd_play.specs.Setting.{Setting, IsLawful}
 use Rattle.vd_play.proofs.Bounds.{at_index}
 use Rattle.vd_play.proofs.Lists.{length_le}
@@ -85,14 +87,13 @@ module _ {D E G X C : Type 0} (s : Setting D E G X C) (law : IsLawful s) (plan :
 
 -- not both sleep while the device has chains to begin
 pub no_quiet : {D E G X C : Type 0} (s : Setting D E G X C) (law : IsLawful s) (plan : Plan) (q : ℕ) (words : RingWords) (guest : G)
-    (device : X) (v : DriverView) (w : DeviceView) (by : Attached) → IsKept s plan q words guest device v w → s.party.holds device w
-    → s.party.attached device ≡ Some by
+    (device : X) (v : DriverView) (w : DeviceView) (by : Attached) → IsDriven s plan q words guest v w → s.party.holds device w
+    → s.party.attached device ≡ Some by → IsData by.queue → by.from ≡ by.at
     → by.at + by.count ≤ length (queue_chains plan q) → s.guest.is_done guest ⊎ DriverWaits v w → DeviceWaits v w → ⊥
-no_quiet s law plan q words guest device v w by k holds is low still sleeps =
+no_quiet s law plan q words guest device v w by k holds is for from low still sleeps =
     let few = law.party.armed device w by holds is sleeps.at sleeps.armed in
-    let taken : takes w.done ≡ offers v.done = taken_all s law plan q words guest v w k.driven still sleeps in
-    let many : length (s.party.begun device) ≡ length (takes w.done) =
-    sym (Rattle.std.proofs.lemmas.List.length-map (s.party.begun device) (λ b. b.chain)) ∙ ap length k.account.chains in
-    no_rest s law plan q words guest v w k.driven still (ap device_owed sleeps.idle)
-    (omega (arith, ap length taken, ap length few.0, (law.layout.lists words.words v w k.driven.ring).count))
-    (omega (arith, ap length taken, many, few.1))
+    let taken : takes w.done ≡ offers v.done = taken_all s law plan q words guest v w k still sleeps in
+    let serves : IsServing (s.party.begun device) by w.done = law.party.serves device w by holds is for in
+    no_rest s law plan q words guest v w k still (ap device_owed sleeps.idle)
+    (omega (arith, ap length taken, ap length few.0, (law.layout.lists words.words v w k.ring).count))
+    (omega (arith, ap length taken, serves.as_many, from, few.1))

@@ -1,7 +1,7 @@
 -- What came back to a guest, by what was given on its ring.
 use Rattle.std.proofs.Common.{◌≡◌, ℕ, zero, suc, add-one, ◌+◌, ◌<◌, ◌≤◌, List, [], ◌∷◌, ◌++◌, length, map, take, drop, slice_index, slice_index_or, if◌then◌else◌, nat_lt, refl, sym, ◌∙◌, ap, arith}
 use Rattle.std.specs.List.{All}
-use Rattle.std.proofs.lemmas.List.{length-map, take-append-drop, map_push, length_push}
+use Rattle.std.proofs.lemmas.List.{length-map, take-append-drop, length_push}
 use Rattle.std.proofs.lemmas.List.Elements.{All-map, All-same, All-take}
 use Rattle.vd_model.specs.declared.record.Return.{Return}
 use Rattle.vd_ring.specs.declared.driver.DriverDone.{DriverDone}

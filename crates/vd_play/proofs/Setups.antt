@@ -1,85 +1,40 @@
 -- The bus of a machine is set up for an epoch.
-use Rattle.std.proofs.Common.{◌≡◌, ℕ, suc, ◌+◌, ◌<◌, ◌≤◌, true, false, List, [], ◌∷◌, length, slice_get, slice_index_or, slice_set, set, take, ◌*◌, ◌/◌, ◌^◌, Option, Some, None, refl, sym, ◌∙◌, ap, subst, arith}
+use Rattle.std.proofs.Common.{◌≡◌, ℕ, suc, ◌<◌, ◌≤◌, true, false, List, [], ◌∷◌, length, slice_get, slice_index_or, slice_set, set, take, ◌*◌, ◌/◌, ◌^◌, Option, Some, None, refl, sym, ◌∙◌, ap, subst, arith}
 use Rattle.std.specs.List.{list_all}
+use Rattle.std.specs.Option.{option_map}
 use Rattle.std.proofs.lemmas.Bool.{ne_eqb}
 use Rattle.std.proofs.lemmas.Option.{slice_get_within}
-use Rattle.std.proofs.lemmas.List.{length-set, get_or-set_other}
+use Rattle.std.proofs.lemmas.List.{length-set, get_or-set_same, get_or-set_other}
 use Rattle.vd_model.specs.declared.base.Base.{Base}
+use Rattle.vd_model.specs.declared.base.Mode.{Mode}
+use Rattle.vd_model.specs.declared.base.Mode.TheVariants.{Pass, Shadow}
 use Rattle.vd_model.specs.declared.features.Features.{Features}
 use Rattle.vd_model.specs.declared.map.Mapping.{Mapping}
 use Rattle.vd_layout.specs.Device.{DeviceModel}
+use Rattle.vd_layout.specs.Layout.{LayoutModel}
 use Rattle.vd_bus.specs.declared.bus.vring.Vring.{Vring}
 use Rattle.vd_bus.specs.Bus.{BusState, fresh_vring, vring_of}
 use Rattle.vd_bus.specs.Orders.{Terms}
-use Rattle.vd_bus.specs.BusRings.{base_fault, after_base, enable_fault, order_fault, ring_at, terms}
-use Rattle.vd_bus.specs.BusStatus.{is_ready, status_fault, after_status, with_suspended, features_accepted}
+use Rattle.vd_bus.specs.BusRings.{enable_fault, order_fault, ring_at, terms}
+use Rattle.vd_bus.specs.BusStatus.{is_ready, status_fault, after_status, features_accepted}
 use Rattle.vd_machine.specs.File.{Plan}
+use Rattle.vd_words.specs.Plain.{RingWords}
 use Rattle.vd_play.specs.declared.floor.Lane.{Lane}
+use Rattle.vd_play.specs.declared.floor.Relaying.{Relaying}
 use Rattle.vd_play.specs.declared.bench.Bench.{Bench}
 use Rattle.vd_play.specs.Each.{HasLanes}
-use Rattle.vd_play.specs.Journal.{pass_map, guest_frame, queue_chains}
-use Rattle.vd_play.specs.Lane.{begun_at}
-use Rattle.vd_play.specs.Orders.{pass_order}
+use Rattle.vd_play.specs.Journal.{map_in, ring_in, guest_frame, queue_chains}
+use Rattle.vd_play.specs.Before.{begun_at}
+use Rattle.vd_play.specs.Orders.{pass_order, shadow_order}
 use Rattle.vd_play.specs.Prepared.{IsOfLayout}
 use Rattle.vd_play.specs.Progress.{AllStopped, IsStopped, StoppedWith}
 use Rattle.vd_play.specs.Setting.{Setting, IsLawful}
-use Rattle.vd_play.specs.Setup.{set_up, on, serving, with_vrings, with_map, Stands, IsBrought, IsUp, IsRing, HasRings, vring_at, AllServe, HasBase, HasBases, IsReady}
+use Rattle.vd_play.specs.Setup.{set_up, on, serving, with_vrings, with_map, IsBrought, IsRing, HasRings, HasSizes, vring_at, base_in, AllServe, HasBase, HasBases, IsReady}
 use Rattle.vd_play.proofs.Bounds.{at_index}
-use Rattle.vd_play.proofs.Buses.{ring_put, ring_got, ring_new, serving_is, no_base_fault, no_enable_fault, no_order_fault, offer_back, each_put, own}
+use Rattle.vd_play.proofs.Buses.{ring_got, ring_new, serving_is, no_enable_fault, no_order_fault, offer_back, each_put, own}
 use Rattle.vd_play.proofs.Each.{get_set}
 use Rattle.vd_play.proofs.Keep.{base_of}
 use Rattle.vd_play.proofs.Lists.{some_same}
-
--- ---- bases
-
-module _ {E : Type 0} (e : DeviceModel E) (plan : Plan) (lanes : List (Lane E)) (b : BusState) (s : Stands plan b)
-    (rings : HasRings plan b) (q : ℕ) (low : q < length plan.queues) where
-  -- the ring of the queue, as the call finds it
-  got : vring_of b q ≡ vring_at plan b q
-  got = ring_got plan b.status b.suspended b.vrings b.map b s.is q low
-
-  pub no_fault_of_base : (lane : Lane E) (end : E) → AllServe e plan lanes → slice_get lanes q ≡ Some lane → lane.still ≡ Some end
-      → base_fault b (record { index = q; num = e.base end }) ≡ None
-  no_fault_of_base lane end ends at is =
-      no_base_fault plan b.status b.suspended b.vrings b.map b s.is q low (e.base end) s.still (rings.each q low).num
-      (ends q lane end at is).lawful
-
-  pub base_is : (base : ℕ) (b' : BusState) → b' ≡ after_base b (record { index = q; num = base })
-      → b' ≡ with_vrings b (slice_set b.vrings q (record (vring_of b q) { base = base }))
-  base_is base b' is = is ∙ ring_put plan b.status b.suspended b.vrings b.map b s.is q low (record (vring_of b q) { base = base })
-      ∙ ap (λ (z : BusState). with_vrings z (slice_set b.vrings q (record (vring_of b q) { base = base }))) (sym s.is)
-
-  -- what holds of ring k once those up to q have their bases
-  abbrev Based : ℕ → Vring → Type 0
-  Based k v = IsRing plan k v × ((z : Lane E) → k < q + 1 → slice_get lanes k ≡ Some z → HasBase e z.still v)
-
-  pub based_some : (lane : Lane E) (end : E) (b' : BusState) → slice_get lanes q ≡ Some lane → lane.still ≡ Some end
-      → ((k : ℕ) (z : Lane E) → k < q → slice_get lanes k ≡ Some z → HasBase e z.still (vring_at plan b k))
-      → b' ≡ after_base b (record { index = q; num = e.base end })
-      → HasRings plan b' × ((k : ℕ) (z : Lane E) → k < q + 1 → k < length plan.queues → slice_get lanes k ≡ Some z
-      → HasBase e z.still (vring_at plan b' k))
-  based_some lane end b' at is old made =
-      let v : Vring = record (vring_of b q) { base = e.base end } in
-      let set = base_is (e.base end) b' made in
-      let new : Based q v = (
-        record {
-          num = ap (λ (z : Vring). z.num) got ∙ (rings.each q low).num;
-          addr = ap (λ (z : Vring). z.addr) got
-              ∙ (rings.each q low).addr;
-        },
-        λ z under atz end' isz. ap e.base (some_same end end' (Some end) refl
-            (sym is ∙ ap (λ (w : Lane E). w.still) (some_same lane z (slice_get lanes q) at atz) ∙ isz)),
-      ) in
-      let all : (k : ℕ) → k < length plan.queues → Based k (vring_at plan b' k) =
-      λ k below. subst (λ (c : BusState). Based k (vring_at plan c k)) (sym set)
-      (each_put Based b.vrings (fresh_vring plan.packed) q (length plan.queues) v (omega (arith, rings.many, low))
-      (λ j under other. (rings.each j under, λ z less atz. old j z (omega (arith, less, other)) atz)) new k below) in (
-        record {
-          many = ap (λ (c : BusState). length c.vrings) set ∙ length-set b.vrings q v ∙ rings.many;
-          each = λ k below. (all k below).0;
-        },
-        λ k z less below atz. (all k below).1 z less atz,
-      )
 
 -- ---- an epoch
 
@@ -88,45 +43,35 @@ ready_all : (vs : List Vring) (d : Vring) → ((k : ℕ) → k < length vs → i
 ready_all [] d h = refl
 ready_all (v ∷ vs) d h = rw (h 0 (omega arith)) (ready_all vs d (λ k below. h (suc k) (omega (arith, below))))
 
-pub rings_ready : (plan : Plan) (b : BusState) → 2 ≤ plan.size → HasRings plan b → list_all is_ready b.vrings ≡ true
-rings_ready plan b sized r = ready_all b.vrings (fresh_vring plan.packed) (λ k below.
-    let at = r.each k (omega (arith, below, r.many)) in
+pub rings_ready : (plan : Plan) (m : Mode) (k : ℕ) (b : BusState) → 2 ≤ plan.size → HasRings plan m k b
+    → list_all is_ready b.vrings ≡ true
+rings_ready plan m k b sized r = ready_all b.vrings (fresh_vring plan.packed) (λ j below.
+    let at = r.each j (omega (arith, below, r.many)) in
     rw at.num (rw at.addr (rw (ne_eqb plan.size 0 (λ e. omega (arith, e, sized))) refl)))
 
+-- the rings are sized
+pub rings_sized : (plan : Plan) (m : Mode) (k : ℕ) (b : BusState) → HasRings plan m k b → HasSizes plan b
+rings_sized plan m k b r = record { many = r.many; each = λ q low. (r.each q low).num }
+
 -- before the first epoch
-pub begun_is : (plan : Plan) (a b c : BusState) → IsBrought plan a → b ≡ with_map a (pass_map plan) → c ≡ with_vrings b c.vrings
-    → c ≡ set_up plan 11 false c.vrings (pass_map plan)
-begun_is plan a b c brought mapped based =
+pub begun_is : (plan : Plan) (ms : List Mapping) (a b c : BusState) → IsBrought plan a → b ≡ with_map a ms → c ≡ with_vrings b c.vrings
+    → c ≡ set_up plan 11 false c.vrings ms
+begun_is plan ms a b c brought mapped based =
     based ∙ ap (λ (z : BusState). with_vrings z c.vrings) mapped
-    ∙ ap (λ (z : BusState). with_vrings (with_map z (pass_map plan)) c.vrings) brought
+    ∙ ap (λ (z : BusState). with_vrings (with_map z ms) c.vrings) brought
 
-pub driver_ok : (plan : Plan) (b : BusState) → b ≡ set_up plan 11 false b.vrings (pass_map plan) → list_all is_ready b.vrings ≡ true
-    → status_fault b 15 ≡ None
-driver_ok plan b is ready = subst (λ (c : BusState). status_fault c 15 ≡ None) (sym is) (rw ready refl)
+pub driver_ok : (plan : Plan) (ms : List Mapping) (b : BusState) → b ≡ set_up plan 11 false b.vrings ms
+    → list_all is_ready b.vrings ≡ true → status_fault b 15 ≡ None
+driver_ok plan ms b is ready = subst (λ (c : BusState). status_fault c 15 ≡ None) (sym is) (rw ready refl)
 
-module _ {E : Type 0} (e : DeviceModel E) (plan : Plan) (lanes : List (Lane E)) where
-  pub ready_first : (b c : BusState) → b ≡ set_up plan 11 false b.vrings (pass_map plan) → HasRings plan b → HasBases e plan lanes b
-      → c ≡ after_status b 15 → IsReady e plan lanes c
-  ready_first b c is rings bases set = subst (λ (z : BusState). IsReady e plan lanes z) (sym set) (record {
-    up = ap (λ (z : BusState). after_status z 15) is;
-    rings = record { many = rings.many; each = rings.each };
-    bases = bases;
-  })
-
-  -- between two epochs: suspended, addresses, messages, bases, resumed
-  pub ready_later : (a b c d f g h : BusState) → IsUp plan a → b ≡ with_suspended a true → c ≡ with_vrings b c.vrings → d ≡ with_map c []
-      → f ≡ with_map d (pass_map plan) → g ≡ with_vrings f g.vrings → HasRings plan g → HasBases e plan lanes g
-      → h ≡ with_suspended g false → IsReady e plan lanes h
-  ready_later a b c d f g h up ab bc cd df fg rings bases gh =
-      let now : g ≡ set_up plan 15 true g.vrings (pass_map plan) =
-      fg ∙ ap (λ (z : BusState). with_vrings z g.vrings) (df ∙ ap (λ (z : BusState). with_map z (pass_map plan))
-      (cd ∙ ap (λ (z : BusState). with_map z []) (bc ∙ ap (λ (z : BusState). with_vrings z c.vrings)
-      (ab ∙ ap (λ (z : BusState). with_suspended z true) up)))) in
-      subst (λ (z : BusState). IsReady e plan lanes z) (sym gh) (record {
-        up = ap (λ (z : BusState). with_suspended z false) now;
-        rings = record { many = rings.many; each = rings.each };
-        bases = bases;
-      })
+pub ready_first : {L D E : Type 0} (e : DeviceModel E) (base : ℕ) (plan : Plan) (m : Mode) (k : ℕ) (lanes : List (Lane L D E))
+    (b c : BusState) → b ≡ set_up plan 11 false b.vrings (map_in plan m) → HasRings plan m k b → HasBases e base plan m lanes b
+    → c ≡ after_status b 15 → IsReady e base plan m k lanes c
+ready_first e base plan m k lanes b c is rings bases set = subst (λ (z : BusState). IsReady e base plan m k lanes z) (sym set) (record {
+  up = ap (λ (z : BusState). after_status z 15) is;
+  rings = record { many = rings.many; each = rings.each };
+  bases = bases;
+})
 
 -- ---- an order
 
@@ -152,73 +97,114 @@ same_order queue count r r' b b' n n' f f' m m' hr hb hn hf hm =
 numbered : (q : ℕ) → q * 2 ^ 32 / 2 ^ 32 ≡ q
 numbered q = omega arith
 
-module _ {E : Type 0} (e : DeviceModel E) (plan : Plan) (lanes : List (Lane E)) (b : BusState) (r : IsReady e plan lanes b)
-    (q : ℕ) (low : q < length plan.queues) where
+next_base : {E : Type 0} (e : DeviceModel E) (base : ℕ) (m : Mode) (still : Option E) (n : ℕ) → (m ≡ Pass → still ≡ None)
+    → base_in e base m still ≡ Some n → (still' : Option E) → base_in e base m still' ≡ Some n
+next_base e base Pass still n none h still' = let is = none refl in absurd (cc (h, ap (option_map e.base) is))
+next_base e base Shadow still n none h still' = h
+
+module _ {L D E : Type 0} (e : DeviceModel E) (base : ℕ) (plan : Plan) (m : Mode) (k : ℕ) (lanes : List (Lane L D E)) (b : BusState)
+    (r : IsReady e base plan m k lanes b) (q : ℕ) (low : q < length plan.queues) where
   -- the ring of the queue, once it is enabled
   served : vring_of (serving b q) q ≡ record (vring_at plan b q) { enabled = true }
-  served = ring_new plan 15 false b.vrings (pass_map plan) b r.up q low (record (vring_of b q) { enabled = true }) r.rings.many
-      ∙ ap (λ (z : Vring). record z { enabled = true }) (ring_got plan 15 false b.vrings (pass_map plan) b r.up q low)
+  served = ring_new plan 15 false b.vrings (map_in plan m) b r.up q low (record (vring_of b q) { enabled = true }) r.rings.many
+      ∙ ap (λ (z : Vring). record z { enabled = true }) (ring_got plan 15 false b.vrings (map_in plan m) b r.up q low)
 
-  now : serving b q ≡ set_up plan 15 false (slice_set b.vrings q (record (vring_of b q) { enabled = true })) (pass_map plan)
-  now = serving_is plan 15 false b.vrings (pass_map plan) b r.up q low
+  now : serving b q ≡ set_up plan 15 false (slice_set b.vrings q (record (vring_of b q) { enabled = true })) (map_in plan m)
+  now = serving_is plan 15 false b.vrings (map_in plan m) b r.up q low
 
   pub can_enable : enable_fault b (on q) ≡ None
-  can_enable = no_enable_fault plan 15 false b.vrings (pass_map plan) b r.up q low refl
+  can_enable = no_enable_fault plan 15 false b.vrings (map_in plan m) b r.up q low refl
 
   pub can_order : order_fault (serving b q) q ≡ None
-  can_order = no_order_fault plan 15 false b.vrings (pass_map plan) b r.up q low refl refl r.rings.many
+  can_order = no_order_fault plan 15 false b.vrings (map_in plan m) b r.up q low refl refl r.rings.many
 
-  pub base_kept : (lane : Lane E) → slice_get lanes q ≡ Some lane → HasBase e lane.still (vring_of (serving b q) q)
-  base_kept lane at end is = ap (λ (z : Vring). z.base) served ∙ r.bases q lane at end is
+  base_same : (vring_at plan (serving b q) q).base ≡ (vring_at plan b q).base
+  base_same = ap (λ (c : BusState). (vring_at plan c q).base) now
+      ∙ ap (λ (v : Vring). v.base) (get_or-set_same b.vrings q _ (fresh_vring plan.packed) (omega (arith, r.rings.many, low)))
+      ∙ ap (λ (v : Vring). v.base) (ring_got plan 15 false b.vrings (map_in plan m) b r.up q low)
 
-  -- the order is the one that the machine orders
-  pub ordered_is : (count : ℕ) (lane : Lane E) (end : E) → slice_get lanes q ≡ Some lane → lane.still ≡ Some end
-      → terms (serving b q) q count ≡ pass_order e plan q count end
-  ordered_is count lane end at is =
+  -- in an epoch of the mode pass the ring is served from where the lane's end rests
+  pub base_kept : m ≡ Pass → (lane : Lane L D E) → slice_get lanes q ≡ Some lane → HasBase e lane.still (vring_of (serving b q) q)
+  base_kept is_pass lane at end is = ap (λ (z : Vring). z.base) served ∙ r.bases q (e.base end) lane at
+      (ap (λ (z : Mode). base_in e base z lane.still) is_pass ∙ ap (option_map e.base) is)
+
+  -- in a shadow epoch from the base of a fresh ring
+  pub base_fresh : m ≡ Shadow → (lane : Lane L D E) → slice_get lanes q ≡ Some lane → (vring_of (serving b q) q).base ≡ base
+  base_fresh is_shadow lane at = ap (λ (z : Vring). z.base) served ∙ r.bases q base lane at
+      (ap (λ (z : Mode). base_in e base z lane.still) is_shadow)
+
+  terms_are : (count n : ℕ) → (vring_of (serving b q) q).base ≡ n → terms (serving b q) q count
+      ≡ order_of q count (ring_in m k q) (record { 0 = n }) plan.size plan.features (map_in plan m)
+  terms_are count n is =
       let ring = r.rings.each q low in
-      same_order q count _ q _ (record { 0 = e.base end }) _ plan.size _ plan.features _ (pass_map plan)
-      (ap (λ (z : Vring). ring_at z.addr) served ∙ ap ring_at ring.addr ∙ numbered q)
-      (ap (λ (z : ℕ). let base : Base = record { 0 = z } in base) (base_kept lane at end is))
+      same_order q count _ (ring_in m k q) _ (record { 0 = n }) _ plan.size _ plan.features _ (map_in plan m)
+      (ap (λ (z : Vring). ring_at z.addr) served ∙ ap ring_at ring.addr ∙ numbered (ring_in m k q))
+      (ap (λ (z : ℕ). let there : Base = record { 0 = z } in there) is)
       (ap (λ (z : Vring). z.num) served ∙ ring.num)
       (ap features_accepted now ∙ offer_back plan.packed plan.features)
       (ap (λ (z : BusState). z.map) now)
 
+  -- the order is the one that the machine orders
+  pub ordered_is : m ≡ Pass → (count : ℕ) (lane : Lane L D E) (end : E) → slice_get lanes q ≡ Some lane → lane.still ≡ Some end
+      → terms (serving b q) q count ≡ pass_order e plan q count end
+  ordered_is is_pass count lane end at is = terms_are count (e.base end) (base_kept is_pass lane at end is)
+      ∙ ap (λ (z : Mode). order_of q count (ring_in z k q) (record { 0 = e.base end }) plan.size plan.features (map_in plan z)) is_pass
+
+  pub ordered_shadow : (l : LayoutModel) → base ≡ l.fresh_base → m ≡ Shadow → (count : ℕ) (lane : Lane L D E)
+      → slice_get lanes q ≡ Some lane → terms (serving b q) q count ≡ shadow_order l plan k q count
+  ordered_shadow l fresh is_shadow count lane at = terms_are count l.fresh_base (base_fresh is_shadow lane at ∙ fresh)
+      ∙ ap (λ (z : Mode). order_of q count (ring_in z k q) (record { 0 = l.fresh_base }) plan.size plan.features (map_in plan z)) is_shadow
+
   -- and the bus is ready for the queues after it
-  pub ready_next : (lane : Lane E) → lane.still ≡ None → IsReady e plan (set lanes q lane) (serving b q)
+  pub ready_next : (lane : Lane L D E) → (m ≡ Pass → lane.still ≡ None) → IsReady e base plan m k (set lanes q lane) (serving b q)
   ready_next lane none =
       let v : Vring = record (vring_of b q) { enabled = true } in
-      let got = ring_got plan 15 false b.vrings (pass_map plan) b r.up q low in
+      let got = ring_got plan 15 false b.vrings (map_in plan m) b r.up q low in
       let set_is = ap (λ (z : BusState). z.vrings) now in
-      let new : IsRing plan q v = record {
+      let new : IsRing plan (ring_in m k q) q v = record {
         num = ap (λ (z : Vring). z.num) got ∙ (r.rings.each q low).num;
         addr = ap (λ (z : Vring). z.addr) got ∙ (r.rings.each q low).addr;
       } in
       record {
-        up = own plan 15 false _ (pass_map plan) (serving b q) now;
+        up = own plan 15 false _ (map_in plan m) (serving b q) now;
         rings = record {
           many = ap length set_is ∙ length-set b.vrings q v ∙ r.rings.many;
-          each = λ k below. subst (λ (c : BusState). IsRing plan k (vring_at plan c k)) (sym now)
-              (each_put (IsRing plan) b.vrings (fresh_vring plan.packed) q (length plan.queues) v (omega (arith, r.rings.many, low))
-              (λ j under other. r.rings.each j under) new k below);
+          each = λ j below. subst (λ (c : BusState). IsRing plan (ring_in m k j) j (vring_at plan c j)) (sym now)
+              (each_put (λ i w. IsRing plan (ring_in m k i) i w) b.vrings (fresh_vring plan.packed) q (length plan.queues) v
+              (omega (arith, r.rings.many, low)) (λ i under other. r.rings.each i under) new j below);
         };
-        bases = λ k z at. get_set lanes q k lane z at
-            (λ here same end is. absurd (cc (none, ap (λ (w : Lane E). w.still) same, is)))
-            (λ other old end is. ap (λ (c : BusState). (vring_at plan c k).base) now
-            ∙ ap (λ (w : Vring). w.base) (get_or-set_other b.vrings q k v (fresh_vring plan.packed) other) ∙ r.bases k z old end is);
+        bases = λ j n z at is. get_set lanes q j lane z at
+            (λ here same.
+            let old = at_index lanes q (omega (arith, slice_get_within (set lanes q lane) j z at, length-set lanes q lane, here)) in
+            let mine = next_base e base m lane.still n none
+            (subst (λ (w : Lane L D E). base_in e base m w.still ≡ Some n) (sym same) is) old.0.still in
+            subst (λ (i : ℕ). (vring_at plan (serving b q) i).base ≡ n) (sym here) (base_same ∙ r.bases q n old.0 old.1 mine))
+            (λ other old. ap (λ (c : BusState). (vring_at plan c j).base) now
+            ∙ ap (λ (w : Vring). w.base) (get_or-set_other b.vrings q j v (fresh_vring plan.packed) other) ∙ r.bases j n z old is);
       }
 
 -- ---- the lanes
 
+-- a still lane holds its end, and no relay
+pub stopped_of : {L D E G X C : Type 0} (s : Setting D E G X C) (plan : Plan) (q k : ℕ) (words : RingWords) (still : Option E)
+    (relaying : Option (Relaying L D E)) (relayed : ℕ) (end : E) (guest : G) (device : X) → still ≡ Some end
+    → StoppedWith s plan q k words still relaying relayed guest device → IsStopped s plan q k 0 words end relayed guest device
+stopped_of s plan q k words None relaying relayed end guest device is p = absurd (cc)
+stopped_of s plan q k words (Some x) None relayed end guest device is p =
+    subst (λ (z : _). IsStopped s plan q k 0 words z relayed guest device) (some_same x end (Some x) refl is) p
+stopped_of s plan q k words (Some x) (Some y) relayed end guest device is p = absurd p
+
 -- each end that a still lane keeps can serve
-pub still_serve : {D E G X C : Type 0} (s : Setting D E G X C) (law : IsLawful s) (plan : Plan) (k n : ℕ) (lanes : List (Lane E))
+pub still_serve : {L D E G X C : Type 0} (s : Setting D E G X C) (law : IsLawful s) (plan : Plan) (k n : ℕ) (lanes : List (Lane L D E))
     (bench : Bench G X) → IsOfLayout s.layout plan → length lanes ≡ n → HasLanes n bench → AllStopped s plan k lanes bench
     → AllServe s.device plan lanes
 still_serve s law plan k n lanes bench of many parties stopped q lane end at is =
     let below : q < n = omega (arith, slice_get_within lanes q lane at, many) in
     let hg = at_index bench.guests.items q (omega (arith, below, parties.guests)) in
     let hx = at_index bench.devices.items q (omega (arith, below, parties.devices)) in
-    let p : IsStopped s plan q k 0 lane.words end hg.0 hx.0 =
-    subst (λ (o : Option _). StoppedWith s plan q k lane.words o hg.0 hx.0) is (stopped.at q lane hg.0 hx.0 at hg.1 hx.1) in
+    let p : IsStopped s plan q k 0 lane.words end lane.relayed hg.0 hx.0 =
+    stopped_of s plan q k lane.words lane.still lane.relaying lane.relayed end hg.0 hx.0 is
+    (stopped.at q lane hg.0 hx.0 at hg.1 hx.1).held in
     let base = base_of s law plan q lane.words end hg.0 p.view p.device_view (begun_at plan q k) p.kept.driven p.rests.stands
     p.rests.still p.rests.taken in
     record {

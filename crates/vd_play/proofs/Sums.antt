@@ -27,24 +27,29 @@ none_at f [] each = refl
 none_at f (x ∷ xs) each = omega (arith, sum_by-cons f x xs, each 0 x refl, none_at f xs (λ q y at. each (suc q) y at))
 
 -- the parties of each of the first places have at most what stands there, and the others nothing
-pub sums_low : {A B C : Type 0} (h : A → ℕ) (f : B → ℕ) (g : C → ℕ) (ls : List A) (bs : List B) (xs : List C) → length ls ≤ length bs
-    → length ls ≤ length xs
-    → ((q : ℕ) (a : A) (b : B) (x : C) → slice_get ls q ≡ Some a → slice_get bs q ≡ Some b → slice_get xs q ≡ Some x → f b + g x ≤ h a)
+pub sums_low : {A B C D : Type 0} (h : A → ℕ) (f : B → ℕ) (g : C → ℕ) (e : D → ℕ) (ls : List A) (bs : List B) (xs : List C) (ys : List D)
+    → length ls ≤ length bs → length ls ≤ length xs → length ys ≡ length ls
+    → ((q : ℕ) (a : A) (b : B) (x : C) (y : D) → slice_get ls q ≡ Some a → slice_get bs q ≡ Some b → slice_get xs q ≡ Some x
+    → slice_get ys q ≡ Some y → f b + g x + e y ≤ h a)
     → ((q : ℕ) (b : B) → length ls ≤ q → slice_get bs q ≡ Some b → f b ≡ 0)
     → ((q : ℕ) (x : C) → length ls ≤ q → slice_get xs q ≡ Some x → g x ≡ 0)
-    → sum_by f bs + sum_by g xs ≤ sum_by h ls
-sums_low h f g [] bs xs p q each none_b none_x =
+    → sum_by f bs + sum_by g xs + sum_by e ys ≤ sum_by h ls
+sums_low h f g e [] bs xs [] p q r each none_b none_x =
     omega (arith, none_at f bs (λ k b at. none_b k b (omega arith) at), none_at g xs (λ k x at. none_x k x (omega arith) at))
-sums_low h f g (a ∷ ls) [] xs p q each none_b none_x = absurd (omega arith)
-sums_low h f g (a ∷ ls) (b ∷ bs) [] p q each none_b none_x = absurd (omega arith)
-sums_low h f g (a ∷ ls) (b ∷ bs) (x ∷ xs) p q each none_b none_x =
+sums_low h f g e [] bs xs (y ∷ ys) p q r each none_b none_x = absurd (omega (arith, r))
+sums_low h f g e (a ∷ ls) bs xs [] p q r each none_b none_x = absurd (omega (arith, r))
+sums_low h f g e (a ∷ ls) [] xs (y ∷ ys) p q r each none_b none_x = absurd (omega arith)
+sums_low h f g e (a ∷ ls) (b ∷ bs) [] (y ∷ ys) p q r each none_b none_x = absurd (omega arith)
+sums_low h f g e (a ∷ ls) (b ∷ bs) (x ∷ xs) (y ∷ ys) p q r each none_b none_x =
     omega (
       arith,
       sum_by-cons h a ls,
       sum_by-cons f b bs,
       sum_by-cons g x xs,
-      each 0 a b x refl refl refl,
-      sums_low h f g ls bs xs (omega arith) (omega arith) (λ k a' b' x' ha hb hx. each (suc k) a' b' x' ha hb hx)
+      sum_by-cons e y ys,
+      each 0 a b x y refl refl refl refl,
+      sums_low h f g e ls bs xs ys (omega arith) (omega arith) (omega (arith, r))
+          (λ k a' b' x' y' ha hb hx hy. each (suc k) a' b' x' y' ha hb hx hy)
           (λ k b' le at. none_b (suc k) b' (omega arith) at) (λ k x' le at. none_x (suc k) x' (omega arith) at),
     )
 

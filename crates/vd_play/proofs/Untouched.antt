@@ -67,7 +67,7 @@ idle_of s old new empty u many = record {
 pub each_none : {A B C : Type 0} (P : ℕ → A → B → C → Type 0) (ls : List A) (bs : List B) (xs : List C) → ls ≡ [] → EachLane P ls bs xs
 each_none P ls bs xs is = record { at = λ q l b x hl hb hx. absurd (omega (arith, slice_get_within ls q l hl, ap length is)) }
 
-get_push : {A R : Type 0} (xs : List A) (y : A) (q : ℕ) (z : A) → slice_get (xs ++ y ∷ []) q ≡ Some z → ((q ≡ length xs) → (y ≡ z) → R)
+pub get_push : {A R : Type 0} (xs : List A) (y : A) (q : ℕ) (z : A) → slice_get (xs ++ y ∷ []) q ≡ Some z → ((q ≡ length xs) → (y ≡ z) → R)
     → ((q < length xs) → slice_get xs q ≡ Some z → R) → R
 get_push [] y zero z is last before = last refl (some_same y z (Some y) refl is)
 get_push [] y (suc q) z is last before = absurd (cc)

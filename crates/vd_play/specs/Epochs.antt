@@ -66,6 +66,6 @@ pub record AreChained (n : ℕ) (es : List Epoch) : Type 0 where
   pub at : (k : ℕ) (ep : Epoch) → slice_get es k ≡ Some ep → (ep.first ≡ begun_before es k) × (ep.first ≤ ep.end) × (ep.end ≤ n)
   pub whole : begun_before es (length es) ≡ n
 
--- each is of the mode pass, and none begins with a renewal
-pub record ArePassing (es : List Epoch) : Type 0 where
-  pub at : (k : ℕ) (ep : Epoch) → slice_get es k ≡ Some ep → (ep.mode ≡ mode.Pass) × (ep.renewed ≡ false)
+-- each has its number and its mode, and none begins with a renewal
+pub record AreNumbered (plan : Plan) (es : List Epoch) : Type 0 where
+  pub at : (k : ℕ) (ep : Epoch) → slice_get es k ≡ Some ep → (ep.number ≡ k) × (ep.mode ≡ mode_at plan k) × (ep.renewed ≡ false)

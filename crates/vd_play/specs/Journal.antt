@@ -6,6 +6,7 @@ use Rattle.vd_model.specs.declared.base.Mode.{Mode}
 use Rattle.vd_model.specs.declared.base.Mode.TheVariants.{Pass, Shadow}
 use Rattle.std.specs.Option.{unwrap_or}
 use Rattle.vd_iova.specs.Holes.{laid}
+use Rattle.vd_iova.specs.Trees.{added_all}
 use Rattle.vd_model.specs.Moved.{moved}
 use Rattle.vd_model.specs.declared.chain.Piece.{Piece}
 use Rattle.vd_model.specs.declared.map.Mapping.{Mapping}
@@ -74,6 +75,10 @@ abbrev pub shadow_map : Plan → List Mapping
 shadow_map plan =
     unwrap_or (laid (map (λ (r : Region). (r.addr, r.size)) plan.regions)
     (record { first = plan.first; last = plan.last; mappings = [] })) []
+
+-- the same in order of iova, as a tree keeps it
+abbrev pub tree_map : Plan → List Mapping
+tree_map plan = (added_all (shadow_map plan) (record { first = plan.first; last = plan.last; mappings = [] })).mappings
 
 -- the map of an epoch of this mode
 abbrev pub map_in : Plan → Mode → List Mapping

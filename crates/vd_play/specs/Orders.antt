@@ -1,8 +1,12 @@
 -- By what a lane's device is attached.
-use Rattle.std.specs.Prelude.{◌≡◌, ℕ, ◌+◌, ◌<◌, ◌≤◌, ◌^◌, List, length, min, slice_get, Option, None, IsSomeAnd}
+use Rattle.std.specs.Prelude.{◌≡◌, ℕ, ◌+◌, ◌*◌, ◌<◌, ◌≤◌, ◌^◌, List, length, min, slice_get, Option, None, IsSomeAnd}
 use Rattle.std.specs.Option.{option_map_or}
 use Rattle.vd_layout.specs.Device.{DeviceModel, IsStill}
 use Rattle.vd_layout.specs.Layout.{LayoutModel}
+use Rattle.vd_model.specs.declared.base.Mode.TheVariants.{Shadow}
+use Rattle.vd_control.specs.Settings.{default}
+use Rattle.vd_bus.specs.declared.event.Event.{Event}
+use Rattle.vd_bus.specs.declared.event.Event.TheVariants.{Attach}
 use Rattle.vd_bus.specs.Device.{DeviceParty}
 use Rattle.vd_bus.specs.Orders.{Terms}
 use Rattle.vd_machine.specs.File.{Plan}
@@ -32,6 +36,10 @@ shadow_order l plan k q count = record {
   features = plan.features;
   map = shadow_map plan;
 }
+
+-- the device is attached to the shadow ring of epoch k after `at` chains, with the default settings
+abbrev pub shadow_attach : LayoutModel → Plan → ℕ → ℕ → ℕ → Event
+shadow_attach l plan q k at = Attach at (16 * (k + 1) + q) (record { 0 = l.fresh_base }) Shadow default (shadow_map plan)
 
 -- where epoch k of a queue of n chains ends
 abbrev pub stop_of : List Switch → ℕ → ℕ → ℕ

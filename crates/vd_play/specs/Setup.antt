@@ -1,5 +1,6 @@
 -- How the bus of a machine stands.
-use Rattle.std.specs.Prelude.{◌≡◌, ℕ, ◌+◌, ◌-◌, ◌*◌, ◌/◌, ◌^◌, ◌<◌, Bool, true, false, if◌then◌else◌, List, [], length, slice_get, slice_index_or, Option, Some}
+use Rattle.std.specs.Prelude.{◌≡◌, ℕ, ◌+◌, ◌-◌, ◌*◌, ◌/◌, ◌^◌, ◌<◌, Bool, true, false, if◌then◌else◌, List, [], length, slice_get, slice_index_or, Option, Some, option_map}
+use Rattle.vd_model.specs.declared.base.Mode.{Mode}
 use Rattle.vd_model.specs.declared.map.Mapping.{Mapping}
 use Rattle.vd_uapi.specs.declared.vring_addr.VringAddr.{VringAddr}
 use Rattle.vd_uapi.specs.declared.vring_state.VringState.{VringState}
@@ -10,9 +11,9 @@ use Rattle.vd_bus.specs.Bus.{BusState, fresh_vring, is_lawful_base}
 use Rattle.vd_bus.specs.BusRings.{after_enable}
 use Rattle.vd_bus.specs.BusStatus.{feature_bits, is_running}
 use Rattle.vd_machine.specs.File.{Plan}
-use Rattle.vd_machine.specs.declared.regions.Region.{Region}
 use Rattle.vd_play.specs.declared.floor.Lane.{Lane}
-use Rattle.vd_play.specs.Journal.{pass_map}
+use Rattle.vd_play.specs.Epochs.{mode_at}
+use Rattle.vd_play.specs.Journal.{by_mode, map_in, ring_in}
 
 -- ---- where a ring lies
 
@@ -70,27 +71,38 @@ pub record Stands (plan : Plan) (b : BusState) : Type 0 where
 abbrev pub IsBrought : Plan → BusState → Type 0
 IsBrought plan b = b ≡ set_up plan 11 false b.vrings []
 
--- at DRIVER_OK, with the map of the mode pass
-abbrev pub IsUp : Plan → BusState → Type 0
-IsUp plan b = b ≡ set_up plan 15 false b.vrings (pass_map plan)
+-- at DRIVER_OK, with the map of this mode
+abbrev pub IsUp : Plan → Mode → BusState → Type 0
+IsUp plan m b = b ≡ set_up plan 15 false b.vrings (map_in plan m)
 
 abbrev pub vring_at : Plan → BusState → ℕ → Vring
 vring_at plan b q = slice_index_or b.vrings q (fresh_vring plan.packed)
 
--- a queue's ring is the guest's, which has its number
-pub record IsRing (plan : Plan) (q : ℕ) (v : Vring) : Type 0 where
-  pub num : v.num ≡ plan.size
-  pub addr : v.addr ≡ Some (ring_addr plan.packed plan.size q q)
-
-pub record HasRings (plan : Plan) (b : BusState) : Type 0 where
+-- each queue has a ring with the machine's number of places
+pub record HasSizes (plan : Plan) (b : BusState) : Type 0 where
   pub many : length b.vrings ≡ length plan.queues
-  pub each : (q : ℕ) → q < length plan.queues → IsRing plan q (vring_at plan b q)
+  pub each : (q : ℕ) → q < length plan.queues → (vring_at plan b q).num ≡ plan.size
+
+-- queue q has the ring of this number
+pub record IsRing (plan : Plan) (ring q : ℕ) (v : Vring) : Type 0 where
+  pub num : v.num ≡ plan.size
+  pub addr : v.addr ≡ Some (ring_addr plan.packed plan.size q ring)
+
+-- each queue has its ring of epoch k, which is of this mode
+pub record HasRings (plan : Plan) (m : Mode) (k : ℕ) (b : BusState) : Type 0 where
+  pub many : length b.vrings ≡ length plan.queues
+  pub each : (q : ℕ) → q < length plan.queues → IsRing plan (ring_in m k q) q (vring_at plan b q)
+
+-- each ring has the number and the address that it had
+pub record KeepsRings (plan : Plan) (b c : BusState) : Type 0 where
+  pub many : length c.vrings ≡ length b.vrings
+  pub num : (q : ℕ) → q < length plan.queues → (vring_at plan c q).num ≡ (vring_at plan b q).num
+  pub addr : (q : ℕ) → q < length plan.queues → (vring_at plan c q).addr ≡ (vring_at plan b q).addr
 
 -- the bus as it is before epoch k, and before it is set up for it
 pub record IsBefore (plan : Plan) (k : ℕ) (b : BusState) : Type 0 where
-  pub rings : HasRings plan b
-  pub first : k ≡ 0 → IsBrought plan b
-  pub later : 0 < k → IsUp plan b
+  pub first : k ≡ 0 → IsBrought plan b × HasRings plan (mode_at plan 0) 0 b
+  pub later : (j : ℕ) → k ≡ j + 1 → IsUp plan (mode_at plan j) b × HasSizes plan b
 
 -- queue q is enabled
 abbrev pub on : ℕ → VringState
@@ -101,9 +113,9 @@ serving b q = after_enable b (on q)
 
 -- ---- the map
 
--- an address message on a region at its own address
-abbrev pub region_message : ℕ → Region → Msg
-region_message kind r = record { asid = 0; iova = r.addr; size = r.size; uaddr = r.addr; perm = 3; kind = kind }
+-- an address message on a mapping
+abbrev pub map_message : ℕ → Mapping → Msg
+map_message kind k = record { asid = 0; iova = k.iova; size = k.size; uaddr = k.guest; perm = 3; kind = kind }
 
 -- ---- the ends that lanes keep
 
@@ -112,18 +124,24 @@ pub record CanServe {E : Type 0} (e : DeviceModel E) (plan : Plan) (end : E) : T
   pub still : IsStill e end
   pub lawful : is_lawful_base plan.packed plan.size (e.base end) ≡ true
 
-abbrev pub AllServe : {E : Type 0} → DeviceModel E → Plan → List (Lane E) → Type 0
-AllServe e plan lanes = (q : ℕ) (lane : Lane _) (end : _) → slice_get lanes q ≡ Some lane → lane.still ≡ Some end → CanServe e plan end
+abbrev pub AllServe : {L D E : Type 0} → DeviceModel E → Plan → List (Lane L D E) → Type 0
+AllServe e plan lanes = (q : ℕ) (lane : Lane _ _ _) (end : _) → slice_get lanes q ≡ Some lane → lane.still ≡ Some end → CanServe e plan end
 
--- the base of a queue is that of its lane's end
+-- a ring's base is that of the end
 abbrev pub HasBase : {E : Type 0} → DeviceModel E → Option E → Vring → Type 0
 HasBase e still v = (end : _) → still ≡ Some end → v.base ≡ e.base end
 
-abbrev pub HasBases : {E : Type 0} → DeviceModel E → Plan → List (Lane E) → BusState → Type 0
-HasBases e plan lanes b = (q : ℕ) (lane : Lane _) → slice_get lanes q ≡ Some lane → HasBase e lane.still (vring_at plan b q)
+-- from where a queue's ring is served in an epoch of this mode: where its lane's end rests, or from the base of a fresh ring
+abbrev pub base_in : {E : Type 0} → DeviceModel E → ℕ → Mode → Option E → Option ℕ
+base_in e base m still = by_mode m (option_map e.base still) (Some base)
 
--- the bus as it is set up for an epoch: each ring is served from where its end rests
-pub record IsReady {E : Type 0} (e : DeviceModel E) (plan : Plan) (lanes : List (Lane E)) (b : BusState) : Type 0 where
-  pub up : IsUp plan b
-  pub rings : HasRings plan b
-  pub bases : HasBases e plan lanes b
+abbrev pub HasBases : {L D E : Type 0} → DeviceModel E → ℕ → Plan → Mode → List (Lane L D E) → BusState → Type 0
+HasBases e base plan m lanes b = (q n : ℕ) (lane : Lane _ _ _) → slice_get lanes q ≡ Some lane → base_in e base m lane.still ≡ Some n
+    → (vring_at plan b q).base ≡ n
+
+-- the bus as it is set up for epoch k, which is of this mode
+pub record IsReady {L D E : Type 0} (e : DeviceModel E) (base : ℕ) (plan : Plan) (m : Mode) (k : ℕ) (lanes : List (Lane L D E)) (b : BusState)
+    : Type 0 where
+  pub up : IsUp plan m b
+  pub rings : HasRings plan m k b
+  pub bases : HasBases e base plan m lanes b

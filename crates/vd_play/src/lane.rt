@@ -1,16 +1,18 @@
-//! One lane: a ring over plain words with its guest and its device.
-ghost use Rattle.std.specs.Prelude.{◌≡◌, ℕ, ◌≤◌, Bool};
+//! One lane: a ring over plain words with its guest and its device, and in a shadow epoch a relay between them.
+ghost use Rattle.std.specs.Prelude.{◌≡◌, ℕ, ◌≤◌, Bool, None};
 ghost use Rattle.vd_machine.specs.File.{Plan};
+ghost use Rattle.vd_play.specs.Journal.{tree_map};
 ghost use Rattle.vd_play.specs.Progress.{InEpoch};
 ghost use Rattle.vd_play.specs.Rounds.{LaneGoes, IsSuspended};
 ghost use Rattle.vd_ring.specs.declared.device.DeviceView.{DeviceView};
 ghost use Rattle.vd_play.specs.Setting.{setting_of};
 
-use crate::draws::Draws;
 use crate::floor::Lane;
-use crate::turn::{device_turn, guest_turn};
+use crate::relaying::shadow_round;
 use vd_bus::{Device, Guest};
+use vd_iova::IovaTree;
 use vd_layout::Layout;
+use vd_turns::{Draws, device_turn, guest_turn};
 
 /// Suspends a device that is done, and keeps the ring's end here. It is a function of its own, since an end is large.
 #[inline(never)]
@@ -24,16 +26,17 @@ fn suspend<L: Layout, V: Device<L>>(still: &mut Option<L::Device>, device: &mut 
 
 /// The guest's turn and then, while it is attached, the device's. A device that is done is suspended. It answers how many
 /// steps were no look of a sleeper.
-pub(crate) fn lane_round<L: Layout, G: Guest<L>, V: Device<L>>(
-    lane: &mut Lane<L::Device>,
+fn pass_round<L: Layout, G: Guest<L>, V: Device<L>>(
+    lane: &mut Lane<L>,
     guest: &mut G,
     device: &mut V,
     draws: &mut Draws,
 ) -> u64
-    requires { (plan : Plan) × (q : ℕ) × (on : Bool) × (k : ℕ) × (r : ℕ)
-        × InEpoch (setting_of L.Driver.driver L.Device.device L.layout G.party V.party) plan q on k r lane.old guest.old device.old }
-    ensures few { result ≤ 8 }
-    ensures goes { LaneGoes (setting_of L.Driver.driver L.Device.device L.layout G.party V.party)
+    requires alone { lane.old.relaying ≡ None }
+    requires lane { (plan : Plan) × (q : ℕ) × (on : Bool) × (k : ℕ) × (n : ℕ)
+        × InEpoch (setting_of L.Driver.driver L.Device.device L.layout G.party V.party) plan q on k n lane.old guest.old device.old }
+    ensures few { result ≤ 12 }
+    ensures goes { (plan : Plan) → LaneGoes (setting_of L.Driver.driver L.Device.device L.layout G.party V.party) plan
         lane.old lane.new guest.old guest.new device.old device.new result }
     ensures carried { V.party.carried device.new ≡ V.party.carried device.old }
     ensures faults { V.party.faults device.new ≡ V.party.faults device.old }
@@ -48,4 +51,28 @@ pub(crate) fn lane_round<L: Layout, G: Guest<L>, V: Device<L>>(
     }
     suspend::<L, V>(&mut lane.still, device);
     by_guest + by_device
+}
+
+/// A turn of each live party of a lane. It answers how many steps were no look of a sleeper.
+pub(crate) fn lane_round<L: Layout, G: Guest<L>, V: Device<L>>(
+    lane: &mut Lane<L>,
+    tree: &IovaTree,
+    guest: &mut G,
+    device: &mut V,
+    draws: &mut Draws,
+) -> u64
+    requires lane { (plan : Plan) × (q : ℕ) × (on : Bool) × (k : ℕ) × (n : ℕ) × (tree.now.mappings ≡ tree_map plan)
+        × InEpoch (setting_of L.Driver.driver L.Device.device L.layout G.party V.party) plan q on k n lane.old guest.old device.old }
+    ensures few { result ≤ 12 }
+    ensures goes { (plan : Plan) → tree.now.mappings ≡ tree_map plan
+        → LaneGoes (setting_of L.Driver.driver L.Device.device L.layout G.party V.party) plan
+        lane.old lane.new guest.old guest.new device.old device.new result }
+    ensures carried { V.party.carried device.new ≡ V.party.carried device.old }
+    ensures faults { V.party.faults device.new ≡ V.party.faults device.old }
+{
+    if lane.relaying.is_some() {
+        shadow_round::<L, G, V>(lane, tree, guest, device, draws)
+    } else {
+        pass_round::<L, G, V>(lane, guest, device, draws)
+    }
 }

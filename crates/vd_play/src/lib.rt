@@ -3,7 +3,6 @@
 
 mod bench;
 mod calls;
-mod draws;
 mod epoch;
 mod floor;
 mod lane;
@@ -11,10 +10,12 @@ mod messages;
 mod order;
 mod playing;
 mod preparing;
+mod relaying;
 mod ring_addr;
 mod rounds;
 mod setup;
-mod turn;
+mod shadows;
+mod tree;
 
 pub use bench::Bench;
 pub use epoch::PlayFault;

@@ -1,10 +1,13 @@
-//! How many chains a device is attached to begin.
+//! How many chains a device is attached to begin, and in which mode.
 ghost use Rattle.std.specs.Prelude.{◌≡◌, ◌≤◌, min};
 ghost use Rattle.vd_bus.specs.Scripts.{run_count};
+ghost use Rattle.vd_machine.specs.File.{view};
+ghost use Rattle.vd_play.specs.Epochs.{mode_at};
 ghost use Rattle.vd_play.specs.Orders.{stop_of};
 
-use vd_machine::Switch;
-use vd_model::Run;
+use crate::shadows::mode_after;
+use vd_machine::{Machine, Switch};
+use vd_model::{Mode, Run};
 
 /// How many chains the runs have.
 pub(crate) fn chain_count(runs: &[Run]) -> u32
@@ -22,4 +25,19 @@ pub(crate) fn stop_of(switches: &[Switch], epoch: usize, n: u32) -> u32
         Some(switch) => switch.after.min(n),
         None => n,
     }
+}
+
+/// The mode of an epoch: what the switches before it make of the first one; behind the last of these, pass.
+pub(crate) fn mode_of(m: &Machine, epoch: usize) -> Mode
+    ensures { result ≡ mode_at (view m.now) epoch }
+{
+    let switches = m.switches.as_slice();
+    if switches.len() < epoch {
+        return Mode::Pass;
+    }
+    let mut mode = m.start;
+    for i in 0..epoch {
+        mode = mode_after(mode, switches[i].to);
+    }
+    mode
 }

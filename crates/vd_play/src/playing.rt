@@ -7,15 +7,16 @@ ghost use Rattle.vd_play.specs.Prepared.{IsPrepared};
 ghost use Rattle.vd_play.specs.Progress.{AllInEpoch, all_steps, most_steps};
 ghost use Rattle.vd_play.specs.Rounds.{AllDone, IsLast, Halts};
 ghost use Rattle.vd_play.specs.Setting.{setting_of};
+ghost use Rattle.vd_play.specs.Tree.{IsLaid};
 
 use crate::bench::Bench;
-use crate::draws::Draws;
 use crate::epoch::{PlayFault, attach_all};
 use crate::floor::Floor;
 use crate::rounds::{drain, run_epoch};
 use crate::setup::{bring_up, set_up};
 use vd_bus::{Device, Guest};
 use vd_layout::Layout;
+use vd_turns::Draws;
 use vd_machine::Machine;
 
 /// Halts each guest; all are done.
@@ -44,7 +45,9 @@ pub fn play_machine<L: Layout, G: Guest<L>, V: Device<L>>(
     seed: Option<u64>,
     bench: &mut Bench<G, V>,
 ) -> Result<u64, PlayFault>
-    requires { IsPrepared (setting_of L.Driver.driver L.Device.device L.layout G.party V.party) (view m.now) floor.lanes.items bench.old }
+    requires prepared { IsPrepared (setting_of L.Driver.driver L.Device.device L.layout G.party V.party) (view m.now)
+        floor.lanes.items bench.old }
+    requires tree { IsLaid (view m.now) floor.tree.mappings }
     ensures keeps { KeepsBench V.party (length m.now.queues) bench.old bench.new }
     ensures played { OnOk result (AllPlayed (setting_of L.Driver.driver L.Device.device L.layout G.party V.party) (view m.now) bench.new) }
     ensures counted { IfOk result (λ n. all_steps (setting_of L.Driver.driver L.Device.device L.layout G.party V.party) bench.new ≤ n) }
@@ -58,7 +61,7 @@ pub fn play_machine<L: Layout, G: Guest<L>, V: Device<L>>(
     let mut bus = bring_up(m);
     let mut made = 0;
     for epoch in 0..m.switches.len() + 2 {
-        set_up(m, epoch, &mut bus, floor.lanes.as_slice());
+        set_up::<L>(m, &floor.tree, epoch, &mut bus, floor.lanes.as_slice());
         attach_all::<L, G, V>(m, epoch, &mut bus, &mut floor, bench)?;
         made += run_epoch::<L, G, V>(&mut floor, bench, &mut draws);
     }

@@ -3,15 +3,16 @@ ghost use Rattle.std.specs.Prelude.{◌≡◌, ℕ, ◌<◌, ◌≤◌, ◌+◌,
 ghost use Rattle.std.specs.List.{list_all};
 ghost use Rattle.vd_machine.specs.File.{Plan};
 ghost use Rattle.vd_play.specs.Each.{HasLanes};
+ghost use Rattle.vd_play.specs.Journal.{tree_map};
 ghost use Rattle.vd_play.specs.Played.{KeepsBench, HasNoFault};
 ghost use Rattle.vd_play.specs.Progress.{AllInEpoch};
 ghost use Rattle.vd_play.specs.Rounds.{RoundGoes, EpochGoes, IsLast, AllDone, Drains};
 ghost use Rattle.vd_play.specs.Setting.{setting_of};
 
 use crate::bench::Bench;
-use crate::draws::Draws;
 use crate::floor::Floor;
 use crate::lane::lane_round;
+use vd_turns::Draws;
 use vd_bus::{Device, Guest};
 use vd_layout::Layout;
 
@@ -49,19 +50,21 @@ fn round<L: Layout, G: Guest<L>, V: Device<L>>(
 ) -> u64
     requires parties { HasLanes (length floor.old.lanes.items) bench.old }
     requires few { length floor.old.lanes.items ≤ 8 }
-    requires lanes { (plan : Plan) × (on : Bool) × (k : ℕ) × (r : ℕ)
-        × AllInEpoch (setting_of L.Driver.driver L.Device.device L.layout G.party V.party) plan on k r floor.old.lanes.items bench.old }
+    requires lanes { (plan : Plan) × (on : Bool) × (k : ℕ) × (n : ℕ) × (floor.old.tree.mappings ≡ tree_map plan)
+        × AllInEpoch (setting_of L.Driver.driver L.Device.device L.layout G.party V.party) plan on k n floor.old.lanes.items bench.old }
     ensures many { length floor.new.lanes.items ≡ length floor.old.lanes.items }
-    ensures few { result ≤ 64 }
+    ensures tree { floor.new.tree ≡ floor.old.tree }
+    ensures few { result ≤ 96 }
     ensures keeps { KeepsBench V.party (length floor.old.lanes.items) bench.old bench.new }
     ensures faults { HasNoFault V.party bench.old bench.new }
-    ensures goes { RoundGoes (setting_of L.Driver.driver L.Device.device L.layout G.party V.party)
+    ensures goes { (plan : Plan) → floor.old.tree.mappings ≡ tree_map plan → RoundGoes (setting_of L.Driver.driver L.Device.device L.layout G.party V.party) plan
         floor.old.lanes.items floor.new.lanes.items bench.old bench.new result }
 {
     let mut made = 0;
     for i in 0..floor.lanes.len() {
         made += lane_round::<L, G, V>(
             &mut floor.lanes[i],
+            &floor.tree,
             &mut bench.guests[i],
             &mut bench.devices[i],
             draws,
@@ -78,13 +81,14 @@ pub(crate) fn run_epoch<L: Layout, G: Guest<L>, V: Device<L>>(
 ) -> u64
     requires parties { HasLanes (length floor.old.lanes.items) bench.old }
     requires few { length floor.old.lanes.items ≤ 8 }
-    requires lanes { (plan : Plan) × (k : ℕ)
+    requires lanes { (plan : Plan) × (k : ℕ) × (floor.old.tree.mappings ≡ tree_map plan)
         × AllInEpoch (setting_of L.Driver.driver L.Device.device L.layout G.party V.party) plan true k 0 floor.old.lanes.items bench.old }
     ensures many { length floor.new.lanes.items ≡ length floor.old.lanes.items }
-    ensures few { result ≤ 274877906944 }
+    ensures tree { floor.new.tree ≡ floor.old.tree }
+    ensures few { result ≤ 412316860416 }
     ensures keeps { KeepsBench V.party (length floor.old.lanes.items) bench.old bench.new }
     ensures faults { HasNoFault V.party bench.old bench.new }
-    ensures goes { EpochGoes (setting_of L.Driver.driver L.Device.device L.layout G.party V.party)
+    ensures goes { (plan : Plan) → floor.old.tree.mappings ≡ tree_map plan → EpochGoes (setting_of L.Driver.driver L.Device.device L.layout G.party V.party) plan
         floor.old.lanes.items floor.new.lanes.items bench.old bench.new result }
 {
     let mut made = 0;
@@ -105,14 +109,15 @@ pub(crate) fn drain<L: Layout, G: Guest<L>, V: Device<L>>(
 ) -> u64
     requires parties { HasLanes (length floor.old.lanes.items) bench.old }
     requires few { length floor.old.lanes.items ≤ 8 }
-    requires lanes { (plan : Plan) × (k : ℕ) × IsLast plan k
+    requires lanes { (plan : Plan) × (k : ℕ) × (floor.old.tree.mappings ≡ tree_map plan) × IsLast plan k
         × AllInEpoch (setting_of L.Driver.driver L.Device.device L.layout G.party V.party) plan false k 0 floor.old.lanes.items bench.old }
     ensures many { length floor.new.lanes.items ≡ length floor.old.lanes.items }
-    ensures few { result ≤ 274877906944 }
+    ensures tree { floor.new.tree ≡ floor.old.tree }
+    ensures few { result ≤ 412316860416 }
     ensures keeps { KeepsBench V.party (length floor.old.lanes.items) bench.old bench.new }
     ensures faults { HasNoFault V.party bench.old bench.new }
     ensures done { AllDone G.party (length floor.old.lanes.items) bench.new }
-    ensures goes { Drains (setting_of L.Driver.driver L.Device.device L.layout G.party V.party)
+    ensures goes { (plan : Plan) → floor.old.tree.mappings ≡ tree_map plan → Drains (setting_of L.Driver.driver L.Device.device L.layout G.party V.party) plan
         floor.old.lanes.items floor.new.lanes.items bench.old bench.new result }
 {
     let mut made = 0;

@@ -1,15 +1,23 @@
 //! The bus of a machine, from its bring-up on (VIRTIO 1.2, 3.1.1).
-ghost use Rattle.std.specs.Prelude.{◌≡◌, length};
+ghost use Rattle.std.specs.Prelude.{◌≡◌, ◌+◌, ◌<◌, IfSome, length};
+ghost use Rattle.std.specs.Option.{option_map};
+ghost use Rattle.vd_layout.specs.Device.{IsStill};
 ghost use Rattle.vd_machine.specs.File.{view};
-ghost use Rattle.vd_play.specs.Setup.{with_vrings, Stands, IsBrought, IsUp, HasRings, IsBefore, AllServe, HasBases, IsReady};
+ghost use Rattle.vd_play.specs.Epochs.{mode_at};
+ghost use Rattle.vd_play.specs.Prepared.{IsOfLayout};
+ghost use Rattle.vd_play.specs.Setup.{with_vrings, base_in, Stands, IsBrought, IsUp, HasSizes, HasRings, KeepsRings, IsBefore, AllServe, HasBases, IsReady};
+ghost use Rattle.vd_play.specs.Tree.{IsTreeOf};
 
 use crate::calls::{resume, set_addr, set_base, set_features, set_num, set_status, suspend};
 use crate::floor::Lane;
 use crate::messages::{map_regions, unmap_regions};
-use crate::ring_addr::ring_addr;
+use crate::order::mode_of;
+use crate::ring_addr::{ring_addr, ring_in};
 use vd_bus::Bus;
-use vd_layout::DeviceEnd;
+use vd_iova::IovaTree;
+use vd_layout::{DeviceEnd, Layout};
 use vd_machine::Machine;
+use vd_model::{Base, Mode};
 use vd_uapi::VringState;
 
 /// The last iova: a region that lies outside the machine's own range of iovas is passed too.
@@ -30,10 +38,10 @@ fn new_bus(m: &Machine) -> Bus
     bus
 }
 
-/// The bus with all features accepted, and with the number and the address of each queue's ring.
+/// The bus with all features accepted, and with the number and the address of each queue's ring in the first epoch.
 pub(crate) fn bring_up(m: &Machine) -> Bus
     ensures brought { IsBrought (view m.now) result }
-    ensures rings { HasRings (view m.now) result }
+    ensures rings { HasRings (view m.now) m.now.start 0 result }
 {
     let mut bus = new_bus(m);
     for q in 0..m.queues.len() as u32 {
@@ -42,81 +50,122 @@ pub(crate) fn bring_up(m: &Machine) -> Bus
             num: m.size,
         };
         set_num(&mut bus, &v);
-        set_addr(&mut bus, &ring_addr(m.packed, m.size, q, q));
+        let ring = ring_in(m.start, 0, q);
+        set_addr(&mut bus, &ring_addr(m.packed, m.size, q, ring));
     }
     bus
 }
 
 /// Sets up the bus for an epoch: the first begins it, and before a later one the device is suspended.
-pub(crate) fn set_up<E: DeviceEnd>(m: &Machine, epoch: usize, bus: &mut Bus, lanes: &[Lane<E>])
+pub(crate) fn set_up<L: Layout>(
+    m: &Machine,
+    tree: &IovaTree,
+    epoch: usize,
+    bus: &mut Bus,
+    lanes: &[Lane<L>],
+)
+    requires layout { IsOfLayout L.layout (view m.now) }
+    requires tree { IsTreeOf (view m.now) tree.now.mappings }
+    requires epoch { epoch < length m.now.switches + 2 }
     requires before { IsBefore (view m.now) epoch bus.old }
     requires many { length lanes.now ≡ length m.now.queues }
-    requires ends { AllServe E.device (view m.now) lanes.now }
-    ensures { IsReady E.device (view m.now) lanes.now bus.new }
+    requires ends { AllServe L.Device.device (view m.now) lanes.now }
+    ensures { IsReady L.Device.device L.layout.fresh_base (view m.now) (mode_at (view m.now) epoch) epoch lanes.now bus.new }
 {
     if epoch == 0 {
-        begin(m, bus, lanes);
+        begin::<L>(m, tree, bus, lanes);
     } else {
-        switch(m, bus, lanes);
+        let before = mode_of(m, epoch - 1);
+        switch::<L>(m, tree, before, mode_of(m, epoch), epoch, bus, lanes);
     }
 }
 
 /// Messages for the map, bases, DRIVER_OK.
-fn begin<E: DeviceEnd>(m: &Machine, bus: &mut Bus, lanes: &[Lane<E>])
+fn begin<L: Layout>(m: &Machine, tree: &IovaTree, bus: &mut Bus, lanes: &[Lane<L>])
+    requires layout { IsOfLayout L.layout (view m.now) }
+    requires tree { IsTreeOf (view m.now) tree.now.mappings }
     requires brought { IsBrought (view m.now) bus.old }
-    requires rings { HasRings (view m.now) bus.old }
+    requires rings { HasRings (view m.now) m.now.start 0 bus.old }
     requires many { length lanes.now ≡ length m.now.queues }
-    requires ends { AllServe E.device (view m.now) lanes.now }
-    ensures { IsReady E.device (view m.now) lanes.now bus.new }
+    requires ends { AllServe L.Device.device (view m.now) lanes.now }
+    ensures { IsReady L.Device.device L.layout.fresh_base (view m.now) m.now.start 0 lanes.now bus.new }
 {
-    map_regions(m, bus);
-    set_bases(m, bus, lanes);
+    map_regions(m, tree, m.start, bus);
+    set_bases::<L>(m, m.start, bus, lanes);
     set_status(bus, 15);
 }
 
 /// While the device is suspended: addresses, messages for the map, bases.
-fn switch<E: DeviceEnd>(m: &Machine, bus: &mut Bus, lanes: &[Lane<E>])
-    requires up { IsUp (view m.now) bus.old }
-    requires rings { HasRings (view m.now) bus.old }
+fn switch<L: Layout>(
+    m: &Machine,
+    tree: &IovaTree,
+    before: Mode,
+    mode: Mode,
+    epoch: usize,
+    bus: &mut Bus,
+    lanes: &[Lane<L>],
+)
+    requires layout { IsOfLayout L.layout (view m.now) }
+    requires tree { IsTreeOf (view m.now) tree.now.mappings }
+    requires epoch { epoch < length m.now.switches + 2 }
+    requires up { IsUp (view m.now) before bus.old }
+    requires sizes { HasSizes (view m.now) bus.old }
     requires many { length lanes.now ≡ length m.now.queues }
-    requires ends { AllServe E.device (view m.now) lanes.now }
-    ensures { IsReady E.device (view m.now) lanes.now bus.new }
+    requires ends { AllServe L.Device.device (view m.now) lanes.now }
+    ensures { IsReady L.Device.device L.layout.fresh_base (view m.now) mode epoch lanes.now bus.new }
 {
     suspend(bus);
-    set_addrs(m, bus);
-    unmap_regions(m, bus);
-    map_regions(m, bus);
-    set_bases(m, bus, lanes);
+    set_addrs(m, mode, epoch, bus);
+    unmap_regions(m, tree, before, bus);
+    map_regions(m, tree, mode, bus);
+    set_bases::<L>(m, mode, bus, lanes);
     resume(bus);
 }
 
-/// Sets the address of each queue's ring again.
-fn set_addrs(m: &Machine, bus: &mut Bus)
+/// Sets the address of each queue's ring to that of its ring in an epoch of this mode.
+fn set_addrs(m: &Machine, mode: Mode, epoch: usize, bus: &mut Bus)
+    requires epoch { epoch < length m.now.switches + 2 }
     requires stands { Stands (view m.now) bus.old }
-    requires rings { HasRings (view m.now) bus.old }
+    requires sizes { HasSizes (view m.now) bus.old }
     ensures same { bus.new ≡ with_vrings bus.old bus.new.vrings }
-    ensures rings { HasRings (view m.now) bus.new }
+    ensures rings { HasRings (view m.now) mode epoch bus.new }
 {
     for q in 0..m.queues.len() as u32 {
-        set_addr(bus, &ring_addr(m.packed, m.size, q, q));
+        let ring = ring_in(mode, epoch as u32, q);
+        set_addr(bus, &ring_addr(m.packed, m.size, q, ring));
     }
 }
 
-/// Sets the base of each queue to that of its lane's end.
-fn set_bases<E: DeviceEnd>(m: &Machine, bus: &mut Bus, lanes: &[Lane<E>])
+/// From where a lane's ring is served in an epoch of this mode: where its end rests, or from the base of a fresh ring.
+fn base_in<L: Layout>(mode: Mode, lane: &Lane<L>) -> Option<Base>
+    requires end { IfSome lane.now.still (λ end. IsStill L.Device.device end) }
+    ensures { base_in L.Device.device L.layout.fresh_base mode lane.now.still ≡ option_map (λ b. b.0) result }
+{
+    match mode {
+        Mode::Pass => match &lane.still {
+            Some(end) => Some(end.base()),
+            None => None,
+        },
+        Mode::Shadow => Some(L::fresh_base()),
+    }
+}
+
+/// Sets the base of each queue to that from which its ring is served.
+fn set_bases<L: Layout>(m: &Machine, mode: Mode, bus: &mut Bus, lanes: &[Lane<L>])
+    requires layout { IsOfLayout L.layout (view m.now) }
     requires stands { Stands (view m.now) bus.old }
-    requires rings { HasRings (view m.now) bus.old }
+    requires sizes { HasSizes (view m.now) bus.old }
     requires many { length lanes.now ≡ length m.now.queues }
-    requires ends { AllServe E.device (view m.now) lanes.now }
+    requires ends { AllServe L.Device.device (view m.now) lanes.now }
     ensures same { bus.new ≡ with_vrings bus.old bus.new.vrings }
-    ensures rings { HasRings (view m.now) bus.new }
-    ensures bases { HasBases E.device (view m.now) lanes.now bus.new }
+    ensures keeps { KeepsRings (view m.now) bus.old bus.new }
+    ensures bases { HasBases L.Device.device L.layout.fresh_base (view m.now) mode lanes.now bus.new }
 {
     for q in 0..m.queues.len() {
-        if let Some(end) = &lanes[q].still {
+        if let Some(base) = base_in::<L>(mode, &lanes[q]) {
             let v = VringState {
                 index: q as u32,
-                num: end.base().0,
+                num: base.0,
             };
             set_base(bus, &v);
         }

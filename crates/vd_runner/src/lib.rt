@@ -19,6 +19,10 @@ mod recording_tests;
 mod reporting;
 mod status;
 #[cfg(test)]
+mod switching;
+#[cfg(test)]
+mod switching_tests;
+#[cfg(test)]
 mod tests;
 mod top;
 mod words;

@@ -15,7 +15,7 @@ use vd_split::Split;
 use vd_stream::{MemorySink, MemorySource};
 
 /// A bench of this guest and this device.
-fn bench_with<L: Layout, G: Guest<L>, V: Device<L>>(
+pub fn bench_with<L: Layout, G: Guest<L>, V: Device<L>>(
     alloc: Global,
     guest: G,
     device: V,
@@ -114,7 +114,7 @@ fn a_machine_wants_the_parties_of_its_own_layout(rt: HostRuntime) -> Result<(), 
     Ok(())
 }
 
-/// Six chains of different lengths over a ring of four places.
+/// Six chains of different lengths over a ring of four places, two of them in a shadow epoch.
 fn six_chains(alloc: Global, layout: &str) -> Result<String, AllocError> {
     let mut file = String::new(alloc);
     file.push_str("layout = \"")?;
@@ -123,18 +123,19 @@ fn six_chains(alloc: Global, layout: &str) -> Result<String, AllocError> {
     file.push_str(
         "queues = [[\"2*r4096+10 w8192+64\", \"r4096+9\", \"w8192+64\", \"2*r4096+7 r4103+1 w8192+5\"]]\n",
     )?;
+    file.push_str("switches = [{ after = 2, to = \"shadow\" }, { after = 4, to = \"pass\" }]\n")?;
     Ok(file)
 }
 
 const SIX: &str =
-    "queue 0 chains 6 bytes 30\nchain 0 0 10\nchain 0 1 10\nchain 0 2 0\nchain 0 3 0\nchain 0 4 5\nchain 0 5 5\nepoch 0 0 pass 0 6\ndrained 6\n";
+    "queue 0 chains 6 bytes 30\nchain 0 0 10\nchain 0 1 10\nchain 0 2 0\nchain 0 3 0\nchain 0 4 5\nchain 0 5 5\nepoch 0 0 pass 0 2\nepoch 0 1 shadow 2 4\nepoch 0 2 pass 4 6\ndrained 6\n";
 
 #[test]
 fn other_parties_than_the_models_play_too(rt: HostRuntime) -> Result<(), Fail> {
     let alloc = rt.alloc();
     let file = six_chains(alloc, "split")?;
     let mut source = MemorySource::new(alloc, file.as_bytes(), &[])?;
-    let mut sink = MemorySink::new(alloc, 300, &[])?;
+    let mut sink = MemorySink::new(alloc, 400, &[])?;
     let mut bench = bench_with::<Split, _, _>(
         alloc,
         ModelGuest::in_turns(alloc),
@@ -167,7 +168,7 @@ fn other_parties_play_on_a_packed_ring(rt: HostRuntime) -> Result<(), Fail> {
     let alloc = rt.alloc();
     let file = six_chains(alloc, "packed")?;
     let mut source = MemorySource::new(alloc, file.as_bytes(), &[])?;
-    let mut sink = MemorySink::new(alloc, 300, &[])?;
+    let mut sink = MemorySink::new(alloc, 400, &[])?;
     let mut bench = bench_with::<Packed, _, _>(
         alloc,
         ModelGuest::in_turns(alloc),

@@ -1,4 +1,4 @@
-use Rattle.std.proofs.Common.{◌≡◌, ◌<◌, ℕ, length, arith, sym, refl, ◌∙◌}
+use Rattle.std.proofs.Common.{◌<◌, ℕ, false, length, arith, sym, refl}
 use Rattle.std.specs.Vec.{with_item}
 use Rattle.std.proofs.lemmas.Option.{slice_get_read, slice_get_within}
 use Rattle.vd_play.specs.declared.bench.Bench.{Bench}
@@ -8,7 +8,7 @@ use Rattle.vd_play.proofs.Benches.{keeps_none, keeps_set, lanes_kept}
 use Rattle.vd_play.proofs.Bounds.{at_index}
 use Rattle.vd_play.proofs.Each.{stage_start, stage_end, stage_read, stage_halted, set_same}
 use Rattle.vd_play.proofs.Ending.{halts}
-use Rattle.vd_play.proofs.Going.{can_drive}
+use Rattle.vd_play.proofs.Held.{can_drive}
 use Rattle.vd_play.proofs.Sums.{sum_set}
 use Rattle.vd_play.proofs.playing.halt_all.Goals as goal
 
@@ -49,7 +49,7 @@ halt-requires-clause-held g c =
     (omega (arith, f.guests)) c.index_mut.ensures.value in
     let hx = at_index c.loop-i.bench.devices.items i (omega (arith, f.devices)) in
     let p = (stage_read _ _ i _ _ _ _ _ _ (c.loop-i.invariant.each r.0 r.1 r.2 r.3 r.4) hl.1 hg hx.1).0 in
-    let d = can_drive s r.0 i Rattle.std.proofs.Common.false r.1 r.2 hl.0.words hl.0.still c.index_mut.result.now hx.0 p in
+    let d = can_drive s r.0 i false r.1 r.2 hl.0.words hl.0.still hl.0.relaying hl.0.relayed c.index_mut.result.now hx.0 p.held in
     (d.0, d.3)
 
 pub loop-i-preserved : goal.loop-i-preserved
@@ -83,7 +83,8 @@ loop-i-preserved g c =
           let p = stage_read _ _ i _ _ _ _ _ _ e hl.1 hg hx.1 in
           stage_halted _ _ i _ _ _ hl.0 c.halt.new.self hx.0 hl.1 hx.1 e
           (halts s (record { layout = g.met.L.Layout.lawful; guest = g.met.G.Guest.lawful; party = g.met.V.Device.lawful }) plan i k
-          r hl.0.words hl.0.still c.index_mut.result.now c.halt.new.self hx.0 c.halt.result (last i) p.1 c.halt.ensures p.0);
+          r hl.0.words hl.0.still hl.0.relaying hl.0.relayed c.index_mut.result.now c.halt.new.self hx.0 c.halt.result (last i) p.1
+          c.halt.ensures p.0.held);
     }
 
 pub returns-clause-halted : goal.returns-clause-halted

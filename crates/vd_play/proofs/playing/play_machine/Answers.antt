@@ -2,15 +2,19 @@ use Rattle.std.proofs.Common.{◌≡◌, ◌+◌, ◌≤◌, ℕ, false, List, l
 use Rattle.vd_machine.specs.File.{view, Plan}
 use Rattle.vd_machine.proofs.Facts.{few_queues}
 use Rattle.vd_play.specs.declared.epoch.PlayFault.{PlayFault}
+use Rattle.vd_play.specs.Epochs.{mode_at}
 use Rattle.vd_play.specs.Each.{HasLanes}
 use Rattle.vd_play.specs.Played.{KeepsBench, IsFaultOf, IsPlayed, IsCut, AllCut, faulty}
-use Rattle.vd_play.specs.Progress.{AllStopped, all_steps, most_steps}
+use Rattle.vd_play.specs.Progress.{AllStopped, all_made, most_steps}
 use Rattle.vd_play.specs.Rounds.{AllDone}
 use Rattle.vd_play.specs.declared.floor.Lane.{Lane}
-use Rattle.vd_play.specs.Setting.{setting_of}
-use Rattle.vd_play.specs.Setup.{AllServe}
+use Rattle.vd_play.specs.Setting.{setting_of, IsLawful}
+use Rattle.vd_play.specs.Setup.{AllServe, HasRings, HasSizes, IsUp}
+use Rattle.vd_play.proofs.Modes.{mode_first}
+use Rattle.vd_play.specs.Tree.{IsLaid}
 use Rattle.vd_play.proofs.Setups.{still_serve}
 use Rattle.vd_play.proofs.Benches.{keeps_none, keeps_through, lanes_kept, fault_later, same_many}
+use Rattle.vd_play.proofs.Chained.{few_switches}
 use Rattle.vd_play.proofs.Cut.{if_err_by, if_err_any}
 use Rattle.vd_play.proofs.Each.{each_queue}
 use Rattle.vd_play.proofs.Lasting.{all_closed, all_low, last_epoch}
@@ -19,31 +23,36 @@ use Rattle.vd_play.proofs.playing.play_machine.Goals as goal
 
 pub loop-epoch-init : goal.loop-epoch-init
 loop-epoch-init g c = record {
-  many = c.requires.many;
-  parties = c.requires.parties;
+  many = c.requires.prepared.many;
+  tree = c.requires.tree;
+  parties = c.requires.prepared.parties;
   few = omega arith;
   keeps = keeps_none g.V.Device.party _ c.args.bench.now;
   faults = refl;
   counted = omega (
     arith,
-    sum_none g.G.Guest.party.accesses c.args.bench.now.guests.items c.requires.idle.guests,
-    sum_none g.V.Device.party.accesses c.args.bench.now.devices.items c.requires.idle.devices,
+    sum_none g.G.Guest.party.accesses c.args.bench.now.guests.items c.requires.prepared.idle.guests,
+    sum_none g.V.Device.party.accesses c.args.bench.now.devices.items c.requires.prepared.idle.devices,
+    sum_none (λ (l : Lane _ _ _). l.relayed) c.args.floor.lanes.items c.requires.prepared.none,
   );
   before = record {
-    rings = c.bring_up-bus.ensures.rings;
-    first = λ e. c.bring_up-bus.ensures.brought;
-    later = λ below. absurd (omega (arith, below));
+    first = λ e. (
+      c.bring_up-bus.ensures.brought,
+      subst (λ z. HasRings (view c.args.m.now) z 0 c.bring_up-bus.result)
+          (sym (mode_first c.args.m.now.switches c.args.m.now.start)) c.bring_up-bus.ensures.rings,
+    );
+    later = λ j is. absurd (omega (arith, is));
   };
-  each = c.requires.each;
+  each = c.requires.prepared.each;
 }
 
 pub set_up-requires-clause-ends : goal.set_up-requires-clause-ends
 set_up-requires-clause-ends g c =
-    subst (λ (lanes : List (Lane _)). AllServe g.L.Device.DeviceEnd.device (view c.args.m.now) lanes) (sym c.as_slice.ensures.value)
+    subst (λ (lanes : List (Lane _ _ _)). AllServe g.L.Device.DeviceEnd.device (view c.args.m.now) lanes) (sym c.as_slice.ensures.value)
     (still_serve (setting_of g.L.Driver.DriverEnd.driver g.L.Device.DeviceEnd.device g.L.Layout.layout g.G.Guest.party g.V.Device.party)
     (record { layout = g.met.L.Layout.lawful; guest = g.met.G.Guest.lawful; party = g.met.V.Device.lawful })
     (view c.args.m.now) c.loop-epoch.epoch (length c.args.m.now.queues) c.loop-epoch.floor.lanes.items c.loop-epoch.bench
-    c.requires.layout c.loop-epoch.invariant.many c.loop-epoch.invariant.parties c.loop-epoch.invariant.each)
+    c.requires.prepared.layout c.loop-epoch.invariant.many c.loop-epoch.invariant.parties c.loop-epoch.invariant.each)
 
 pub returns-in_err-attach_all-clause-keeps : goal.returns-in_err-attach_all-clause-keeps
 returns-in_err-attach_all-clause-keeps g c =
@@ -84,7 +93,12 @@ run_epoch-made-requires-clause-few g c =
     omega (arith, many, few_queues c.args.m.now.queues c.args.m.now.counted)
 
 pub run_epoch-made-requires-clause-lanes : goal.run_epoch-made-requires-clause-lanes
-run_epoch-made-requires-clause-lanes g c = (view c.args.m.now, c.loop-epoch.epoch, c.in_ok-attach_all.ensures.lanes)
+run_epoch-made-requires-clause-lanes g c = (
+  view c.args.m.now,
+  c.loop-epoch.epoch,
+  ap (λ t. t.mappings) c.attach_all.ensures.tree ∙ c.loop-epoch.invariant.tree.mapped,
+  c.in_ok-attach_all.ensures.lanes,
+)
 
 pub loop-epoch-preserved : goal.loop-epoch-preserved
 loop-epoch-preserved g c =
@@ -94,18 +108,21 @@ loop-epoch-preserved g c =
     let later : KeepsBench m n c.attach_all.new.bench c.run_epoch-made.new.bench =
     subst (λ j. KeepsBench m j c.attach_all.new.bench c.run_epoch-made.new.bench) many c.run_epoch-made.ensures.keeps in
     let both = keeps_through m n c.loop-epoch.bench c.attach_all.new.bench c.run_epoch-made.new.bench c.attach_all.ensures.keeps later in
-    let ran = c.run_epoch-made.ensures.goes (view c.args.m.now) c.loop-epoch.epoch c.in_ok-attach_all.ensures.lanes in
+    let laid = ap (λ t. t.mappings) c.attach_all.ensures.tree ∙ c.loop-epoch.invariant.tree.mapped in
+    let ran = c.run_epoch-made.ensures.goes (view c.args.m.now) laid c.loop-epoch.epoch c.in_ok-attach_all.ensures.lanes in
     record {
       many = c.run_epoch-made.ensures.many ∙ many;
+      tree = subst (λ t. IsLaid (view c.args.m.now) t.mappings) (sym (c.run_epoch-made.ensures.tree ∙ c.attach_all.ensures.tree))
+          c.loop-epoch.invariant.tree;
       parties = lanes_kept m n c.loop-epoch.bench c.run_epoch-made.new.bench n both c.loop-epoch.invariant.parties;
       few = omega (arith, c.loop-epoch.invariant.few, c.run_epoch-made.ensures.few);
       keeps = keeps_through m n c.args.bench.now c.loop-epoch.bench c.run_epoch-made.new.bench c.loop-epoch.invariant.keeps both;
       faults = c.run_epoch-made.ensures.faults ∙ c.in_ok-attach_all.ensures.faults ∙ c.loop-epoch.invariant.faults;
       counted = omega (arith, ran.1, c.in_ok-attach_all.ensures.counted, c.loop-epoch.invariant.counted);
       before = record {
-        rings = c.in_ok-attach_all.ensures.up.1;
         first = λ e. absurd (omega (arith, e));
-        later = λ below. c.in_ok-attach_all.ensures.up.0;
+        later = λ j is. subst (λ i. IsUp (view c.args.m.now) (mode_at (view c.args.m.now) i) c.attach_all.new.bus
+            × HasSizes (view c.args.m.now) c.attach_all.new.bus) (omega (arith, is)) c.in_ok-attach_all.ensures.up;
       };
       each = ran.0;
     }
@@ -125,7 +142,8 @@ drain-made-requires-clause-lanes g c =
     let end : c.loop-epoch.epoch ≡ k + 1 = omega arith in (
       plan,
       k,
-      last_epoch s plan,
+      c.loop-epoch.invariant.tree.mapped,
+      last_epoch plan,
       all_closed s plan k c.loop-epoch.floor.lanes.items c.loop-epoch.bench
           (subst (λ (j : ℕ). AllStopped s plan j c.loop-epoch.floor.lanes.items c.loop-epoch.bench) end c.loop-epoch.invariant.each),
     )
@@ -151,8 +169,8 @@ halt_all-requires-clause-lanes g c =
     let end : c.loop-epoch.epoch ≡ k + 1 = omega arith in
     let start = all_closed s plan k c.loop-epoch.floor.lanes.items c.loop-epoch.bench
     (subst (λ (j : ℕ). AllStopped s plan j c.loop-epoch.floor.lanes.items c.loop-epoch.bench) end c.loop-epoch.invariant.each) in
-    let drained = c.drain-made.ensures.goes plan k start in
-    (plan, k, drained.0.0, last_epoch s plan, drained.0.1)
+    let drained = c.drain-made.ensures.goes plan c.loop-epoch.invariant.tree.mapped k start in
+    (plan, k, drained.0.0, last_epoch plan, drained.0.1)
 
 pub returns-clause-keeps : goal.returns-clause-keeps
 returns-clause-keeps g c =
@@ -175,9 +193,9 @@ returns-clause-played g c =
     let end : c.loop-epoch.epoch ≡ k + 1 = omega arith in
     let start = all_closed s plan k c.loop-epoch.floor.lanes.items c.loop-epoch.bench
     (subst (λ (j : ℕ). AllStopped s plan j c.loop-epoch.floor.lanes.items c.loop-epoch.bench) end c.loop-epoch.invariant.each) in
-    let drained = c.drain-made.ensures.goes plan k start in
+    let drained = c.drain-made.ensures.goes plan c.loop-epoch.invariant.tree.mapped k start in
     each_queue (IsPlayed s plan) (length c.args.m.now.queues) _ _ _ (c.drain-made.ensures.many ∙ c.loop-epoch.invariant.many)
-    (c.halt_all.ensures.halted plan k drained.0.0 (last_epoch s plan) drained.0.1)
+    (c.halt_all.ensures.halted plan k drained.0.0 (last_epoch plan) drained.0.1)
 
 pub returns-clause-counted : goal.returns-clause-counted
 returns-clause-counted g c =
@@ -187,7 +205,7 @@ returns-clause-counted g c =
     let end : c.loop-epoch.epoch ≡ k + 1 = omega arith in
     let start = all_closed s plan k c.loop-epoch.floor.lanes.items c.loop-epoch.bench
     (subst (λ (j : ℕ). AllStopped s plan j c.loop-epoch.floor.lanes.items c.loop-epoch.bench) end c.loop-epoch.invariant.each) in
-    let drained = c.drain-made.ensures.goes plan k start in
+    let drained = c.drain-made.ensures.goes plan c.loop-epoch.invariant.tree.mapped k start in
     omega (arith, c.halt_all.ensures.counted, drained.1, c.loop-epoch.invariant.counted)
 
 pub returns-clause-bound : goal.returns-clause-bound
@@ -200,18 +218,42 @@ returns-clause-bound g c =
     let end : c.loop-epoch.epoch ≡ k + 1 = omega arith in
     let start = all_closed s plan k c.loop-epoch.floor.lanes.items c.loop-epoch.bench
     (subst (λ (j : ℕ). AllStopped s plan j c.loop-epoch.floor.lanes.items c.loop-epoch.bench) end c.loop-epoch.invariant.each) in
-    let drained = c.drain-made.ensures.goes plan k start in
+    let drained = c.drain-made.ensures.goes plan c.loop-epoch.invariant.tree.mapped k start in
     let many : length c.loop-epoch.floor.lanes.items ≡ n = c.loop-epoch.invariant.many in
     let one : KeepsBench m n c.loop-epoch.bench c.drain-made.new.bench =
     subst (λ j. KeepsBench m j c.loop-epoch.bench c.drain-made.new.bench) many c.drain-made.ensures.keeps in
     let keeps = keeps_through m n c.args.bench.now c.loop-epoch.bench c.drain-made.new.bench c.loop-epoch.invariant.keeps one in
-    let low : all_steps s c.drain-made.new.bench ≤ most_steps plan =
-    all_low s plan false k drained.0.0 c.drain-made.new.floor.lanes.items c.args.bench.now c.drain-made.new.bench
-    (c.drain-made.ensures.many ∙ many) (lanes_kept m n c.args.bench.now c.drain-made.new.bench n keeps c.requires.parties)
-    c.requires.idle keeps drained.0.1 in
+    let law : IsLawful s = record { layout = g.met.L.Layout.lawful; guest = g.met.G.Guest.lawful; party = g.met.V.Device.lawful } in
+    let low : all_made s c.drain-made.new.floor.lanes.items c.drain-made.new.bench ≤ most_steps plan =
+    all_low s plan law false k drained.0.0 c.drain-made.new.floor.lanes.items c.args.bench.now c.drain-made.new.bench
+    (c.drain-made.ensures.many ∙ many) (lanes_kept m n c.args.bench.now c.drain-made.new.bench n keeps c.requires.prepared.parties)
+    c.requires.prepared.idle keeps drained.0.1 in
     omega (arith, low, drained.1, c.loop-epoch.invariant.counted)
 
 pub returns-clause-faults : goal.returns-clause-faults
 returns-clause-faults g c =
     let m = g.V.Device.party in
     ap (λ xs. map m.faults xs.items) c.halt_all.ensures.devices ∙ c.drain-made.ensures.faults ∙ c.loop-epoch.invariant.faults
+
+pub overflow_add-epoch-end : goal.overflow_add-epoch-end
+overflow_add-epoch-end g c = omega (arith, c.len-epoch-end.ensures, few_switches c.args.m.now.switches c.args.m.now.switched)
+
+pub overflow_add-made : goal.overflow_add-made
+overflow_add-made g c = omega (
+  arith,
+  c.loop-epoch.invariant.few,
+  c.run_epoch-made.ensures.few,
+  c.loop-epoch-test.true,
+  c.len-epoch-end.ensures,
+  few_switches c.args.m.now.switches c.args.m.now.switched,
+)
+
+pub overflow_add-made-2 : goal.overflow_add-made-2
+overflow_add-made-2 g c = omega (
+  arith,
+  c.loop-epoch.invariant.few,
+  c.drain-made.ensures.few,
+  c.loop-epoch.auto.epoch-end,
+  c.len-epoch-end.ensures,
+  few_switches c.args.m.now.switches c.args.m.now.switched,
+)

@@ -1,8 +1,12 @@
-use Rattle.std.proofs.Common.{◌≡◌, ◌<◌, ◌+◌, ℕ, length, arith, sym, refl, ap, ◌∙◌}
+use Rattle.std.proofs.Common.{◌≡◌, ◌<◌, ◌+◌, ◌++◌, ◌∷◌, [], ℕ, length, arith, sym, subst, refl, ap, ◌∙◌}
 use Rattle.std.specs.Vec.{with_item}
 use Rattle.std.proofs.lemmas.Option.{slice_get_read}
 use Rattle.std.proofs.lemmas.List.{length_push}
+use Rattle.std.proofs.lemmas.List.Elements.{All-nil, All-cons, All-append, All-same}
+use Rattle.vd_machine.specs.File.{view}
 use Rattle.vd_play.specs.declared.bench.Bench.{Bench}
+use Rattle.vd_play.specs.declared.floor.Lane.{Lane}
+use Rattle.vd_play.specs.Tree.{IsTreeOf}
 use Rattle.vd_play.specs.Played.{KeepsBench}
 use Rattle.vd_play.specs.Prepared.{IsEmptyGuest, IsEmptyDevice}
 use Rattle.vd_play.proofs.Benches.{keeps_none, keeps_set, keeps_more, lanes_kept, same_many}
@@ -15,6 +19,10 @@ pub returns-in_err-lanes-clause-untouched : goal.returns-in_err-lanes-clause-unt
 returns-in_err-lanes-clause-untouched g c =
     untouched_start g.L.Driver.DriverEnd.driver g.G.Guest.party g.V.Device.party g.met.G.Guest.lawful c.args.bench.now c.requires.empty
 
+pub returns-in_err-tree-clause-untouched : goal.returns-in_err-tree-clause-untouched
+returns-in_err-tree-clause-untouched g c =
+    untouched_start g.L.Driver.DriverEnd.driver g.G.Guest.party g.V.Device.party g.met.G.Guest.lawful c.args.bench.now c.requires.empty
+
 pub loop-i-init : goal.loop-i-init
 loop-i-init g c = record {
   many = ap length c.in_ok-lanes.ensures.items;
@@ -24,6 +32,7 @@ loop-i-init g c = record {
   untouched = untouched_start g.L.Driver.DriverEnd.driver g.G.Guest.party g.V.Device.party g.met.G.Guest.lawful c.args.bench.now
       c.requires.empty;
   each = each_none _ c.in_ok-lanes.lanes.items _ _ c.in_ok-lanes.ensures.items;
+  none = All-same (λ (lane : Lane _ _ _). lane.relayed ≡ 0) c.in_ok-lanes.lanes.items [] c.in_ok-lanes.ensures.items (All-nil _);
 }
 
 pub make_lane-requires-clause-guest : goal.make_lane-requires-clause-guest
@@ -129,6 +138,10 @@ loop-i-preserved g c =
           c.make_lane.ensures.device;
       each = each_push _ i c.loop-i.lanes.items c.push_reserved.new.self.items _ _ c.in_ok-lane.lane c.make_lane.new.guest
           c.make_lane.new.device c.push_reserved.ensures.items c.loop-i.invariant.many c.loop-i.invariant.each c.in_ok-lane.ensures.ok;
+      none = All-same (λ (lane : Lane _ _ _). lane.relayed ≡ 0) c.push_reserved.new.self.items
+          (c.loop-i.lanes.items ++ c.in_ok-lane.lane ∷ []) c.push_reserved.ensures.items
+          (All-append (λ (lane : Lane _ _ _). lane.relayed ≡ 0) c.loop-i.lanes.items (c.in_ok-lane.lane ∷ []) c.loop-i.invariant.none
+          (All-cons (λ (lane : Lane _ _ _). lane.relayed ≡ 0) c.in_ok-lane.lane [] c.in_ok-lane.ensures.none (All-nil _)));
     }
 
 pub returns-clause-ok : goal.returns-clause-ok
@@ -143,4 +156,17 @@ returns-clause-ok g c =
       each = v.each;
       idle = idle_of s c.args.bench.now c.loop-i.bench c.requires.empty v.untouched
           (same_many g.V.Device.party c.loop-i.i c.args.bench.now c.loop-i.bench v.keeps);
+      none = v.none;
     }
+
+pub make_lane-requires-clause-tree : goal.make_lane-requires-clause-tree
+make_lane-requires-clause-tree g c =
+    subst (IsTreeOf (view c.args.m.now)) c.in_ok-tree.ensures.mapped c.in_ok-tree.ensures.laid
+
+pub returns-clause-tree : goal.returns-clause-tree
+returns-clause-tree g c = record { mapped = c.in_ok-tree.ensures.mapped; tree = c.in_ok-tree.ensures.laid }
+
+pub returns-clause-keeps : goal.returns-clause-keeps
+returns-clause-keeps g c =
+    keeps_more g.V.Device.party c.loop-i.i (length c.args.m.now.queues) c.args.bench.now c.loop-i.bench (omega arith)
+    c.loop-i.invariant.keeps

@@ -1,5 +1,7 @@
 use Rattle.std.proofs.Common.{◌≡◌, ◌≤◌, length, vec_len, vec_capacity}
+use Rattle.std.specs.List.{All}
 use Rattle.vd_machine.specs.File.{view}
+use Rattle.vd_play.specs.declared.floor.Lane.{Lane}
 use Rattle.vd_play.specs.Each.{EachLane, HasLanes}
 use Rattle.vd_play.specs.Progress.{Stopped}
 use Rattle.vd_play.specs.Played.{KeepsBench}
@@ -17,4 +19,5 @@ invariant-loop-i g l = record {
   each : EachLane (λ q a b x. Stopped
       (setting_of g.L.Driver.DriverEnd.driver g.L.Device.DeviceEnd.device g.L.Layout.layout g.G.Guest.party g.V.Device.party)
       (view l.m) q 0 a b x) l.lanes.items l.bench.guests.items l.bench.devices.items;
+  none : All (λ (lane : Lane _ _ _). lane.relayed ≡ 0) l.lanes.items;
 }

@@ -1,4 +1,4 @@
-use Rattle.std.proofs.Common.{◌∙◌, ℕ, length, arith, sym, refl, false, subst}
+use Rattle.std.proofs.Common.{◌∙◌, ℕ, length, arith, sym, ap, refl, false, subst}
 use Rattle.vd_play.specs.Each.{HasLanes}
 use Rattle.vd_play.specs.Played.{KeepsBench}
 use Rattle.vd_play.specs.Rounds.{AllDone}
@@ -10,21 +10,23 @@ use Rattle.vd_play.proofs.rounds.drain.Goals as goal
 pub loop-turn-init : goal.loop-turn-init
 loop-turn-init g c = record {
   many = refl;
+  tree = refl;
   parties = c.requires.parties;
   few = omega arith;
   keeps = keeps_none g.V.Device.party _ c.args.bench.now;
   faults = refl;
-  each = λ plan k start. (start, omega arith);
+  each = λ plan k laid start. (start, omega arith);
 }
 
 pub returns-then-all_done-clause-goes : goal.returns-then-all_done-clause-goes
-returns-then-all_done-clause-goes g c = λ plan k start.
-    let e = c.loop-turn.invariant.each plan k start in
+returns-then-all_done-clause-goes g c = λ plan laid k start.
+    let e = c.loop-turn.invariant.each plan k laid start in
     ((c.loop-turn.turn, e.0), e.1)
 
 pub round-made-requires-clause-lanes : goal.round-made-requires-clause-lanes
 round-made-requires-clause-lanes g c = let r = c.requires.lanes in
-    (r.0, false, r.1, c.loop-turn.turn, (c.loop-turn.invariant.each r.0 r.1 r.3).0)
+    (r.0, false, r.1, c.loop-turn.turn, ap (λ t. t.mappings) c.loop-turn.invariant.tree ∙ r.2,
+        (c.loop-turn.invariant.each r.0 r.1 r.2 r.4).0)
 
 pub loop-turn-preserved : goal.loop-turn-preserved
 loop-turn-preserved g c =
@@ -35,14 +37,16 @@ loop-turn-preserved g c =
     let keeps : KeepsBench m n c.args.bench.now c.round-made.new.bench =
     keeps_through m n c.args.bench.now c.loop-turn.bench c.round-made.new.bench c.loop-turn.invariant.keeps one in
     record {
+      tree = c.round-made.ensures.tree ∙ c.loop-turn.invariant.tree;
       many = c.round-made.ensures.many ∙ c.loop-turn.invariant.many;
       parties = lanes_kept m n c.args.bench.now c.round-made.new.bench n keeps c.requires.parties;
       few = omega (arith, c.loop-turn.invariant.few, c.round-made.ensures.few);
       keeps = keeps;
       faults = c.round-made.ensures.faults ∙ c.loop-turn.invariant.faults;
-      each = λ plan k start.
-          let e = c.loop-turn.invariant.each plan k start in
-          let f = c.round-made.ensures.goes plan false k c.loop-turn.turn e.0 in
+      each = λ plan k laid start.
+          let e = c.loop-turn.invariant.each plan k laid start in
+          let here = ap (λ t. t.mappings) c.loop-turn.invariant.tree ∙ laid in
+          let f = c.round-made.ensures.goes plan here false k c.loop-turn.turn e.0 in
           (f.0, omega (arith, e.1, f.1));
     }
 
@@ -50,14 +54,15 @@ pub returns-clause-done : goal.returns-clause-done
 returns-clause-done g c =
     let s = setting_of g.L.Driver.DriverEnd.driver g.L.Device.DeviceEnd.device g.L.Layout.layout g.G.Guest.party g.V.Device.party in
     let r = c.requires.lanes in
-    let e = c.loop-turn.invariant.each r.0 r.1 r.3 in
+    let e = c.loop-turn.invariant.each r.0 r.1 r.2 r.4 in
     let many = c.loop-turn.invariant.many in
     let here : HasLanes (length c.loop-turn.floor.lanes.items) c.loop-turn.bench =
     subst (λ (n : ℕ). HasLanes n c.loop-turn.bench) (sym many) c.loop-turn.invariant.parties in
     subst (λ (n : ℕ). AllDone g.G.Guest.party n c.loop-turn.bench) many
-    (guests_done s r.0 r.1 c.loop-turn.turn c.loop-turn.floor.lanes.items c.loop-turn.bench r.2 here (omega arith) e.0)
+    (guests_done s r.0 (record { layout = g.met.L.Layout.lawful; guest = g.met.G.Guest.lawful; party = g.met.V.Device.lawful }) r.1
+    c.loop-turn.turn c.loop-turn.floor.lanes.items c.loop-turn.bench r.3 here (omega arith) e.0)
 
 pub returns-clause-goes : goal.returns-clause-goes
-returns-clause-goes g c = λ plan k start.
-    let e = c.loop-turn.invariant.each plan k start in
+returns-clause-goes g c = λ plan laid k start.
+    let e = c.loop-turn.invariant.each plan k laid start in
     ((c.loop-turn.turn, e.0), e.1)

@@ -1,18 +1,40 @@
+use Rattle.std.proofs.Common.{List}
+use Rattle.vd_model.specs.declared.base.Mode.{Mode}
+use Rattle.vd_model.specs.declared.map.Mapping.{Mapping}
 use Rattle.vd_machine.proofs.Facts.{size_bounds}
-use Rattle.vd_machine.specs.File.{view}
-use Rattle.vd_play.proofs.Setups.{rings_ready, begun_is, driver_ok, ready_first}
+use Rattle.vd_machine.specs.File.{view, Plan}
+use Rattle.vd_play.specs.Journal.{map_in}
+use Rattle.vd_play.proofs.RingsSet.{rings_kept, rings_mapped}
+use Rattle.vd_play.proofs.Setups.{rings_ready, rings_sized, begun_is, driver_ok, ready_first}
 use Rattle.vd_play.proofs.setup.begin.Goals as goal
+
+pub set_bases-requires-clause-sizes : goal.set_bases-requires-clause-sizes
+set_bases-requires-clause-sizes g c =
+    let plan : Plan = view c.args.m.now in
+    let m : Mode = c.args.m.now.start in
+    rings_sized plan m 0 c.map_regions.new.bus (rings_mapped plan m 0 (map_in plan m) c.args.bus.now c.map_regions.new.bus
+    c.map_regions.ensures c.requires.rings)
 
 pub set_status-requires : goal.set_status-requires
 set_status-requires g c =
-    driver_ok (view c.args.m.now) c.set_bases.new.bus
-    (begun_is (view c.args.m.now) c.args.bus.now c.map_regions.new.bus c.set_bases.new.bus c.requires.brought c.map_regions.ensures
+    let plan : Plan = view c.args.m.now in
+    let m : Mode = c.args.m.now.start in
+    let ms : List Mapping = map_in plan m in
+    let mapped = rings_mapped plan m 0 ms c.args.bus.now c.map_regions.new.bus c.map_regions.ensures c.requires.rings in
+    let kept = rings_kept plan m 0 c.map_regions.new.bus c.set_bases.new.bus c.set_bases.ensures.keeps mapped in
+    driver_ok plan ms c.set_bases.new.bus
+    (begun_is plan ms c.args.bus.now c.map_regions.new.bus c.set_bases.new.bus c.requires.brought c.map_regions.ensures
     c.set_bases.ensures.same)
-    (rings_ready (view c.args.m.now) c.set_bases.new.bus (size_bounds c.args.m.now.packed c.args.m.now.size c.args.m.now.sized).0
-    c.set_bases.ensures.rings)
+    (rings_ready plan m 0 c.set_bases.new.bus (size_bounds c.args.m.now.packed c.args.m.now.size c.args.m.now.sized).0 kept)
 
 pub returns : goal.returns
 returns g c =
-    ready_first g.E.DeviceEnd.device (view c.args.m.now) c.args.lanes.now c.set_bases.new.bus c.set_status.new.bus
-    (begun_is (view c.args.m.now) c.args.bus.now c.map_regions.new.bus c.set_bases.new.bus c.requires.brought c.map_regions.ensures
-    c.set_bases.ensures.same) c.set_bases.ensures.rings c.set_bases.ensures.bases c.set_status.ensures
+    let plan : Plan = view c.args.m.now in
+    let m : Mode = c.args.m.now.start in
+    let ms : List Mapping = map_in plan m in
+    let mapped = rings_mapped plan m 0 ms c.args.bus.now c.map_regions.new.bus c.map_regions.ensures c.requires.rings in
+    let kept = rings_kept plan m 0 c.map_regions.new.bus c.set_bases.new.bus c.set_bases.ensures.keeps mapped in
+    ready_first g.L.Device.DeviceEnd.device g.L.Layout.layout.fresh_base plan m 0 c.args.lanes.now c.set_bases.new.bus
+    c.set_status.new.bus
+    (begun_is plan ms c.args.bus.now c.map_regions.new.bus c.set_bases.new.bus c.requires.brought c.map_regions.ensures
+    c.set_bases.ensures.same) kept c.set_bases.ensures.bases c.set_status.ensures
