@@ -103,6 +103,17 @@ epoch 1 1 shadow 200 300
 epoch 1 2 pass 300 300
 drained 1300
 ' play --brief
+cp examples/eight-queues.toml "$work/in"
+eight=''
+for q in 0 1 2 3 4 5 6 7; do
+    first=$((q < 3 ? q : 3))
+    eight="${eight}queue $q chains $q bytes 0
+epoch $q 0 pass 0 $first
+epoch $q 1 shadow $first $q
+"
+done
+expect 'eight queues' 0 '' "${eight}drained 28
+" play --brief
 cp examples/three-queues.toml "$work/in"
 expect 'three queues' 0 '' 'queue 0 chains 3 bytes 20
 chain 0 0 10

@@ -139,7 +139,7 @@ pub fn play_told(
 }
 
 /// What the parties of a queue tell.
-pub fn tell_of<L: Layout, G: Guest<L>, V: Device<L>>(
+fn tell_of<L: Layout, G: Guest<L>, V: Device<L>>(
     alloc: Global,
     status: Status,
     bench: &Bench<G, V>,
