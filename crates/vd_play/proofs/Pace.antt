@@ -100,10 +100,10 @@ pub bells_low : (l : LayoutModel) (plan : Plan) (q k : ℕ) → IsQueue l plan q
     → bells_before plan q k ≤ 2 * length (queue_chains plan q) + plan.size * 18
 bells_low l plan q k queue few within =
     let shadows : shadows_before plan k ≤ 18 = omega (arith, shadows_before_low plan k, few) in omega (
-  arith,
-  begun_low (length (queue_chains plan q)) (queue_epochs plan q) k queue.chained within,
-  mul-le-mul_left plan.size shadows,
-)
+      arith,
+      begun_low (length (queue_chains plan q)) (queue_epochs plan q) k queue.chained within,
+      mul-le-mul_left plan.size shadows,
+    )
 
 pub hears_low : (l : LayoutModel) (plan : Plan) (q k heard relays : ℕ) (v : DriverView) (w : DeviceView) → IsQueue l plan q → k ≤ 18
     → k ≤ length (queue_epochs plan q) → w.heard ≤ length (offers v.done) → length (offers v.done) ≤ length (queue_chains plan q)

@@ -96,167 +96,167 @@ module _ {L D E G X C : Type 0} (s : Setting D E G X C) (law : IsLawful s) (plan
     (shadows : Shadows s.device s.driver end ring.kit.driver ring.kit.table r c) (fresh : IsNew r c)
     (a : IsAttach s.device s.party (shadow_order s.layout plan k q (to - length (s.party.begun device))) None ring.kit.device device
     device')
-    where
-  abbrev number : ℕ
-  number = 16 * (k + 1) + q
+  where
+    abbrev number : ℕ
+    number = 16 * (k + 1) + q
 
-  abbrev frame : Frame
-  frame = shadow_frame s.layout plan number
+    abbrev frame : Frame
+    frame = shadow_frame s.layout plan number
 
-  abbrev v : DriverView
-  v = p.view
+    abbrev v : DriverView
+    v = p.view
 
-  abbrev w : DeviceView
-  w = p.device_view
+    abbrev w : DeviceView
+    w = p.device_view
 
-  abbrev sv : DriverView
-  sv = fresh_driver frame (s.layout.width frame)
+    abbrev sv : DriverView
+    sv = fresh_driver frame (s.layout.width frame)
 
-  abbrev sw : DeviceView
-  sw = fresh_device frame (s.layout.width frame)
+    abbrev sw : DeviceView
+    sw = fresh_device frame (s.layout.width frame)
 
-  abbrev by : Attached
-  by = record { queue = q; count = to - length (s.party.begun device); at = length (s.party.begun device); from = a.from }
+    abbrev by : Attached
+    by = record { queue = q; count = to - length (s.party.begun device); at = length (s.party.begun device); from = a.from }
 
-  abbrev z : Start
-  z = start (tree_map plan) w
+    abbrev z : Start
+    z = start (tree_map plan) w
 
-  abbrev old : List (List Piece × ℕ)
-  old = zip (takes w.done) (lens_of (s.party.begun device))
+    abbrev old : List (List Piece × ℕ)
+    old = zip (takes w.done) (lens_of (s.party.begun device))
 
-  queue : IsQueue s.layout plan q
-  queue = p.kept.driven.queue
+    queue : IsQueue s.layout plan q
+    queue = p.kept.driven.queue
 
-  made : IsMadeWith s.layout plan.size plan.features false frame
-  made = record { packed = refl; size = refl; features = refl; control = refl }
+    made : IsMadeWith s.layout plan.size plan.features false frame
+    made = record { packed = refl; size = refl; features = refl; control = refl }
 
-  framed : w.frame ≡ guest_frame s.layout plan q
-  framed = (law.layout.wide words.words v w p.kept.driven.ring).1 ∙ p.kept.driven.part.framed
+    framed : w.frame ≡ guest_frame s.layout plan q
+    framed = (law.layout.wide words.words v w p.kept.driven.ring).1 ∙ p.kept.driven.part.framed
 
-  own_pair : ArePaired (tree_map plan) (guest_frame s.layout plan q) sv.frame
-  own_pair = record {
-    bounds = pass_map plan;
-    bounded = refl;
-    covers = queue.tree.covers;
-    free = refl;
-    size = refl;
-    features = refl;
-    guest_plain = refl;
-    shadow_plain = refl;
-    guest = omega (arith, queue.low);
-    shadow = omega arith;
-  }
+    own_pair : ArePaired (tree_map plan) (guest_frame s.layout plan q) sv.frame
+    own_pair = record {
+      bounds = pass_map plan;
+      bounded = refl;
+      covers = queue.tree.covers;
+      free = refl;
+      size = refl;
+      features = refl;
+      guest_plain = refl;
+      shadow_plain = refl;
+      guest = omega (arith, queue.low);
+      shadow = omega arith;
+    }
 
-  paired : ArePaired (tree_map plan) w.frame sv.frame
-  paired = subst (λ (f : Frame). ArePaired (tree_map plan) f sv.frame) (sym framed) own_pair
+    paired : ArePaired (tree_map plan) w.frame sv.frame
+    paired = subst (λ (f : Frame). ArePaired (tree_map plan) f sv.frame) (sym framed) own_pair
 
-  holds : Holds s.device s.driver z r c w sv
-  holds = shadows (tree_map plan) w sv p.rests.stands (kit.kit.ends.drives frame made) paired refl
+    holds : Holds s.device s.driver z r c w sv
+    holds = shadows (tree_map plan) w sv p.rests.stands (kit.kit.ends.drives frame made) paired refl
 
-  shadow_ring : s.layout.ring ring.words.words sv sw
-  shadow_ring = subst (λ (ws : List ℕ). s.layout.ring ws sv sw) (sym kit.words)
-      (law.layout.opens plan.size plan.features false frame queue.made made)
+    shadow_ring : s.layout.ring ring.words.words sv sw
+    shadow_ring = subst (λ (ws : List ℕ). s.layout.ring ws sv sw) (sym kit.words)
+        (law.layout.opens plan.size plan.features false frame queue.made made)
 
-  from_none : a.from ≡ 0
-  from_none = a.taken sw (kit.kit.ends.serves frame made)
+    from_none : a.from ≡ 0
+    from_none = a.taken sw (kit.kit.ends.serves frame made)
 
-  many : length (s.party.begun device) ≡ begun_at plan q k
-  many = p.rests.begun
+    many : length (s.party.begun device) ≡ begun_at plan q k
+    many = p.rests.begun
 
-  -- all that was taken was given
-  even : length (takes w.done) ≡ length (gives w.done)
-  even = (law.layout.device_end.whole end w p.rests.stands p.rests.still).1
+    -- all that was taken was given
+    even : length (takes w.done) ≡ length (gives w.done)
+    even = (law.layout.device_end.whole end w p.rests.stands p.rests.still).1
 
-  lens_many : length (lens_of (s.party.begun device)) ≡ begun_at plan q k
-  lens_many = length-map (s.party.begun device) (λ (b : Begun). b.len) ∙ many
+    lens_many : length (lens_of (s.party.begun device)) ≡ begun_at plan q k
+    lens_many = length-map (s.party.begun device) (λ (b : Begun). b.len) ∙ many
 
-  as_many : length (takes w.done) ≡ length (lens_of (s.party.begun device))
-  as_many = p.rests.taken ∙ sym lens_many
+    as_many : length (takes w.done) ≡ length (lens_of (s.party.begun device))
+    as_many = p.rests.taken ∙ sym lens_many
 
-  kept : IsKept s plan q k words guest device' v w
-  kept = kept_still s law plan q k words guest device device' v w a.noted.begun a.noted.window a.noted.room.1 p.kept
+    kept : IsKept s plan q k words guest device' v w
+    kept = kept_still s law plan q k words guest device device' v w a.noted.begun a.noted.window a.noted.room.1 p.kept
 
-  lane : switch.IsShadowing s.device s.driver s.layout z old r (s.party.begun device') by words.words ring.words.words v w sv sw
-  lane = switched.starts s.device s.driver s.layout law.layout z old r (s.party.begun device') by words.words ring.words.words v w sv sw
-      p.kept.driven.ring shadow_ring holds.stands fresh.winding (sym (ap (λ (bs : List Begun). length bs) a.noted.begun)) from_none refl
-      (begun_before (takes w.done) (lens_of (s.party.begun device)) (gives w.done) as_many p.kept.given) queue.tree.undone
+    lane : switch.IsShadowing s.device s.driver s.layout z old r (s.party.begun device') by words.words ring.words.words v w sv sw
+    lane = switched.starts s.device s.driver s.layout law.layout z old r (s.party.begun device') by words.words ring.words.words v w sv sw
+        p.kept.driven.ring shadow_ring holds.stands fresh.winding (sym (ap (λ (bs : List Begun). length bs) a.noted.begun)) from_none refl
+        (begun_before (takes w.done) (lens_of (s.party.begun device)) (gives w.done) as_many p.kept.given) queue.tree.undone
 
-  lens : map (λ (x : List Piece × ℕ). x.1) old ≡ take (begun_at plan q k) (lens_of (s.party.begun device'))
-  lens = zip_lens (takes w.done) (lens_of (s.party.begun device)) as_many
-      ∙ sym (take_all (begun_at plan q k) (lens_of (s.party.begun device)) (omega (arith, lens_many)))
-      ∙ ap (λ (bs : List Begun). take (begun_at plan q k) (lens_of bs)) (sym a.noted.begun)
+    lens : map (λ (x : List Piece × ℕ). x.1) old ≡ take (begun_at plan q k) (lens_of (s.party.begun device'))
+    lens = zip_lens (takes w.done) (lens_of (s.party.begun device)) as_many
+        ∙ sym (take_all (begun_at plan q k) (lens_of (s.party.begun device)) (omega (arith, lens_many)))
+        ∙ ap (λ (bs : List Begun). take (begun_at plan q k) (lens_of bs)) (sym a.noted.begun)
 
-  to_end : by.at + by.count ≡ begun_at plan q (k + 1)
-  to_end = omega (
-    arith,
-    many,
-    is,
-    (bounded (length (queue_chains plan q)) (queue_epochs plan q) k queue.chained more).rises,
-  )
+    to_end : by.at + by.count ≡ begun_at plan q (k + 1)
+    to_end = omega (
+      arith,
+      many,
+      is,
+      (bounded (length (queue_chains plan q)) (queue_epochs plan q) k queue.chained more).rises,
+    )
 
-  last : Attach (length (s.party.begun device)) number (record { 0 = s.layout.fresh_base }) (mode_of number) default (shadow_map plan)
-      ≡ shadow_attach s.layout plan q k (begun_at plan q k)
-  last = ap (λ n. Attach n number (record { 0 = s.layout.fresh_base }) (mode_of number) default (shadow_map plan)) many
-      ∙ ap (λ m. Attach (begun_at plan q k) number (record { 0 = s.layout.fresh_base }) m default (shadow_map plan))
-      (shadow_mode number (omega arith))
+    last : Attach (length (s.party.begun device)) number (record { 0 = s.layout.fresh_base }) (mode_of number) default (shadow_map plan)
+        ≡ shadow_attach s.layout plan q k (begun_at plan q k)
+    last = ap (λ n. Attach n number (record { 0 = s.layout.fresh_base }) (mode_of number) default (shadow_map plan)) many
+        ∙ ap (λ m. Attach (begun_at plan q k) number (record { 0 = s.layout.fresh_base }) m default (shadow_map plan))
+        (shadow_mode number (omega arith))
 
-  counted : attaches (s.party.events device') ≡ attaches (s.party.events device) + 1
-  counted = ap attaches a.noted.events ∙ attaches_more (s.party.events device) _
+    counted : attaches (s.party.events device') ≡ attaches (s.party.events device) + 1
+    counted = ap attaches a.noted.events ∙ attaches_more (s.party.events device) _
 
-  other : q ≡ 15 → ⊥
-  other h = omega (arith, h, queue.low)
+    other : q ≡ 15 → ⊥
+    other h = omega (arith, h, queue.low)
 
-  pub shadow_starts : IsShadowing s plan q k 0 words ring.words.words r c relayed guest device'
-  shadow_starts = record {
-    by = by;
-    view = v;
-    device_view = w;
-    shadow_view = sv;
-    shadow_device_view = sw;
-    kept = record {
-      epoch = more;
-      mode = mode;
-      driven = kept.driven;
-      account = kept.account;
-      reserved = kept.reserved;
-      framed = refl;
-      start = z;
-      old = old;
-      lane = lane;
-      holds = holds;
-      moves = refl;
-      took_over = (sym even ∙ p.rests.taken, p.rests.taken, many);
-      lens = lens;
-      to = to_end;
-    };
-    serves = record {
-      holds = a.holds sw (kit.kit.ends.serves frame made)
-          (fits (shadow_order s.layout plan k q (to - length (s.party.begun device))) frame frame refl refl other);
-      attached = a.attached;
-      for_data = other;
-      events = a.noted.events ∙ ap (λ (es : List Event). es ++ Attach (length (s.party.begun device)) number
-          (record { 0 = s.layout.fresh_base }) (mode_of number) default (shadow_map plan) ∷ []) p.rests.events
-          ∙ ap (λ (e : Event). events_before s.device s.layout plan q k ++ e ∷ []) last;
-      room = omega (arith, p.rests.room, a.noted.room.0);
-      live = a.live;
-    };
-    awake = (fresh.winding, fresh.live);
-    paced = paced_attached s plan q k guest device device' v p.paced a.noted.counts counted;
-    heard = record {
-      relays = p.heard.relays;
-      before = relayed;
-      heard = omega (arith, p.heard.heard, a.noted.counts.1, ap (λ (x : Counts). x.heard) fresh.counts);
-      low = p.heard.low;
-      counted = omega (arith, ap (λ (x : Counts). x.accesses) fresh.counts);
-      handled = omega (
-        arith,
-        ap
-            (λ (x : Counts). x.handled) fresh.counts,
-        reached_live r v w fresh.live,
-        p.rests.taken,
-        even,
-      );
-      pace = omega (arith, ap (λ (x : Counts). x.accesses) fresh.counts);
-    };
-    rounds = inl (omega arith);
-  }
+    pub shadow_starts : IsShadowing s plan q k 0 words ring.words.words r c relayed guest device'
+    shadow_starts = record {
+      by = by;
+      view = v;
+      device_view = w;
+      shadow_view = sv;
+      shadow_device_view = sw;
+      kept = record {
+        epoch = more;
+        mode = mode;
+        driven = kept.driven;
+        account = kept.account;
+        reserved = kept.reserved;
+        framed = refl;
+        start = z;
+        old = old;
+        lane = lane;
+        holds = holds;
+        moves = refl;
+        took_over = (sym even ∙ p.rests.taken, p.rests.taken, many);
+        lens = lens;
+        to = to_end;
+      };
+      serves = record {
+        holds = a.holds sw (kit.kit.ends.serves frame made)
+            (fits (shadow_order s.layout plan k q (to - length (s.party.begun device))) frame frame refl refl other);
+        attached = a.attached;
+        for_data = other;
+        events = a.noted.events ∙ ap (λ (es : List Event). es ++ Attach (length (s.party.begun device)) number
+            (record { 0 = s.layout.fresh_base }) (mode_of number) default (shadow_map plan) ∷ []) p.rests.events
+            ∙ ap (λ (e : Event). events_before s.device s.layout plan q k ++ e ∷ []) last;
+        room = omega (arith, p.rests.room, a.noted.room.0);
+        live = a.live;
+      };
+      awake = (fresh.winding, fresh.live);
+      paced = paced_attached s plan q k guest device device' v p.paced a.noted.counts counted;
+      heard = record {
+        relays = p.heard.relays;
+        before = relayed;
+        heard = omega (arith, p.heard.heard, a.noted.counts.1, ap (λ (x : Counts). x.heard) fresh.counts);
+        low = p.heard.low;
+        counted = omega (arith, ap (λ (x : Counts). x.accesses) fresh.counts);
+        handled = omega (
+          arith,
+          ap
+              (λ (x : Counts). x.handled) fresh.counts,
+          reached_live r v w fresh.live,
+          p.rests.taken,
+          even,
+        );
+        pace = omega (arith, ap (λ (x : Counts). x.accesses) fresh.counts);
+      };
+      rounds = inl (omega arith);
+    }

@@ -69,7 +69,7 @@ bytes_of : (l : LayoutModel) (plan : Plan) (q : ℕ) (c : List Piece) → Fits (
 bytes_of l plan q c fits =
     All-weaker (λ p. Rattle.vd_model.specs.Maps.lies_in (pass_map plan) p ≡ true) (λ p. 1 ≤ p.len)
     (λ p inside. leb-true 1 p.len
-        (and_parts (Rattle.std.specs.Prelude.nat_le 1 p.len) (Rattle.std.specs.Prelude.is_some (to (pass_map plan) p.addr p.len)) inside).0)
+    (and_parts (Rattle.std.specs.Prelude.nat_le 1 p.len) (Rattle.std.specs.Prelude.is_some (to (pass_map plan) p.addr p.len)) inside).0)
     c fits.bounds
 
 all_moved : (plan : Plan) (mappings : List Mapping) (cs : List (List Piece)) → IsTreeOf plan mappings → All Some_bytes cs
@@ -129,8 +129,12 @@ module _ {D E G X C : Type 0} (s : Setting D E G X C) (law : IsLawful s) (plan :
       sv sw p.lane in
       let count = begun_count s.device s.driver s.layout law.layout p.start p.old r (s.party.begun device) by words.words shadow_words v w
       sv sw p.lane in
-      omega (arith, count, length-map all f,
-      length_le (map f all) (takes w.done) (prefix_take (map f all) (takes w.done) (length all) front))
+      omega (
+        arith,
+        count,
+        length-map all f,
+        length_le (map f all) (takes w.done) (prefix_take (map f all) (takes w.done) (length all) front),
+      )
 
   -- the chains begun since the attach are the epoch's, where all of them are begun
   pub begun_chains : length (s.party.begun device) ≡ begun_at plan q (k + 1)

@@ -36,9 +36,12 @@ module _ {L D E G X C : Type 0} (s : Setting D E G X C) (plan : Plan) (q k n : �
   pub relaying_of : (on : Bool) (still : Option E) (o : Option (Relaying L D E)) → o ≡ Some x
       → InEpochWith s plan q on k n words still o relayed guest device
       → (on ≡ true) × (still ≡ None) × IsRelaying s plan q k n words x relayed guest device
-  relaying_of true None (Some y) is h =
-      (refl, refl, subst (λ (z : Relaying L D E). IsRelaying s plan q k n words z relayed guest device)
-      (Rattle.std.proofs.lemmas.Option.same_Some y x is) h)
+  relaying_of true None (Some y) is h = (
+    refl,
+    refl,
+    subst (λ (z : Relaying L D E). IsRelaying s plan q k n words z relayed guest device)
+        (Rattle.std.proofs.lemmas.Option.same_Some y x is) h,
+  )
   relaying_of false None (Some y) is h = absurd h
   relaying_of on (Some end) (Some y) is h = absurd h
   relaying_of on still None is h = absurd (cc)
@@ -118,9 +121,10 @@ module _ {D E G X C : Type 0} (s : Setting D E G X C) (law : IsLawful s) (plan :
     winds_by true on p live winding =
         let y = winding_works s plan q k n words shadow_words r c relayed guest device p in
         let x = winds_on s law plan q k n a b few_a few_b words words1 words2 shadow_words shadow_words1 r r1 c c1 relayed guest guest1
-        device p same1 same2 (guest_at y) (relay_at y) live in
-        (subst (λ (z : Bool). RelayingBy z s plan q k (n + 1) words2 shadow_words1 r1 c1 (relayed + b) guest1 device) (sym winding) x.0,
-        x.1)
+        device p same1 same2 (guest_at y) (relay_at y) live in (
+          subst (λ (z : Bool). RelayingBy z s plan q k (n + 1) words2 shadow_words1 r1 c1 (relayed + b) guest1 device) (sym winding) x.0,
+          x.1,
+        )
 
     -- a relay that doesn't wind up after its turn didn't before
     pub shadows_by : (w : Bool) → r.winding ≡ w → RelayingBy w s plan q k n words shadow_words r c relayed guest device
@@ -175,9 +179,10 @@ module _ {D E G X C : Type 0} (s : Setting D E G X C) (law : IsLawful s) (plan :
           let y = shadowing_works s plan q k n words shadow_words r c relayed guest device p in
           let x = winds_from s law plan q k n a b few_a few_b d few_d words words1 words2 shadow_words shadow_words1 shadow_words2 r r1 r2
           c c1 c2 relayed guest guest1 device device1 device2 z.0 p same1 same2 (guest_at y) (relay_at y) device_at done z.1 holds live
-          winding target counts in
-          (subst (λ (z : Bool). RelayingBy z s plan q k (n + 1) words2 shadow_words2 r2 c2 (relayed + b) guest1 device2) (sym winding) x.0,
-          x.1)
+          winding target counts in (
+            subst (λ (z : Bool). RelayingBy z s plan q k (n + 1) words2 shadow_words2 r2 c2 (relayed + b) guest1 device2) (sym winding) x.0,
+            x.1,
+          )
 
 -- the steps of all relays are far fewer than the last count
 pub few_relayed : {D E G X C : Type 0} (s : Setting D E G X C) (law : IsLawful s) (plan : Plan) (q k n : ℕ) (words : RingWords)

@@ -16,8 +16,8 @@ use crate::rounds::{drain, run_epoch};
 use crate::setup::{bring_up, set_up};
 use vd_bus::{Device, Guest};
 use vd_layout::Layout;
-use vd_turns::Draws;
 use vd_machine::Machine;
+use vd_turns::Draws;
 
 /// Halts each guest; all are done.
 fn halt_all<L: Layout, G: Guest<L>, V: Device<L>>(floor: Floor<L>, bench: &mut Bench<G, V>)

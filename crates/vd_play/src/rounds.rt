@@ -12,9 +12,9 @@ ghost use Rattle.vd_play.specs.Setting.{setting_of};
 use crate::bench::Bench;
 use crate::floor::Floor;
 use crate::lane::lane_round;
-use vd_turns::Draws;
 use vd_bus::{Device, Guest};
 use vd_layout::Layout;
+use vd_turns::Draws;
 
 /// More rounds than an epoch has: each makes a step that is no look on every lane that isn't still, and no lane has so many.
 const ROUNDS: u64 = 4_294_967_296;
@@ -57,7 +57,8 @@ fn round<L: Layout, G: Guest<L>, V: Device<L>>(
     ensures few { result ≤ 96 }
     ensures keeps { KeepsBench V.party (length floor.old.lanes.items) bench.old bench.new }
     ensures faults { HasNoFault V.party bench.old bench.new }
-    ensures goes { (plan : Plan) → floor.old.tree.mappings ≡ tree_map plan → RoundGoes (setting_of L.Driver.driver L.Device.device L.layout G.party V.party) plan
+    ensures goes { (plan : Plan) → floor.old.tree.mappings ≡ tree_map plan
+        → RoundGoes (setting_of L.Driver.driver L.Device.device L.layout G.party V.party) plan
         floor.old.lanes.items floor.new.lanes.items bench.old bench.new result }
 {
     let mut made = 0;
@@ -88,7 +89,8 @@ pub(crate) fn run_epoch<L: Layout, G: Guest<L>, V: Device<L>>(
     ensures few { result ≤ 412316860416 }
     ensures keeps { KeepsBench V.party (length floor.old.lanes.items) bench.old bench.new }
     ensures faults { HasNoFault V.party bench.old bench.new }
-    ensures goes { (plan : Plan) → floor.old.tree.mappings ≡ tree_map plan → EpochGoes (setting_of L.Driver.driver L.Device.device L.layout G.party V.party) plan
+    ensures goes { (plan : Plan) → floor.old.tree.mappings ≡ tree_map plan
+        → EpochGoes (setting_of L.Driver.driver L.Device.device L.layout G.party V.party) plan
         floor.old.lanes.items floor.new.lanes.items bench.old bench.new result }
 {
     let mut made = 0;
@@ -117,7 +119,8 @@ pub(crate) fn drain<L: Layout, G: Guest<L>, V: Device<L>>(
     ensures keeps { KeepsBench V.party (length floor.old.lanes.items) bench.old bench.new }
     ensures faults { HasNoFault V.party bench.old bench.new }
     ensures done { AllDone G.party (length floor.old.lanes.items) bench.new }
-    ensures goes { (plan : Plan) → floor.old.tree.mappings ≡ tree_map plan → Drains (setting_of L.Driver.driver L.Device.device L.layout G.party V.party) plan
+    ensures goes { (plan : Plan) → floor.old.tree.mappings ≡ tree_map plan
+        → Drains (setting_of L.Driver.driver L.Device.device L.layout G.party V.party) plan
         floor.old.lanes.items floor.new.lanes.items bench.old bench.new result }
 {
     let mut made = 0;

@@ -159,7 +159,7 @@ attach_shadow-requires-clause-shadow g c =
     subst (λ (t : Terms). CanShadow g.L.Driver.DriverEnd.driver g.L.Device.DeviceEnd.device l t lane.still lane.kits.items)
     (sym (ordered_shadow g.L.Device.DeviceEnd.device g.L.Layout.layout.fresh_base (view c.args.m.now)
     (mode_at (view c.args.m.now) c.args.epoch) c.args.epoch c.loop-i.floor.lanes.items c.loop-i.bus c.loop-i.invariant.ready i below l refl
-    shadowing    count lane hl))
+    shadowing count lane hl))
     (can_shadow (setting_of g.L.Driver.DriverEnd.driver g.L.Device.DeviceEnd.device g.L.Layout.layout g.G.Guest.party g.V.Device.party)
     (record { layout = g.met.L.Layout.lawful; guest = g.met.G.Guest.lawful; party = g.met.V.Device.lawful }) (view c.args.m.now)
     i c.args.epoch count lane hg.0 c.index_mut-device.result.now c.requires.epoch shadowing

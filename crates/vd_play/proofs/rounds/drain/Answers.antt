@@ -24,9 +24,14 @@ returns-then-all_done-clause-goes g c = λ plan laid k start.
     ((c.loop-turn.turn, e.0), e.1)
 
 pub round-made-requires-clause-lanes : goal.round-made-requires-clause-lanes
-round-made-requires-clause-lanes g c = let r = c.requires.lanes in
-    (r.0, false, r.1, c.loop-turn.turn, ap (λ t. t.mappings) c.loop-turn.invariant.tree ∙ r.2,
-        (c.loop-turn.invariant.each r.0 r.1 r.2 r.4).0)
+round-made-requires-clause-lanes g c = let r = c.requires.lanes in (
+  r.0,
+  false,
+  r.1,
+  c.loop-turn.turn,
+  ap (λ t. t.mappings) c.loop-turn.invariant.tree ∙ r.2,
+  (c.loop-turn.invariant.each r.0 r.1 r.2 r.4).0,
+)
 
 pub loop-turn-preserved : goal.loop-turn-preserved
 loop-turn-preserved g c =
