@@ -1,4 +1,7 @@
 //! Plays of machines with switches, told in a few words.
+ghost use Rattle.std.specs.Prelude.{IfOk};
+ghost use Rattle.vd_play.specs.Prepared.{IsEmptyBench, IsEmptyDevice, IsEmptyGuest};
+
 use super::parties_tests::bench_with;
 use super::*;
 use itoa::Buffer;
@@ -139,7 +142,7 @@ pub fn play_told(
 }
 
 /// What the parties of a queue tell.
-fn tell_of<L: Layout, G: Guest<L>, V: Device<L>>(
+pub fn tell_of<L: Layout, G: Guest<L>, V: Device<L>>(
     alloc: Global,
     status: Status,
     bench: &Bench<G, V>,
@@ -149,4 +152,24 @@ fn tell_of<L: Layout, G: Guest<L>, V: Device<L>>(
         (Some(guest), Some(device)) => tell::<L, G, V>(alloc, status, guest, device),
         _ => Err(AllocError),
     }
+}
+
+/// A bench with a guest and a device more.
+pub fn with_more<L: Layout, G: Guest<L>, V: Device<L>>(
+    bench: Bench<G, V>,
+    guest: G,
+    device: V,
+) -> Result<Bench<G, V>, AllocError>
+    requires bench { IsEmptyBench G.party V.party bench }
+    requires unloaded { IsEmptyGuest G.party guest }
+    requires empty { IsEmptyDevice V.party device }
+    ensures { IfOk result (λ b. IsEmptyBench G.party V.party b) }
+{
+    let Bench {
+        mut guests,
+        mut devices,
+    } = bench;
+    guests.push(guest)?;
+    devices.push(device)?;
+    Ok(Bench { guests, devices })
 }

@@ -1,8 +1,14 @@
 //! Plays with switches, and with queues in several epochs.
-use super::switching::play_told;
+use super::parties_tests::bench_with;
+use super::switching::{play_told, tell_of, with_more};
+use super::tests::no_parties;
 use super::*;
 use std::alloc::{AllocError, Global};
 use std::test::*;
+use vd_models::{ModelDevice, ModelGuest};
+use vd_packed::Packed;
+use vd_split::Split;
+use vd_stream::{MemorySink, MemorySource};
 
 /// A machine file with these lines behind its region.
 fn file(alloc: Global, layout: &str, size: &str, lines: &str) -> Result<String, AllocError> {
@@ -22,6 +28,9 @@ const SHADOWED: &str =
 
 const TWICE: &str =
     "queues = [[\"3*r4096+10\"]]\nswitches = [{ after = 2, to = \"shadow\" }, { after = 2, to = \"pass\" }]";
+
+const EIGHT: &str =
+    "queues = [[], [\"r4096+10\"], [\"2*r4096+10\"], [\"3*r4096+10\"], [\"4*r4096+10\"], [\"5*r4096+10\"], [\"6*r4096+10\"], [\"7*r4096+10\"]]\nswitches = [{ after = 3, to = \"shadow\" }]";
 
 const SIX: &str =
     "window = 4\nqueues = [[\"6*r4096+10\"]]\nswitches = [{ after = 3, to = \"shadow\" }]";
@@ -161,6 +170,74 @@ fn a_refused_attach_to_a_shadow_ring_is_told(rt: HostRuntime) -> Result<(), Fail
         assert!(rt; told.status == Status::DeviceFault(0));
         assert!(rt; told.journal.as_str() == *journal);
         assert_eq!(rt; told.addrs.len(), 2);
+    }
+    Ok(())
+}
+
+#[test]
+fn eight_queues_are_switched_together(rt: HostRuntime) -> Result<(), Fail> {
+    let alloc = rt.alloc();
+    let text = file(alloc, "split", "4", EIGHT)?;
+    let mut source = MemorySource::new(alloc, text.as_bytes(), &[])?;
+    let mut sink = MemorySink::new(alloc, 2_000, &[])?;
+    let bench = bench_with::<Split, _, _>(
+        alloc,
+        ModelGuest::new(alloc),
+        ModelDevice::new(alloc, 1),
+    )?;
+    let bench = with_more::<Split, _, _>(
+        bench,
+        ModelGuest::new(alloc),
+        ModelDevice::new(alloc, 1),
+    )?;
+    let bench = with_more::<Split, _, _>(
+        bench,
+        ModelGuest::new(alloc),
+        ModelDevice::new(alloc, 1),
+    )?;
+    let bench = with_more::<Split, _, _>(
+        bench,
+        ModelGuest::new(alloc),
+        ModelDevice::new(alloc, 1),
+    )?;
+    let bench = with_more::<Split, _, _>(
+        bench,
+        ModelGuest::new(alloc),
+        ModelDevice::new(alloc, 1),
+    )?;
+    let bench = with_more::<Split, _, _>(
+        bench,
+        ModelGuest::new(alloc),
+        ModelDevice::new(alloc, 1),
+    )?;
+    let bench = with_more::<Split, _, _>(
+        bench,
+        ModelGuest::new(alloc),
+        ModelDevice::new(alloc, 1),
+    )?;
+    let mut bench = with_more::<Split, _, _>(
+        bench,
+        ModelGuest::new(alloc),
+        ModelDevice::new(alloc, 1),
+    )?;
+    let status = vdpa(
+        alloc,
+        &["play", "--brief"],
+        &mut source,
+        &mut sink,
+        &mut bench,
+        &mut no_parties::<Packed>(alloc),
+    );
+    assert!(rt; status == Status::Ok);
+    let wanted: [(usize, &str); 3] = [
+        (0, "A 0 0 S 0 A 32 0 S 0 A 0 0 S 0 "),
+        (3, "A 3 0 S 3 A 35 0 S 0 A 3 3 S 3 "),
+        (7, "A 7 0 S 3 A 39 0 S 4 A 7 7 S 7 "),
+    ];
+    for (queue, journal) in &wanted {
+        let told = tell_of::<Split, _, _>(alloc, status, &bench, *queue)?;
+        assert!(rt; told.once);
+        assert!(rt; told.journal.as_str() == *journal);
     }
     Ok(())
 }
