@@ -1,5 +1,5 @@
 -- Each access of the device that is next keeps the ring invariant, and what it tells.
-use Rattle.std.proofs.Common.{◌≡◌, ℕ, ◌%◌, ◌<◌, true, false, List, [], ◌∷◌, ◌++◌, length, slice_index, slice_set, refl, sym, ap, ◌∙◌, subst, arith, inl, inr}
+use Rattle.std.proofs.Common.{◌≡◌, ℕ, ◌%◌, ◌<◌, true, false, List, [], ◌∷◌, ◌++◌, length, slice_index, refl, sym, ap, ◌∙◌, subst, arith, inl, inr}
 use Rattle.vd_bits.specs.Lanes.{lane16}
 use Rattle.vd_words.specs.declared.access.Access.{Access}
 use Rattle.vd_words.specs.declared.access.Access.TheVariants.{Load, Store}
@@ -23,7 +23,8 @@ use Rattle.vd_split_ring.proofs.DeviceGives.{names, measures, publishes, rests}
 use Rattle.vd_split_ring.proofs.DeviceControl.{commands, acks}
 use Rattle.vd_ring.specs.laws.Signals.{wakes}
 use Rattle.vd_split_ring.proofs.Bells.{device_event_inside, driver_event_low, kick_stands}
-use Rattle.vd_split_ring.proofs.DeviceBells.{checks, rings_bell, arms, looks_again, hears, disarms, disarmed, begins_rest}
+use Rattle.vd_split_ring.proofs.DeviceBells.{checks, rings_bell, hears}
+use Rattle.vd_split_ring.proofs.DeviceArming.{arms, looks_again, disarms, disarmed, begins_rest}
 
 -- the index word that the driver stored
 pub index_shown : (ws : List ℕ) (d : DriverView) (e : DeviceView) (p : ℕ) → Ring ws d e → p ≡ lane_word d.frame 1

@@ -26,7 +26,8 @@ use Rattle.vd_split_ring.proofs.DriverOffers.{describes, enters, publishes}
 use Rattle.vd_split_ring.proofs.DriverCollects.{looks, look_tells, finds, collects_last}
 use Rattle.vd_split_ring.proofs.DriverControls.{stores_command, loads_ack}
 use Rattle.vd_split_ring.proofs.Bells.{device_event_inside, call_stands}
-use Rattle.vd_split_ring.proofs.DriverBells.{checks, rings_bell, arms, looks_again, hears, disarms, disarmed}
+use Rattle.vd_split_ring.proofs.DriverBells.{checks, rings_bell, hears}
+use Rattle.vd_split_ring.proofs.DriverArming.{arms, looks_again, disarms, disarmed}
 
 -- a word of the device's area, as the driver loads it
 pub used_word : (ws : List ℕ) (d : DriverView) (e : DeviceView) (p : ℕ) → Ring ws d e → used_from d.frame ≤ p

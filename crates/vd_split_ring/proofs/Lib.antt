@@ -9,6 +9,8 @@ pub mod DriverOffers
 pub mod DriverCollects
 pub mod DriverControls
 pub mod Bells
+pub mod DriverSignalStores
+pub mod DriverArming
 pub mod DriverBells
 pub mod DriverKeeps
 pub mod DriverViews
@@ -21,6 +23,8 @@ pub mod DeviceLooks
 pub mod DeviceTakes
 pub mod DeviceGives
 pub mod DeviceControl
+pub mod DeviceSignalStores
+pub mod DeviceArming
 pub mod DeviceBells
 pub mod DeviceViews
 pub mod DeviceKeeping
