@@ -13,7 +13,8 @@ mod table;
 mod take;
 
 /// What the next step does. A take has the index word that it loaded, its chain's head and the next descriptor's place, or, by a
-/// table, the number of its pieces; a give has the chain's number and head, and the length. `Check` has the published range, its end not included.
+/// table, the number of its pieces; a give has the chain's number and head, and the length. `Check` has the published range, its end not
+/// included.
 #[derive(Copy, Clone)]
 pub enum DeviceStep {
     Idle,

@@ -24,7 +24,7 @@ use Rattle.vd_split.specs.declared.device.DeviceStep.TheVariants as step
 use Rattle.vd_split.specs.DriverEnd.{split_words}
 use Rattle.vd_split.specs.DeviceEnd.{DeviceStands, DeviceStepStands, DeviceStepArmed, device_owes, device_begun, device_left, Wakes}
 use Rattle.vd_split.specs.laws.DeviceEnd.{not_armed, is_armed}
-use Rattle.vd_split.specs.laws.DeviceGiving.{Goes}
+use Rattle.vd_split.specs.laws.DeviceSteps.{Goes}
 use Rattle.vd_split.specs.Parts.{used_area, event_offset, own_value}
 use Rattle.vd_split.specs.laws.Plans.{copies_set}
 

@@ -20,8 +20,9 @@ use Rattle.vd_split_ring.proofs.Descriptors.{pieces_last}
 use Rattle.vd_split.specs.declared.device.SplitDevice.{SplitDevice}
 use Rattle.vd_split.specs.declared.device.DeviceStep.TheVariants as step
 use Rattle.vd_split.specs.DeviceEnd.{DeviceStepArmed, HasTable, DeviceStands, DeviceStepStands, device_begun, device_left}
-use Rattle.vd_split.specs.laws.DeviceGiving.{Goes}
-use Rattle.vd_split.specs.laws.DeviceTaking.{IsLoading, onward, takes_whole}
+use Rattle.vd_split.specs.laws.DeviceSteps.{Goes}
+use Rattle.vd_split.specs.laws.DeviceTaking.{IsLoading, onward}
+use Rattle.vd_split.specs.laws.DeviceTaken.{takes_whole}
 use Rattle.vd_split.specs.Parts.{next_place, table_place}
 
 -- ---- words after a descriptor that names a table

@@ -7,7 +7,7 @@ use Rattle.vd_words.specs.declared.access.Op.TheVariants as op
 use Rattle.vd_ring.specs.declared.act.DeviceAct.TheVariants as act
 use Rattle.vd_split.specs.declared.device.SplitDevice.{SplitDevice}
 use Rattle.vd_split.specs.declared.device.DeviceStep.TheVariants as step
-use Rattle.vd_split.specs.laws.DeviceGiving.{Goes, made}
+use Rattle.vd_split.specs.laws.DeviceSteps.{Goes, made}
 use Rattle.vd_split.specs.laws.DeviceBells.{arm_goes, offset_is}
 use Rattle.vd_split.proofs.device.SplitDevice.arm.Goals as goal
 

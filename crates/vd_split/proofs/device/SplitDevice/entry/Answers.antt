@@ -4,7 +4,7 @@ use Rattle.vd_words.specs.declared.access.Op.TheVariants as op
 use Rattle.vd_ring.specs.declared.act.DeviceAct.TheVariants as act
 use Rattle.vd_split.specs.declared.device.SplitDevice.{SplitDevice}
 use Rattle.vd_split.specs.declared.device.DeviceStep.TheVariants as step
-use Rattle.vd_split.specs.laws.DeviceGiving.{made}
+use Rattle.vd_split.specs.laws.DeviceSteps.{made}
 use Rattle.vd_split.specs.laws.DeviceTaking.{entry_goes}
 use Rattle.vd_split.proofs.device.SplitDevice.entry.Goals as goal
 

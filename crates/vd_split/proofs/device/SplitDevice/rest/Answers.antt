@@ -7,7 +7,8 @@ use Rattle.vd_ring.specs.declared.act.DeviceAct.TheVariants as act
 use Rattle.vd_split.specs.declared.device.SplitDevice.{SplitDevice}
 use Rattle.vd_split.specs.declared.device.DeviceStep.TheVariants as step
 use Rattle.vd_split.specs.DeviceEnd.{number_at}
-use Rattle.vd_split.specs.laws.DeviceGiving.{made, rest_goes}
+use Rattle.vd_split.specs.laws.DeviceSteps.{made}
+use Rattle.vd_split.specs.laws.DeviceResting.{rest_goes}
 use Rattle.vd_split.proofs.device.SplitDevice.rest.Goals as goal
 
 -- the table with other numbers, as many as before

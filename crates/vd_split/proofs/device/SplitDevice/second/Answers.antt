@@ -8,8 +8,9 @@ use Rattle.vd_ring.specs.declared.act.DeviceAct.TheVariants as act
 use Rattle.vd_ring.specs.declared.device.DeviceView.{DeviceView}
 use Rattle.vd_split.specs.declared.device.SplitDevice.{SplitDevice}
 use Rattle.vd_split.specs.declared.device.DeviceStep.TheVariants as step
-use Rattle.vd_split.specs.laws.DeviceGiving.{Goes, made}
-use Rattle.vd_split.specs.laws.DeviceTaking.{direct, second_table, second_next, loaded, few_pieces, second_more, whole_chain, second_last}
+use Rattle.vd_split.specs.laws.DeviceSteps.{Goes, made}
+use Rattle.vd_split.specs.laws.DeviceLoaded.{direct, loaded, few_pieces, whole_chain}
+use Rattle.vd_split.specs.laws.DeviceSeconds.{second_table, second_next, second_more, second_last}
 use Rattle.vd_split_ring.specs.SplitWords.{names_table}
 use Rattle.vd_model.specs.declared.features.Features.{Features}
 use Rattle.vd_split.specs.DeviceEnd.{DeviceStands}

@@ -9,7 +9,8 @@ use Rattle.vd_ring.specs.declared.device.DeviceView.{DeviceView}
 use Rattle.vd_split.specs.declared.device.SplitDevice.{SplitDevice}
 use Rattle.vd_split.specs.declared.device.DeviceStep.TheVariants as step
 use Rattle.vd_split.specs.DeviceEnd.{DeviceStands}
-use Rattle.vd_split.specs.laws.DeviceGiving.{Goes, made, used_below, store_id_goes}
+use Rattle.vd_split.specs.laws.DeviceSteps.{Goes, made, used_below}
+use Rattle.vd_split.specs.laws.DeviceGiving.{store_id_goes}
 use Rattle.vd_split.specs.Parts.{used_area}
 use Rattle.vd_split.proofs.device.SplitDevice.store_id.Goals as goal
 

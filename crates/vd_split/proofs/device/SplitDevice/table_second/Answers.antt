@@ -8,7 +8,7 @@ use Rattle.vd_ring.specs.declared.act.DeviceAct.TheVariants as act
 use Rattle.vd_ring.specs.declared.device.DeviceView.{DeviceView}
 use Rattle.vd_split.specs.declared.device.SplitDevice.{SplitDevice}
 use Rattle.vd_split.specs.declared.device.DeviceStep.TheVariants as step
-use Rattle.vd_split.specs.laws.DeviceGiving.{Goes, made}
+use Rattle.vd_split.specs.laws.DeviceSteps.{Goes, made}
 use Rattle.vd_split.specs.laws.DeviceTabling.{table_second_next, loaded_table, table_few, table_more, table_last, tabled_chain}
 use Rattle.vd_split.specs.Parts.{next_place, table_place}
 use Rattle.vd_split.proofs.device.SplitDevice.table_second.Goals as goal

@@ -6,7 +6,7 @@ use Rattle.vd_words.specs.declared.access.Access.TheVariants.{Store}
 use Rattle.vd_ring.specs.declared.act.DeviceAct.TheVariants as act
 use Rattle.vd_split.specs.declared.device.SplitDevice.{SplitDevice}
 use Rattle.vd_split.specs.declared.device.DeviceStep.TheVariants as step
-use Rattle.vd_split.specs.laws.DeviceGiving.{Goes, made, used_below}
+use Rattle.vd_split.specs.laws.DeviceSteps.{Goes, made, used_below}
 use Rattle.vd_split.specs.laws.DeviceBells.{wake_goes}
 use Rattle.vd_split.proofs.device.SplitDevice.wake.Goals as goal
 

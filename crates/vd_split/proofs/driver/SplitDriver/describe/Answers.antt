@@ -5,7 +5,8 @@ use Rattle.vd_words.specs.declared.access.Op.TheVariants as op
 use Rattle.vd_ring.specs.declared.act.DriverAct.TheVariants as act
 use Rattle.vd_split_ring.specs.SplitWords.{described, put}
 use Rattle.vd_split.specs.declared.driver.SplitDriver.{SplitDriver}
-use Rattle.vd_split.specs.laws.DriverSteps.{Goes, made, small_places, describe_goes}
+use Rattle.vd_split.specs.laws.DriverSteps.{Goes, made, small_places}
+use Rattle.vd_split.specs.laws.DriverDescribing.{describe_goes}
 use Rattle.vd_split.specs.Parts.{described_step}
 use Rattle.vd_split.proofs.driver.SplitDriver.describe.Goals as goal
 

@@ -7,7 +7,8 @@ use Rattle.vd_words.specs.declared.access.Op.TheVariants as op
 use Rattle.vd_ring.specs.declared.act.DriverAct.TheVariants as act
 use Rattle.vd_split.specs.declared.driver.SplitDriver.{SplitDriver}
 use Rattle.vd_split.specs.declared.driver.DriverStep.TheVariants as step
-use Rattle.vd_split.specs.laws.DriverSteps.{made, enter_goes, head_small, entry_below}
+use Rattle.vd_split.specs.laws.DriverSteps.{made}
+use Rattle.vd_split.specs.laws.DriverPublishing.{enter_goes, head_small, entry_below}
 use Rattle.vd_split.proofs.driver.SplitDriver.enter.Goals as goal
 
 -- the word, from what the body read

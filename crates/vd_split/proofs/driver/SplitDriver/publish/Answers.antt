@@ -7,7 +7,8 @@ use Rattle.vd_words.specs.declared.access.Op.TheVariants as op
 use Rattle.vd_ring.specs.declared.act.DriverAct.TheVariants as act
 use Rattle.vd_split.specs.declared.driver.SplitDriver.{SplitDriver}
 use Rattle.vd_split.specs.declared.driver.DriverStep.TheVariants as step
-use Rattle.vd_split.specs.laws.DriverSteps.{Goes, made, publish_goes, publish_head, entry_below}
+use Rattle.vd_split.specs.laws.DriverSteps.{Goes, made}
+use Rattle.vd_split.specs.laws.DriverPublishing.{publish_goes, publish_head, entry_below}
 use Rattle.vd_split.specs.Parts.{needed, next_place}
 use Rattle.vd_split.proofs.driver.SplitDriver.publish.Goals as goal
 

@@ -5,7 +5,8 @@ use Rattle.vd_words.specs.declared.access.Op.TheVariants as op
 use Rattle.vd_ring.specs.declared.act.DriverAct.TheVariants as act
 use Rattle.vd_split_ring.specs.SplitWords.{put}
 use Rattle.vd_split.specs.declared.driver.SplitDriver.{SplitDriver}
-use Rattle.vd_split.specs.laws.DriverSteps.{Goes, made, table_room, table_goes}
+use Rattle.vd_split.specs.laws.DriverSteps.{Goes, made}
+use Rattle.vd_split.specs.laws.DriverDescribing.{table_room, table_goes}
 use Rattle.vd_split.specs.Parts.{table_place, tabled, tabled_step}
 use Rattle.vd_split.proofs.driver.SplitDriver.tabulate.Goals as goal
 

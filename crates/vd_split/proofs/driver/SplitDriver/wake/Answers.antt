@@ -6,7 +6,8 @@ use Rattle.vd_words.specs.declared.access.Access.TheVariants.{Store}
 use Rattle.vd_ring.specs.declared.act.DriverAct.TheVariants as act
 use Rattle.vd_split.specs.declared.driver.SplitDriver.{SplitDriver}
 use Rattle.vd_split.specs.declared.driver.DriverStep.TheVariants as step
-use Rattle.vd_split.specs.laws.DriverSteps.{made, entry_below}
+use Rattle.vd_split.specs.laws.DriverSteps.{made}
+use Rattle.vd_split.specs.laws.DriverPublishing.{entry_below}
 use Rattle.vd_split.specs.laws.DriverBells.{wake_goes}
 use Rattle.vd_split.proofs.driver.SplitDriver.wake.Goals as goal
 
