@@ -3,6 +3,8 @@ pub mod Places
 pub mod Offers
 pub mod Tabling
 pub mod DriverSteps
+pub mod DriverDescribing
+pub mod DriverPublishing
 pub mod DriverCollecting
 pub mod DriverLaws
 pub mod DeviceGiving
@@ -10,6 +12,8 @@ pub mod ToldTables
 pub mod DeviceTaking
 pub mod DeviceTaken
 pub mod DeviceRest
+pub mod DeviceStill
+pub mod DeviceControlled
 pub mod DeviceLaws
 pub mod Opening
 pub mod PackedLayout

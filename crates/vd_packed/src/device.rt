@@ -63,8 +63,8 @@ pub struct PackedDevice {
     pub(crate) armed: bool,
     pub(crate) heard: u64,
     pub(crate) bells: u64,
-    // what a take has loaded so far: whole pieces, and the second word of the descriptor at this ring_position; of a table, the second word of
-    // the descriptor before this ring_position, which names it
+    // what a take has loaded so far: whole pieces, and the second word of the descriptor at this ring_position; of a table, the second
+    // word of the descriptor before this ring_position, which names it
     pub(crate) pieces: ArrayVec<Piece, 16>,
     pub(crate) second: u64,
     pub(crate) at: RingPosition,

@@ -9,7 +9,8 @@ use Rattle.vd_packed_ring.specs.PackedChains.{direct, staged}
 use Rattle.vd_packed.specs.declared.driver.DriverStep.TheVariants as step
 use Rattle.vd_packed.specs.declared.driver.PackedDriver.{PackedDriver}
 use Rattle.vd_packed.specs.DriverEnd.{DriverStands}
-use Rattle.vd_packed.specs.laws.DriverSteps.{Goes, made, describe_goes_at, describe_facts}
+use Rattle.vd_packed.specs.laws.DriverSteps.{Goes, made}
+use Rattle.vd_packed.specs.laws.DriverDescribing.{describe_goes_at, describe_facts}
 use Rattle.vd_packed.specs.Seconds.{described_step, ring_position_after}
 use Rattle.vd_packed.specs.RingPositions.{IsAt}
 use Rattle.vd_packed.proofs.driver.PackedDriver.describe.Goals as goal

@@ -8,7 +8,8 @@ use Rattle.vd_ring.specs.declared.driver.DriverView.{DriverView}
 use Rattle.vd_packed.specs.declared.driver.DriverStep.TheVariants as step
 use Rattle.vd_packed.specs.declared.driver.PackedDriver.{PackedDriver}
 use Rattle.vd_packed.specs.DriverEnd.{DriverStands}
-use Rattle.vd_packed.specs.laws.DriverSteps.{Goes, made, publish_goes, publish_facts, position_small}
+use Rattle.vd_packed.specs.laws.DriverSteps.{Goes, made}
+use Rattle.vd_packed.specs.laws.DriverPublishing.{publish_goes, publish_facts, position_small}
 use Rattle.vd_packed.specs.Tabled.{needed, published_word}
 use Rattle.vd_packed.proofs.driver.PackedDriver.publish.Goals as goal
 
