@@ -216,8 +216,9 @@ matches 'little room' "$found" 4 'vdpa: write fault' ''
 
 # standard error as a closed pipe: no text, and the same status
 ./vdpa play play 3<>"$work/pipe" 2>"$work/pipe" 3<&- >"$work/out"
+found=$?
 : >"$work/err"
-matches 'a text that nobody reads' $? 1 '' ''
+matches 'a text that nobody reads' "$found" 1 '' ''
 
 # what a signal interrupts is made again; only the built program is interrupted, and not the one that `rt try` runs
 if [ -x crates/vd_main/out/vd_main ]; then
