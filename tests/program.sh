@@ -7,17 +7,21 @@ work=$(mktemp -d) || exit 70
 trap 'rm -rf "$work"' EXIT
 failed=0
 
+# matches NAME FOUND STATUS TEXT OUTPUT : a run that ended with the status FOUND and left $work/out and $work/err is so
+matches() {
+    printf '%s' "$5" >"$work/want"
+    grep -v '^vdpa: builds an unproved program' "$work/err" >"$work/said"
+    [ "$2" -eq "$3" ] || { echo "$1: status $2, not $3"; failed=1; }
+    cmp -s "$work/out" "$work/want" || { echo "$1: another output"; failed=1; }
+    [ "$(cat "$work/said")" = "$4" ] || { echo "$1: the text '$(cat "$work/said")', not '$4'"; failed=1; }
+}
+
 # expect NAME STATUS TEXT OUTPUT WORD.. : the words, with the file $work/in as input, end so
 expect() {
     name=$1 status=$2 text=$3 output=$4
     shift 4
     ./vdpa "$@" <"$work/in" >"$work/out" 2>"$work/err"
-    found=$?
-    printf '%s' "$output" >"$work/want"
-    grep -v '^vdpa: builds an unproved program' "$work/err" >"$work/said"
-    [ "$found" -eq "$status" ] || { echo "$name: status $found, not $status"; failed=1; }
-    cmp -s "$work/out" "$work/want" || { echo "$name: another output"; failed=1; }
-    [ "$(cat "$work/said")" = "$text" ] || { echo "$name: the text '$(cat "$work/said")', not '$text'"; failed=1; }
+    matches "$name" $? "$status" "$text" "$output"
 }
 
 one='queue 0 chains 1 bytes 10
@@ -161,16 +165,66 @@ expect 'a byte too many' 6 'vdpa: machine file is larger than 1048576 bytes' '' 
 head -c 1048576 "$work/in" >"$work/least" && mv "$work/least" "$work/in"
 expect 'as many bytes as may be' 2 'vdpa: machine file breaks rule M3' '' play
 
-# a directory as input, and a full disk as output
-./vdpa play </ >/dev/null 2>"$work/err"
+# an input in pieces, and inputs that can't be read
+cp examples/one-chain.toml "$work/in"
+{ head -c 30 "$work/in"; sleep 0.2; tail -c +31 "$work/in" | head -c 1; sleep 0.2; tail -c +32 "$work/in"; } |
+    ./vdpa play >"$work/out" 2>"$work/err"
+matches 'an input in pieces' $? 0 '' "$one"
+./vdpa play </ >"$work/out" 2>"$work/err"
+matches 'a directory as input' $? 3 'vdpa: read fault' ''
+./vdpa check <&- >"$work/out" 2>"$work/err"
+matches 'a closed input' $? 3 'vdpa: read fault' ''
+
+# A file whose report and whose canonical text are longer than what the program holds back: a write fails in the middle.
+# Of the short file only the flush at the end fails.
+yes '"r4096+10", "w8192+64",' | head -n 4500 | tr -d '\n' >"$work/texts"
+sed "s/^queues = .*\$/queues = [[$(cat "$work/texts")]]/" examples/one-chain.toml >"$work/long"
+./vdpa play <"$work/long" >"$work/report" 2>/dev/null || { echo "a long report: status $?"; failed=1; }
+[ "$(wc -c <"$work/report")" -gt 65536 ] || { echo "the long report is short"; failed=1; }
+
+# refuses NAME RUN : where RUN has the program write, that is a write fault; what fails before the output is named
+refuses() {
+    : >"$work/out"
+    for word in play check; do
+        "$2" "$word" <"$work/in"
+        matches "$1, $word" $? 4 'vdpa: write fault' ''
+        "$2" "$word" <"$work/long"
+        matches "$1, $word, a long output" $? 4 'vdpa: write fault' ''
+    done
+    "$2" play play <"$work/in"
+    matches "$1, wrong words" $? 1 "$usage" ''
+    "$2" play </
+    matches "$1, a directory as input" $? 3 'vdpa: read fault' ''
+    "$2" check <examples/size-of-three.toml
+    matches "$1, a broken rule" $? 2 'vdpa: machine file breaks rule M6' ''
+}
+on_full_disk() { ./vdpa "$@" >/dev/full 2>"$work/err"; }
+on_closed_output() { ./vdpa "$@" >&- 2>"$work/err"; }
+# The pipe is opened for both ends first, so that to open it for writing needs no other reader; then its reader is closed.
+on_closed_pipe() { ./vdpa "$@" 3<>"$work/pipe" >"$work/pipe" 3<&- 2>"$work/err"; }
+mkfifo "$work/pipe" || exit 70
+refuses 'a closed output' on_closed_output
+refuses 'a closed pipe' on_closed_pipe
+[ ! -w /dev/full ] || refuses 'a full disk' on_full_disk
+
+# a file that may not grow past 4,096 bytes: it gets the front of the report
+(trap '' XFSZ && ulimit -f 8 && ./vdpa play <"$work/long" >"$work/out" 2>"$work/err")
 found=$?
-said=$(grep -v '^vdpa: builds an unproved program' "$work/err")
-[ "$found" -eq 3 ] && [ "$said" = 'vdpa: read fault' ] || { echo "a directory: status $found, the text '$said'"; failed=1; }
-if [ -w /dev/full ]; then
-    ./vdpa play <examples/one-chain.toml >/dev/full 2>"$work/err"
-    found=$?
-    said=$(grep -v '^vdpa: builds an unproved program' "$work/err")
-    [ "$found" -eq 4 ] && [ "$said" = 'vdpa: write fault' ] || { echo "a full disk: status $found, the text '$said'"; failed=1; }
+head -c 4096 "$work/report" | cmp -s - "$work/out" || { echo "little room: $(wc -c <"$work/out") bytes, not the first 4096"; failed=1; }
+: >"$work/out"
+matches 'little room' "$found" 4 'vdpa: write fault' ''
+
+# standard error as a closed pipe: no text, and the same status
+./vdpa play play 3<>"$work/pipe" 2>"$work/pipe" 3<&- >"$work/out"
+found=$?
+: >"$work/err"
+matches 'a text that nobody reads' "$found" 1 '' ''
+
+# what a signal interrupts is made again; only the built program is interrupted, and not the one that `rt try` runs
+if [ -x crates/vd_main/out/vd_main ]; then
+    python3 tests/interrupted.py crates/vd_main/out/vd_main || failed=1
+else
+    echo "program: no built program, so none was interrupted"
 fi
 
 # each file of examples/ but the one that breaks a rule is played to its end

@@ -2,10 +2,12 @@
 #![tactic(auto)]
 
 mod bench;
+mod ending;
 
 use bench::model_bench;
+use ending::ended;
 use std::alloc::{AllocError, Global};
-use std::io::{BufWriter, Write};
+use std::io::BufWriter;
 use std::process::ExitCode;
 use std::{env, io};
 use vd_machine::MachineFault;
@@ -91,10 +93,10 @@ fn run(rt: &HostRuntime, alloc: Global) -> Result<Status, AllocError> {
     let mut split = model_bench::<Split>(alloc)?;
     let mut packed = model_bench::<Packed>(alloc)?;
     let mut source = ReadSource::new(rt.stdin());
-    let Ok(mut out) = BufWriter::with_capacity(alloc, 65536, rt.stdout()) else {
+    let Ok(out) = BufWriter::with_capacity(alloc, 65536, rt.stdout()) else {
         return Err(AllocError);
     };
-    let mut sink = WriteSink::new(&mut out);
+    let mut sink = WriteSink::new(out);
     let status = vdpa(
         alloc,
         &words,
@@ -103,11 +105,7 @@ fn run(rt: &HostRuntime, alloc: Global) -> Result<Status, AllocError> {
         &mut split,
         &mut packed,
     );
-    drop(sink);
-    Ok(match out.flush() {
-        Ok(()) => status,
-        Err(_) => Status::WriteFault,
-    })
+    Ok(ended(status, sink.flush()))
 }
 
 fn main(rt: HostRuntime) -> ExitCode {

@@ -1,6 +1,7 @@
 //! Sources and sinks of bytes that count their faults, and reading a source to its end.
 #![tactic(auto)]
 
+mod again;
 mod memory_sink;
 mod memory_source;
 mod outside;
