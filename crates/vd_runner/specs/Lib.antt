@@ -6,5 +6,3 @@ pub mod Reading
 pub mod Outcome
 pub mod Answers
 pub mod Layouts
-pub mod Through
-pub mod laws

@@ -4,26 +4,12 @@
 mod checking;
 mod chosen;
 mod epochs;
-#[cfg(test)]
-mod journal_tests;
 mod line;
-#[cfg(test)]
-mod parties_tests;
 mod playing;
 mod playing_command;
 mod read;
-#[cfg(test)]
-mod recording;
-#[cfg(test)]
-mod recording_tests;
 mod reporting;
 mod status;
-#[cfg(test)]
-mod switching;
-#[cfg(test)]
-mod switching_tests;
-#[cfg(test)]
-mod tests;
 mod top;
 mod words;
 mod writing;

@@ -1,7 +1,7 @@
 //! Parties for tests that record when they step.
 ghost use Rattle.std.specs.Prelude.{◌≡◌};
-ghost use Rattle.vd_runner.specs.Through.{guest_through, device_through};
-ghost use Rattle.vd_runner.specs.laws.Through.{lawful_guest, lawful_device};
+ghost use Rattle.vd_played.specs.Through.{guest_through, device_through};
+ghost use Rattle.vd_played.specs.laws.Through.{lawful_guest, lawful_device};
 
 use arrayvec::ArrayVec;
 use std::alloc::{AllocError, Global};

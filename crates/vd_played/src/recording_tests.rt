@@ -2,20 +2,18 @@
 ghost use Rattle.std.specs.Prelude.{IfOk};
 ghost use Rattle.vd_play.specs.Prepared.{IsEmptyBench};
 
-use super::playing::play_on;
-use super::recording::{Record, RecordingDevice, RecordingGuest};
-use super::*;
+use crate::answers_tests::FILE;
+use crate::benches::no_parties;
+use crate::recording::{Record, RecordingDevice, RecordingGuest};
 use std::alloc::{AllocError, Global};
 use std::cell::Cell;
 use std::test::*;
 use vd_bus::{Device, Guest};
-use vd_machine::Machine;
 use vd_models::{ModelDevice, ModelGuest};
+use vd_packed::Packed;
+use vd_runner::{Bench, Status, play_command};
 use vd_split::Split;
-use vd_stream::MemorySink;
-
-const FILE: &str =
-    "layout = \"split\"\nsize = 4\nregions = [{ addr = 4096, size = 8192 }]\nqueues = [[\"r4096+10 w8192+64\"]]\n";
+use vd_stream::{MemorySink, MemorySource};
 
 type Guests<'a> = RecordingGuest<'a, ModelGuest<Split>>;
 
@@ -41,6 +39,20 @@ fn recording<'a>(
     Ok(Bench { guests, devices })
 }
 
+/// How a play by this seed ends.
+fn play<GS: Guest<Split>, VS: Device<Split>>(
+    alloc: Global,
+    seed: Option<u64>,
+    source: &mut MemorySource,
+    sink: &mut MemorySink,
+    bench: &mut Bench<GS, VS>,
+) -> Status
+    requires { IsEmptyBench GS.party VS.party bench.old }
+{
+    let mut packed = no_parties::<Packed>(alloc);
+    play_command(alloc, seed, false, source, sink, bench, &mut packed)
+}
+
 /// Whether a play of the file by this seed has the guest's and the device's steps at these times.
 fn steps_at(
     alloc: Global,
@@ -48,22 +60,19 @@ fn steps_at(
     guest: &[u32],
     device: &[u32],
 ) -> Result<bool, AllocError> {
-    let Ok(machine) = Machine::read(alloc, FILE.as_bytes()) else {
-        return Ok(false);
-    };
-    if machine.packed {
-        return Ok(false);
-    }
     let clock = Cell::new(0);
     let mut bench = recording(alloc, &clock)?;
+    let mut source = MemorySource::new(alloc, FILE.as_bytes(), &[])?;
     let mut sink = MemorySink::new(alloc, 200, &[])?;
-    let status = play_on::<Split, MemorySink, Guests<'_>, Devices<'_>>(
-        alloc, &machine, seed, false, &mut bench, &mut sink,
-    );
-    if status != Status::Ok || bench.guests.len() != 1 || bench.devices.len() != 1 {
+    if play(alloc, seed, &mut source, &mut sink, &mut bench) != Status::Ok {
         return Ok(false);
     }
-    Ok(bench.guests[0].record.times() == guest && bench.devices[0].record.times() == device)
+    match (bench.guests.as_slice(), bench.devices.as_slice()) {
+        ([driver], [server]) => {
+            Ok(driver.record.times() == guest && server.record.times() == device)
+        }
+        _ => Ok(false),
+    }
 }
 
 /// Without a seed each party makes one step in its turn, the guest before the device. With one the turns have 1 to 4 steps,

@@ -10,7 +10,7 @@ use Rattle.vd_bus.specs.declared.event.Event.{Event}
 use Rattle.vd_bus.specs.Device.{DeviceParty, IsLawfulDeviceParty, IsUnchanged, IsNoted, IsAttach, IsRefused, IsServed, IsDeviceAccess, IsSuspend, IsReset}
 use Rattle.vd_bus.specs.Guest.{GuestParty, IsLawfulGuestParty, IsBoot, IsGuestAccess, IsHalt}
 use Rattle.vd_bus.specs.Orders.{Terms}
-use Rattle.vd_runner.specs.Through.{guest_through, device_through}
+use Rattle.vd_played.specs.Through.{guest_through, device_through}
 
 module _ {D X Y : Type 0} (d : DriverModel D) (f : Y → X) (m : GuestParty X) where
   pub lawful_guest : IsLawfulGuestParty d m → IsLawfulGuestParty d (guest_through f m)
