@@ -1,10 +1,9 @@
 -- A lane in the course of a play has the beginning of its journal.
-use Rattle.std.proofs.Common.{◌≡◌, ℕ, ◌+◌, ◌-◌, ◌<◌, ◌≤◌, Option, Some, None, Result, Ok, Err, IfErr, IsErrAnd, List, [], ◌∷◌, ◌++◌, length, slice_get, set, true, false, Bool, take, drop, flat_map, refl, sym, ◌∙◌, ap, subst, arith}
+use Rattle.std.proofs.Common.{◌≡◌, ℕ, ◌+◌, ◌-◌, ◌<◌, ◌≤◌, Option, Some, None, Result, Ok, Err, IfErr, IsErrAnd, List, [], ◌∷◌, ◌++◌, length, slice_get, set, true, false, Bool, take, drop, flat_map, sym, ◌∙◌, ap, subst, arith}
 use Rattle.std.specs.List.{All}
 use Rattle.std.proofs.lemmas.Grind.{flat_map-append}
 use Rattle.std.proofs.lemmas.List.{append_assoc, length-drop, length-map, take-append-drop, take_all}
 use mathlib.Core.List.{IsPrefix}
-use Rattle.vd_model.specs.declared.base.Mode.TheVariants.{Shadow}
 use Rattle.vd_model.specs.declared.chain.Piece.{Piece}
 use Rattle.vd_model.specs.declared.record.Begun.{Begun}
 use Rattle.vd_words.specs.Plain.{RingWords}
@@ -22,7 +21,7 @@ use Rattle.vd_relay.specs.declared.state.State.{State}
 use Rattle.vd_play.specs.declared.bench.Bench.{Bench}
 use Rattle.vd_play.specs.declared.floor.Lane.{Lane}
 use Rattle.vd_play.specs.declared.floor.Relaying.{Relaying}
-use Rattle.vd_play.specs.Journal.{queue_script, queue_chains, queue_epochs, epoch_chains, epoch_events, epoch_suspend, attach_event, suspend_event, journal_events, journal_chains, HasLen}
+use Rattle.vd_play.specs.Journal.{queue_script, queue_chains, queue_epochs, epoch_chains, epoch_events, attach_event, suspend_event, journal_events, journal_chains, HasLen}
 use Rattle.vd_play.specs.Before.{events_before, begun_at, chains_before}
 use Rattle.vd_play.specs.Each.{EachLane, Stage}
 use Rattle.vd_play.specs.Epochs.{Epoch}
@@ -37,9 +36,10 @@ use Rattle.vd_play.proofs.Each.{stage_read, all_but_one}
 use Rattle.vd_play.proofs.Keep.{prefix_of}
 use Rattle.vd_play.proofs.Lists.{prefix_through}
 use Rattle.vd_play.proofs.Moves.{before_prefix, within_prefix}
-use Rattle.vd_play.proofs.Parts.{drop_prefix, own_part, pass_part, begun_within}
-use Rattle.vd_play.proofs.Passed.{pass_events}
+use Rattle.vd_play.proofs.Parts.{drop_prefix, own_part, begun_within}
+use Rattle.vd_play.proofs.Passed.{pass_events, pass_chains}
 use Rattle.vd_play.proofs.Returns.{some_returned}
+use Rattle.vd_play.proofs.ShadowChains.{shadow_events, shadow_suspend}
 use Rattle.vd_play.proofs.ShadowCut.{given_shadowing, shadow_prefix}
 
 front_of : {A B : Type 0} (f : A → List B) (xs : List A) (k : ℕ) → IsPrefix (flat_map f (take k xs)) (flat_map f xs)
@@ -58,10 +58,6 @@ begun_front e l plan q k ep a b is two =
     prefix_through (events_before e l plan q k ++ a ∷ []) (events_before e l plan q (k + 1)) (journal_events e l plan q)
     (subst (λ zs. IsPrefix (events_before e l plan q k ++ a ∷ []) zs) (sym more) (attach_front (events_before e l plan q k) a b))
     (front_of (epoch_events e l plan q) (queue_epochs plan q) (k + 1))
-
-shadow_events : {E : Type 0} (e : DeviceModel E) (l : LayoutModel) (plan : Plan) (q k : ℕ) (ep : Epoch) → ep.mode ≡ Shadow
-    → ep.renewed ≡ false → ep.number ≡ k → epoch_events e l plan q ep ≡ shadow_attach l plan q k ep.first ∷ epoch_suspend e l plan q ep ∷ []
-shadow_events e l plan q k ep m r n = rw (r, m, n) refl
 
 module _ {D E G X C : Type 0} (s : Setting D E G X C) (law : IsLawful s) (plan : Plan) (q : ℕ) where
   cut_driven : (words : RingWords) (guest : G) (device : X) (v : DriverView) (w : DeviceView) → IsDriven s plan q words guest v w
@@ -106,7 +102,7 @@ module _ {D E G X C : Type 0} (s : Setting D E G X C) (law : IsLawful s) (plan :
       let own = own_part plan q n b.epoch xs (sym b.first) front
       (omega (arith, many, on.few, serves.from.0, serves.to, b.first, b.end)) in
       let here : chains_of (drop n begun) ≡ take (length xs) (epoch_chains plan q b.epoch) =
-      taken ∙ own ∙ ap (take (length xs)) (pass_part plan q b.epoch mode) in
+      taken ∙ own ∙ ap (take (length xs)) (sym (pass_chains plan q b.epoch mode)) in
       subst (λ zs. IsPrefix zs (journal_chains plan q)) (sym (begun_within plan q k n (length xs) b.epoch begun p.account.before here))
       (within_prefix plan q k (length xs) b.epoch b.is)
 
@@ -142,12 +138,12 @@ module _ {D E G X C : Type 0} (s : Setting D E G X C) (law : IsLawful s) (plan :
       let l = s.layout in
       let b = bounded (length (queue_chains plan q)) (queue_epochs plan q) k p.kept.driven.queue.chained p.kept.epoch in
       let at = p.kept.driven.queue.numbered.at k b.epoch b.is in
-      let two : epoch_events e l plan q b.epoch ≡ shadow_attach l plan q k (begun_at plan q k) ∷ epoch_suspend e l plan q b.epoch ∷ [] =
+      let two : epoch_events e l plan q b.epoch ≡ shadow_attach l plan q k (begun_at plan q k) ∷ shadow_suspend e l plan q k b.epoch ∷ [] =
       shadow_events e l plan q k b.epoch (at.1 ∙ p.kept.mode) at.2 at.0
-      ∙ ap (λ j. shadow_attach l plan q k j ∷ epoch_suspend e l plan q b.epoch ∷ []) b.first in
+      ∙ ap (λ j. shadow_attach l plan q k j ∷ shadow_suspend e l plan q k b.epoch ∷ []) b.first in
       cut_relayed k words shadow_words r c guest device p.by p.view p.device_view p.shadow_view p.shadow_device_view p.kept
       (subst (λ zs. IsPrefix zs (journal_events e l plan q)) (sym p.serves.events)
-      (begun_front e l plan q k b.epoch (shadow_attach l plan q k (begun_at plan q k)) (epoch_suspend e l plan q b.epoch) b.is two))
+      (begun_front e l plan q k b.epoch (shadow_attach l plan q k (begun_at plan q k)) (shadow_suspend e l plan q k b.epoch) b.is two))
 
   cut_winding : (k n : ℕ) (words : RingWords) (shadow_words : List ℕ) (r : State E D) (c : Counts) (relayed : ℕ) (guest : G) (device : X)
       → IsWinding s plan q k n words shadow_words r c relayed guest device → IsCut s plan q guest device

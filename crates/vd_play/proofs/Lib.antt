@@ -36,6 +36,7 @@ pub mod ShadowCut
 pub mod KitsTaken
 pub mod ShadowBegin
 pub mod Begins
+pub mod Attaches
 pub mod ShadowKeep
 pub mod ShadowPace
 pub mod ShadowQuiet
@@ -44,3 +45,4 @@ pub mod ShadowChains
 pub mod ShadowStops
 pub mod ShadowEnds
 pub mod ShadowLanes
+pub mod ShadowTurns

@@ -6,7 +6,7 @@ use Rattle.std.proofs.lemmas.List.{map-append, take-append-drop, drop-append-le,
 use Rattle.std.proofs.lemmas.List.Elements.{All-head, All-tail, All-take, All-drop, All-weaker}
 use Rattle.std.specs.Option.{is_some}
 use mathlib.Core.List.{IsPrefix}
-use Rattle.vd_model.specs.declared.base.Mode.TheVariants.{Pass, Shadow}
+use Rattle.vd_model.specs.declared.base.Mode.TheVariants.{Shadow}
 use Rattle.vd_model.specs.declared.chain.Piece.{Piece}
 use Rattle.vd_model.specs.declared.record.Begun.{Begun}
 use Rattle.vd_model.specs.Maps.{to}
@@ -36,9 +36,6 @@ own_part plan q n ep xs at p le =
 
 -- ---- where the device finds them
 
-pub pass_part : (plan : Plan) (q : ℕ) (ep : Epoch) → ep.mode ≡ Pass → own_chains plan q ep ≡ epoch_chains plan q ep
-pass_part plan q ep m = rw m refl
-
 abbrev HasBytes : List Piece → Type 0
 HasBytes c = All (λ p. 1 ≤ p.len) c
 
@@ -55,7 +52,7 @@ moved_all plan (c ∷ cs) tree some =
     ap (λ x. x ∷ map (moved (tree_map plan)) cs) (moved_same plan (tree_map plan) c tree (All-head HasBytes c cs some))
     ∙ ap (λ xs. moved (shadow_map plan) c ∷ xs) (moved_all plan cs tree (All-tail HasBytes c cs some))
 
-by_shadow : (plan : Plan) (q : ℕ) (ep : Epoch) → ep.mode ≡ Shadow
+pub by_shadow : (plan : Plan) (q : ℕ) (ep : Epoch) → ep.mode ≡ Shadow
     → epoch_chains plan q ep ≡ map (moved (shadow_map plan)) (own_chains plan q ep)
 by_shadow plan q ep m = rw m refl
 

@@ -1,53 +1,39 @@
 -- A shadow epoch's last round: its relay rests, and hands back the end of the guest's ring.
-use Rattle.std.proofs.Common.{◌≡◌, inl, inr, ℕ, ◌+◌, ◌-◌, ◌*◌, ◌≤◌, Bool, true, false, if◌then◌else◌, List, [], ◌∷◌, ◌++◌, length, map, take, drop, sym, ◌∙◌, ap, subst, arith}
+use Rattle.std.proofs.Common.{◌≡◌, inl, inr, ℕ, ◌+◌, ◌-◌, ◌*◌, ◌≤◌, Bool, true, false, if◌then◌else◌, List, length, take, sym, ◌∙◌, ap, arith}
 use Rattle.std.proofs.lemmas.Bool.{cases_lt, false≢true}
-use Rattle.std.proofs.lemmas.List.{append_assoc, map-append, length-map, take-append-drop, take_all}
-use Rattle.vd_model.specs.declared.base.Mode.TheVariants.{Shadow}
+use Rattle.std.proofs.lemmas.List.{length-map, take_all}
 use Rattle.vd_model.specs.declared.chain.Piece.{Piece}
 use Rattle.vd_model.specs.declared.record.Begun.{Begun}
-use Rattle.vd_model.specs.Moved.{moved}
 use Rattle.vd_words.specs.Plain.{RingWords}
 use Rattle.vd_ring.specs.declared.driver.DriverView.{DriverView}
 use Rattle.vd_ring.specs.declared.device.DeviceView.{DeviceView}
 use Rattle.vd_ring.specs.declared.frame.Frame.{Frame}
-use Rattle.vd_ring.specs.History.{offers, collects, takes, gives, open_at}
+use Rattle.vd_ring.specs.History.{offers, takes, gives}
 use Rattle.vd_ring.proofs.HeldPlaces.{few_open}
-use Rattle.vd_bus.specs.declared.device.Attached.{Attached}
-use Rattle.vd_bus.specs.declared.event.Event.{Event}
-use Rattle.vd_bus.specs.declared.event.Event.TheVariants.{Attach, Suspend}
-use Rattle.vd_bus.specs.Device.{IsSuspend, IsServing, chains_of, lens_of}
-use Rattle.vd_bus.specs.Pace.{attaches}
-use Rattle.vd_control.specs.Settings.{default}
+use Rattle.vd_bus.specs.Device.{chains_of}
 use Rattle.vd_relay.specs.declared.counts.Counts.{Counts}
 use Rattle.vd_relay.specs.declared.stage.Stage.{Stage}
 use Rattle.vd_relay.specs.declared.stage.Stage.TheVariants as stage
 use Rattle.vd_relay.specs.declared.state.State.{State}
-use Rattle.vd_relay.specs.Relay.{Holds}
 use Rattle.vd_relay.specs.Stages.{is_rested}
 use Rattle.vd_relay.specs.Tie.{Start}
-use Rattle.vd_switch.specs.ShadowingLanes as switch
 use Rattle.vd_switch.specs.ShadowingLanes.{lane_begun}
 use Rattle.vd_switch.proofs.ShadowingLanes.{leaves, begun_count}
-use Rattle.vd_switch.proofs.Wound.{winds_up}
 use Rattle.vd_machine.specs.File.{Plan}
-use Rattle.vd_play.specs.Before.{events_before, begun_at, chains_before}
+use Rattle.vd_play.specs.Before.{begun_at, chains_before, chains_within}
 use Rattle.vd_play.specs.Epochs.{Epoch}
-use Rattle.vd_play.specs.Journal.{queue_chains, queue_epochs, epoch_chains, epoch_events, own_chains, shadow_map, shadow_frame}
-use Rattle.vd_play.specs.Lane.{Account}
-use Rattle.vd_play.specs.Orders.{shadow_attach}
-use Rattle.vd_play.specs.Progress.{steps, IsShadowing, IsWinding, IsStopped, HasHeard, HasRelayHeard, bells_before, relays_bound}
+use Rattle.vd_play.specs.Journal.{queue_chains, queue_epochs}
+use Rattle.vd_play.specs.Progress.{steps, IsWinding, IsStopped, HasRelayHeard}
 use Rattle.vd_play.specs.Rings.{shadows_before}
 use Rattle.vd_play.specs.Setting.{Setting, IsLawful}
-use Rattle.vd_play.specs.Shadowed.{IsRelayed, HasServedShadow}
-use Rattle.vd_turns.specs.RelayTurns.{RelayTurn, reached, did}
-use Rattle.vd_turns.specs.Turns.{GuestTurn, DeviceTurn}
-use Rattle.vd_play.proofs.Bounds.{Bounded, bounded, flat_more}
-use Rattle.vd_play.proofs.Moves.{before_more}
-use Rattle.vd_play.proofs.Pace.{attaches_more}
+use Rattle.vd_turns.specs.RelayTurns.{RelayTurn, reached}
+use Rattle.vd_turns.specs.Turns.{GuestTurn}
+use Rattle.vd_play.proofs.Bounds.{bounded}
+use Rattle.vd_play.proofs.Moves.{within_end}
 use Rattle.vd_play.proofs.Rings.{shadows_before_shadow}
-use Rattle.vd_play.proofs.ShadowChains.{shadow_chains, shadow_events, begun_chains, lane_lens, given_lawful}
+use Rattle.vd_play.proofs.ShadowCut.{given_shadowing, shadow_within}
 use Rattle.vd_play.proofs.ShadowPace.{bounds_of}
-use Rattle.vd_play.proofs.ShadowRounds.{turned, all_turned, winding_works}
+use Rattle.vd_play.proofs.ShadowRounds.{turned, winding_works}
 
 taken_first : (b : Bool) (x y : ℕ) → b ≡ true → (if b then x else y) ≡ x
 taken_first true x y is = Rattle.std.proofs.Common.refl
@@ -102,14 +88,12 @@ module _ {D E G X C : Type 0} (s : Setting D E G X C) (law : IsLawful s) (plan :
       sym (ap length left.0.chains) ∙ length-map (lane_begun z x.kept.old begun p.by) (λ (y : List Piece × ℕ). y.0)
       ∙ omega (arith, count, x.kept.took_over.0, low.begun, low.at, every) in
       let n0 : ℕ = begun_at plan q k in
+      let ep : Epoch = bound.epoch in
+      let many : length begun - n0 ≡ ep.end - ep.first = omega (arith, every, bound.first, bound.end) in
       let chains : chains_of (take next begun) ≡ chains_before plan q (k + 1) =
-      ap chains_of (take_all next begun (omega (arith, every)) ∙ sym (take-append-drop n0 begun))
-      ∙ map-append (λ (y : Begun). y.chain) (take n0 begun) (drop n0 begun)
-      ∙ ap (λ zs. zs ++ chains_of (drop n0 begun)) x.kept.account.before
-      ∙ ap (λ j. chains_before plan q k ++ chains_of (drop j begun)) (sym x.kept.took_over.2)
-      ∙ ap (λ zs. chains_before plan q k ++ zs)
-      (begun_chains s law plan q k words2 shadow_words1 r1 c1 guest1 device p.by v w sv sw x.kept every bound)
-      ∙ sym (before_more plan q k bound.epoch bound.is) in
+      ap chains_of (take_all next begun (omega (arith, every)))
+      ∙ shadow_within s law plan q k words2 shadow_words1 r1 c1 guest1 device p.by v w sv sw x.kept ep bound.is
+      ∙ ap (chains_within plan q k ep) many ∙ within_end plan q k ep x.kept.driven.queue.chained bound.is in
       let h : HasRelayHeard s plan q k (relayed + b) r1 c1 device v w sv sw = x.heard in
       let more : shadows_before plan (k + 1) ≡ shadows_before plan k + 1 = shadows_before_shadow plan k x.kept.mode in
       let rings : plan.size * shadows_before plan (k + 1) ≡ plan.size * shadows_before plan k + plan.size =
@@ -147,8 +131,7 @@ module _ {D E G X C : Type 0} (s : Setting D E G X C) (law : IsLawful s) (plan :
           kept = record {
             driven = x.kept.driven;
             account = record { before = chains; many = omega (arith, every); each = x.kept.account.each };
-            given = given_lawful v.done (lane_begun z x.kept.old begun p.by) w.done (lens_of begun) left.0.lawful
-                (lane_lens s law plan q k words2 shadow_words1 r1 c1 guest1 device p.by v w sv sw x.kept);
+            given = given_shadowing s law plan q k words2 shadow_words1 r1 c1 guest1 device p.by v w sv sw x.kept;
             reserved = x.kept.reserved;
           };
           rests = record {

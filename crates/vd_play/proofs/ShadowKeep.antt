@@ -1,20 +1,19 @@
 -- What the turns of guest, relay and device keep of a lane in a shadow epoch.
-use Rattle.std.proofs.Common.{◌≡◌, ℕ, ◌≤◌, true, false, Some, List, length, map, take, sym, ◌∙◌, ap, arith}
+use Rattle.std.proofs.Common.{◌≡◌, ℕ, ◌≤◌, false, Some, List, length, map, take, sym, ◌∙◌, ap, arith}
 use Rattle.std.proofs.lemmas.Bool.{false≢true}
-use Rattle.std.proofs.lemmas.List.{length-map, take-map, take-append-le}
+use Rattle.std.proofs.lemmas.List.{take-map, take-append-le}
 use mathlib.Core.List.{IsPrefix}
 use Rattle.vd_model.specs.declared.record.Begun.{Begun}
 use Rattle.vd_words.specs.Plain.{RingWords}
 use Rattle.vd_ring.specs.declared.driver.DriverView.{DriverView}
 use Rattle.vd_ring.specs.declared.device.DeviceView.{DeviceView}
 use Rattle.vd_bus.specs.declared.device.Attached.{Attached}
-use Rattle.vd_bus.specs.Device.{IsServing, IsServed, chains_of, lens_of}
+use Rattle.vd_bus.specs.Device.{IsServing, chains_of, lens_of}
 use Rattle.vd_bus.specs.Orders.{IsData}
 use Rattle.vd_relay.specs.declared.counts.Counts.{Counts}
 use Rattle.vd_relay.specs.declared.state.State.{State}
 use Rattle.vd_machine.specs.File.{Plan}
 use Rattle.vd_play.specs.Before.{begun_at}
-use Rattle.vd_play.specs.Lane.{Account, IsReserved}
 use Rattle.vd_play.specs.Setting.{Setting, IsLawful}
 use Rattle.vd_play.specs.Shadowed.{IsRelayed}
 use Rattle.vd_turns.specs.RelayTurns.{RelayRun}

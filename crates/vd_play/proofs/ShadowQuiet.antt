@@ -1,18 +1,18 @@
 -- A quiet lane of the mode shadow: not all parties sleep for two rounds while the device has chains to begin.
-use Rattle.std.proofs.Common.{◌≡◌, ◌⊎◌, inl, inr, ℕ, ◌+◌, ◌<◌, ◌≤◌, Bool, true, false, Some, List, [], length, sym, ◌∙◌, ap, subst, arith}
+use Rattle.std.proofs.Common.{◌≡◌, ◌⊎◌, inl, inr, ℕ, Bool, true, false, Some, List, [], length, ap, subst, arith}
 use Rattle.vd_model.specs.declared.chain.Piece.{Piece}
 use Rattle.vd_words.specs.Plain.{RingWords}
 use Rattle.vd_ring.specs.declared.driver.DriverView.{DriverView}
 use Rattle.vd_ring.specs.declared.device.DeviceDone.{DeviceDone}
 use Rattle.vd_ring.specs.declared.device.DeviceView.{DeviceView}
 use Rattle.vd_ring.specs.declared.frame.Used.{Used}
-use Rattle.vd_ring.specs.History.{offers, collects, takes, gives}
+use Rattle.vd_ring.specs.History.{takes, gives}
 use Rattle.vd_ring.specs.Lists.{Lists}
 use Rattle.vd_ring.specs.Signals.{nothing}
 use Rattle.vd_ring.specs.Sleep.{DriverWaits, DeviceWaits, driver_owed, device_owed}
-use Rattle.vd_layout.specs.Begun.{DriverOp, DeviceOp}
-use Rattle.vd_layout.specs.Driver.{DriverModel, IsLawfulDriver}
-use Rattle.vd_layout.specs.Device.{DeviceModel, IsLawfulDevice}
+use Rattle.vd_layout.specs.Begun.{DeviceOp}
+use Rattle.vd_layout.specs.Driver.{DriverModel}
+use Rattle.vd_layout.specs.Device.{DeviceModel}
 use Rattle.vd_bus.specs.declared.device.Attached.{Attached}
 use Rattle.vd_relay.specs.declared.counts.Counts.{Counts}
 use Rattle.vd_relay.specs.declared.stage.Stage.{Stage}
@@ -20,12 +20,12 @@ use Rattle.vd_relay.specs.declared.stage.Stage.TheVariants as stage
 use Rattle.vd_relay.specs.declared.state.State.{State}
 use Rattle.vd_relay.specs.Relay.{Stands}
 use Rattle.vd_relay.specs.Stages.{is_hearing, BeforeRest, InHand, BackIs}
-use Rattle.vd_relay.specs.Tie.{Start, since}
+use Rattle.vd_relay.specs.Tie.{Start}
 use Rattle.vd_relay.proofs.Ties.{taken_count, given_count}
 use Rattle.vd_switch.specs.Sleeping.{Sleeps}
 use Rattle.vd_switch.proofs.AtRest.{at_rest}
 use Rattle.vd_machine.specs.File.{Plan}
-use Rattle.vd_play.specs.Journal.{queue_script, queue_chains}
+use Rattle.vd_play.specs.Journal.{queue_script}
 use Rattle.vd_play.specs.Lane.{IsDriven}
 use Rattle.vd_play.specs.Setting.{Setting, IsLawful}
 use Rattle.vd_play.specs.Shadowed.{IsRelayed}

@@ -1,10 +1,10 @@
 -- A round of a lane in a shadow epoch, after which its relay goes on.
-use Rattle.std.proofs.Common.{◌≡◌, ◌⊎◌, inl, inr, ℕ, ◌+◌, ◌*◌, ◌≤◌, Bool, true, false, Some, List, length, sym, ◌∙◌, ap, subst, arith}
+use Rattle.std.proofs.Common.{◌≡◌, ◌⊎◌, inl, inr, ℕ, ◌+◌, ◌*◌, ◌≤◌, Bool, true, false, List, length, sym, ◌∙◌, subst, arith}
 use Rattle.std.proofs.lemmas.Bool.{cases_lt, false≢true}
 use Rattle.vd_words.specs.Plain.{RingWords}
 use Rattle.vd_ring.specs.declared.driver.DriverView.{DriverView}
 use Rattle.vd_ring.specs.declared.device.DeviceView.{DeviceView}
-use Rattle.vd_ring.specs.Sleep.{DriverWaits, DeviceWaits}
+use Rattle.vd_ring.specs.Sleep.{DriverWaits}
 use Rattle.vd_bus.specs.declared.device.Attached.{Attached}
 use Rattle.vd_relay.specs.declared.counts.Counts.{Counts}
 use Rattle.vd_relay.specs.declared.stage.Stage.{Stage}
@@ -14,11 +14,11 @@ use Rattle.vd_machine.specs.File.{Plan}
 use Rattle.vd_play.specs.Journal.{queue_chains}
 use Rattle.vd_play.specs.Progress.{steps, IsPaced, HasRelayHeard, IsShadowing, IsWinding, RelayingBy}
 use Rattle.vd_play.specs.Setting.{Setting, IsLawful}
-use Rattle.vd_play.specs.Shadowed.{IsRelayed, ServesShadow}
+use Rattle.vd_play.specs.Shadowed.{IsRelayed}
 use Rattle.vd_turns.specs.RelayTurns.{RelayTurn, HalfWaits}
 use Rattle.vd_turns.specs.Turns.{GuestTurn, DeviceTurn}
 use Rattle.vd_play.proofs.ShadowKeep.{keeps_guest, keeps_relay, keeps_device}
-use Rattle.vd_play.proofs.ShadowPace.{bounds_of, low_of, paces_guest, paces_relay, paces_device}
+use Rattle.vd_play.proofs.ShadowPace.{bounds_of, paces_guest, paces_relay, paces_device}
 use Rattle.vd_play.proofs.ShadowQuiet.{both_ends, no_sleep}
 
 module _ {D E G X C : Type 0} (s : Setting D E G X C) (plan : Plan) (q k n : ℕ) where

@@ -1,7 +1,7 @@
--- The ends of a shadow epoch: its device is done and suspended, and later its relay rests and hands back the end of the guest's ring.
-use Rattle.std.proofs.Common.{◌≡◌, inl, inr, ℕ, ◌+◌, ◌-◌, ◌*◌, ◌≤◌, Bool, true, false, if◌then◌else◌, List, [], ◌∷◌, ◌++◌, length, map, take, drop, sym, ◌∙◌, ap, subst, arith}
-use Rattle.std.proofs.lemmas.Bool.{cases_lt, false≢true}
-use Rattle.std.proofs.lemmas.List.{append_assoc, map-append, length-map, take-append-drop, take_all}
+-- The end of a shadow epoch: its device is done and suspended, and its relay begins to wind up.
+use Rattle.std.proofs.Common.{◌≡◌, inl, inr, ℕ, ◌+◌, ◌*◌, ◌≤◌, Bool, true, false, if◌then◌else◌, List, [], ◌∷◌, ◌++◌, length, map, take, drop, sym, ◌∙◌, ap, subst, arith}
+use Rattle.std.proofs.lemmas.Bool.{false≢true}
+use Rattle.std.proofs.lemmas.List.{append_assoc}
 use Rattle.vd_model.specs.declared.base.Mode.TheVariants.{Shadow}
 use Rattle.vd_model.specs.declared.chain.Piece.{Piece}
 use Rattle.vd_model.specs.declared.record.Begun.{Begun}
@@ -9,45 +9,35 @@ use Rattle.vd_model.specs.Moved.{moved}
 use Rattle.vd_words.specs.Plain.{RingWords}
 use Rattle.vd_ring.specs.declared.driver.DriverView.{DriverView}
 use Rattle.vd_ring.specs.declared.device.DeviceView.{DeviceView}
-use Rattle.vd_ring.specs.declared.frame.Frame.{Frame}
-use Rattle.vd_ring.specs.History.{offers, collects, takes, gives, open_at}
-use Rattle.vd_ring.proofs.HeldPlaces.{few_open}
+use Rattle.vd_ring.specs.History.{takes, gives}
 use Rattle.vd_bus.specs.declared.device.Attached.{Attached}
 use Rattle.vd_bus.specs.declared.event.Event.{Event}
-use Rattle.vd_bus.specs.declared.event.Event.TheVariants.{Attach, Suspend}
-use Rattle.vd_bus.specs.Device.{IsSuspend, IsServing, chains_of, lens_of}
+use Rattle.vd_bus.specs.declared.event.Event.TheVariants.{Suspend}
+use Rattle.vd_bus.specs.Device.{IsSuspend, lens_of}
 use Rattle.vd_bus.specs.Pace.{attaches}
-use Rattle.vd_control.specs.Settings.{default}
 use Rattle.vd_relay.specs.declared.counts.Counts.{Counts}
-use Rattle.vd_relay.specs.declared.stage.Stage.{Stage}
-use Rattle.vd_relay.specs.declared.stage.Stage.TheVariants as stage
 use Rattle.vd_relay.specs.declared.state.State.{State}
 use Rattle.vd_relay.specs.Relay.{Holds}
 use Rattle.vd_relay.specs.Stages.{is_rested}
 use Rattle.vd_relay.specs.Tie.{Start}
 use Rattle.vd_switch.specs.ShadowingLanes as switch
-use Rattle.vd_switch.specs.ShadowingLanes.{lane_begun}
-use Rattle.vd_switch.proofs.ShadowingLanes.{leaves, begun_count}
 use Rattle.vd_switch.proofs.Wound.{winds_up}
 use Rattle.vd_machine.specs.File.{Plan}
-use Rattle.vd_play.specs.Before.{events_before, begun_at, chains_before}
+use Rattle.vd_play.specs.Before.{events_before, begun_at}
 use Rattle.vd_play.specs.Epochs.{Epoch}
-use Rattle.vd_play.specs.Journal.{queue_chains, queue_epochs, epoch_chains, epoch_events, own_chains, shadow_map, shadow_frame}
+use Rattle.vd_play.specs.Journal.{queue_chains, queue_epochs, epoch_events, own_chains, shadow_map, shadow_frame}
 use Rattle.vd_play.specs.Lane.{Account}
 use Rattle.vd_play.specs.Orders.{shadow_attach}
-use Rattle.vd_play.specs.Progress.{steps, IsShadowing, IsWinding, IsStopped, HasHeard, HasRelayHeard, bells_before, relays_bound}
-use Rattle.vd_play.specs.Rings.{shadows_before}
+use Rattle.vd_play.specs.Progress.{steps, IsShadowing, IsWinding, HasRelayHeard}
 use Rattle.vd_play.specs.Setting.{Setting, IsLawful}
 use Rattle.vd_play.specs.Shadowed.{IsRelayed, HasServedShadow}
-use Rattle.vd_turns.specs.RelayTurns.{RelayTurn, reached, did}
+use Rattle.vd_turns.specs.RelayTurns.{RelayTurn, reached}
 use Rattle.vd_turns.specs.Turns.{GuestTurn, DeviceTurn}
-use Rattle.vd_play.proofs.Bounds.{Bounded, bounded, flat_more}
-use Rattle.vd_play.proofs.Moves.{before_more}
+use Rattle.vd_play.proofs.Bounds.{bounded, flat_more}
 use Rattle.vd_play.proofs.Pace.{attaches_more}
-use Rattle.vd_play.proofs.Rings.{shadows_before_shadow}
-use Rattle.vd_play.proofs.ShadowChains.{shadow_chains, shadow_events, begun_chains, lane_lens, given_lawful}
-use Rattle.vd_play.proofs.ShadowPace.{bounds_of}
-use Rattle.vd_play.proofs.ShadowRounds.{turned, all_turned, winding_works}
+use Rattle.vd_play.proofs.Parts.{by_shadow}
+use Rattle.vd_play.proofs.ShadowChains.{shadow_events, begun_chains}
+use Rattle.vd_play.proofs.ShadowRounds.{all_turned}
 
 two_events : (es es' old : List Event) (a b b' : Event) → es ≡ old ++ a ∷ [] → es' ≡ es ++ b ∷ [] → b ≡ b' → es' ≡ old ++ (a ∷ b' ∷ [])
 two_events es es' old a b b' first second same = second ∙ ap (λ zs. zs ++ b ∷ []) first ∙ append_assoc old (a ∷ []) (b ∷ [])
@@ -75,7 +65,7 @@ module _ {D E G X C : Type 0} (s : Setting D E G X C) (law : IsLawful s) (plan :
       let moved_chains : List (List Piece) = map (moved (shadow_map plan)) (own_chains plan q ep) in
       let taken : takes sw.done ≡ moved_chains =
       ap (λ j. drop j (takes sw.done)) (sym p.lane.from) ∙ sym p.lane.serves.chains
-      ∙ begun_chains s law plan q k words shadow_words r c guest device by v w sv sw p every b ∙ shadow_chains plan q ep mode in
+      ∙ begun_chains s law plan q k words shadow_words r c guest device by v w sv sw p every b ∙ by_shadow plan q ep mode in
       let framed : sw.frame ≡ shadow_frame s.layout plan ring =
       (law.layout.wide shadow_words sv sw p.lane.shadow_ring).1 ∙ p.framed in
       let based : s.device.base end ≡ s.device.base_of (shadow_frame s.layout plan ring) moved_chains =
@@ -87,12 +77,10 @@ module _ {D E G X C : Type 0} (s : Setting D E G X C) (law : IsLawful s) (plan :
       ap (λ j. Suspend j (record { 0 = s.device.base end })) every ∙ ap (λ j. Suspend next (record { 0 = j })) based in
       let whole : epoch_events s.device s.layout plan q ep ≡ shadow_attach s.layout plan q k (begun_at plan q k)
       ∷ Suspend next (record { 0 = s.device.base_of (shadow_frame s.layout plan ring) moved_chains }) ∷ [] =
-      shadow_events s.device s.layout plan q ep mode numbered.2
-      ∙ ap (λ j. Attach ep.first (16 * (j + 1) + q) (record { 0 = s.layout.fresh_base }) Shadow default (shadow_map plan)
-      ∷ Suspend ep.end (record { 0 = s.device.base_of (shadow_frame s.layout plan (16 * (j + 1) + q)) moved_chains }) ∷ []) numbered.0
-      ∙ ap (λ j. Attach j ring (record { 0 = s.layout.fresh_base }) Shadow default (shadow_map plan)
+      shadow_events s.device s.layout plan q k ep mode numbered.2 numbered.0
+      ∙ ap (λ j. shadow_attach s.layout plan q k j
       ∷ Suspend ep.end (record { 0 = s.device.base_of (shadow_frame s.layout plan ring) moved_chains }) ∷ []) b.first
-      ∙ ap (λ j. Attach (begun_at plan q k) ring (record { 0 = s.layout.fresh_base }) Shadow default (shadow_map plan)
+      ∙ ap (λ j. shadow_attach s.layout plan q k (begun_at plan q k)
       ∷ Suspend j (record { 0 = s.device.base_of (shadow_frame s.layout plan ring) moved_chains }) ∷ []) b.end in
       record {
         free = z.attached;

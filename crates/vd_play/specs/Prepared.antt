@@ -53,7 +53,8 @@ pub record IsIdle {D E G X C : Type 0} (s : Setting D E G X C) (bench : Bench G 
 
 -- each queue of the machine has a ring without chains; its guest holds the driver's end and has loaded the queue's script, its
 -- device's end rests in the lane, and its device's journal is empty and has room for all that the machine orders
-pub record IsPrepared {L D E G X C : Type 0} (s : Setting D E G X C) (plan : Plan) (lanes : List (Lane L D E)) (bench : Bench G X) : Type 0 where
+pub record IsPrepared {L D E G X C : Type 0} (s : Setting D E G X C) (plan : Plan) (lanes : List (Lane L D E)) (bench : Bench G X)
+    : Type 0 where
   pub layout : IsOfLayout s.layout plan
   pub many : length lanes ≡ length plan.queues
   pub parties : HasLanes (length plan.queues) bench

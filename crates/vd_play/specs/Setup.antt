@@ -140,8 +140,8 @@ HasBases e base plan m lanes b = (q n : ℕ) (lane : Lane _ _ _) → slice_get l
     → (vring_at plan b q).base ≡ n
 
 -- the bus as it is set up for epoch k, which is of this mode
-pub record IsReady {L D E : Type 0} (e : DeviceModel E) (base : ℕ) (plan : Plan) (m : Mode) (k : ℕ) (lanes : List (Lane L D E)) (b : BusState)
-    : Type 0 where
+pub record IsReady {L D E : Type 0} (e : DeviceModel E) (base : ℕ) (plan : Plan) (m : Mode) (k : ℕ) (lanes : List (Lane L D E))
+    (b : BusState) : Type 0 where
   pub up : IsUp plan m b
   pub rings : HasRings plan m k b
   pub bases : HasBases e base plan m lanes b

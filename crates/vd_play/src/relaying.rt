@@ -21,7 +21,8 @@ use vd_turns::{Draws, device_turn, guest_turn, relay_turn};
 #[inline(never)]
 fn stop<L: Layout>(relaying: &mut Option<Relaying<L>>, still: &mut Option<L::Device>)
     requires rested { IsSomeAnd relaying.old (λ x. (is_rested x.lane.relay.state.stage ≡ true)
-        × ((z : Start) × (w : DeviceView) × (v : DriverView) × Holds L.Device.device L.Driver.driver z x.lane.relay.state x.lane.relay.counts w v)) }
+        × ((z : Start) × (w : DeviceView) × (v : DriverView)
+        × Holds L.Device.device L.Driver.driver z x.lane.relay.state x.lane.relay.counts w v)) }
     ensures gone { relaying.new ≡ None }
     ensures kept { still.new ≡ option_map (λ x. x.lane.relay.state.guest) relaying.old }
 {

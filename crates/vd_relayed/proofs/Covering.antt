@@ -48,7 +48,8 @@ covers_own t kept p lies = (lies, below t kept p lies (find (holds_guest p.addr 
 pub may_stand_in : (f : Frame) (ms : List Mapping) (c : List Piece) → IsChain c → length c ≤ f.size → readable c ≤ 1000000
     → writable c ≤ 1000000 → f.bounds ≡ Some ms → All (λ p. lies_in ms p ≡ true) c → Fits f c
 may_stand_in f ms c is short read write bounded all =
-    let free : Frame = record { ring = f.ring; packed = f.packed; size = f.size; features = f.features; control = f.control; bounds = None } in
+    let free : Frame =
+    record { ring = f.ring; packed = f.packed; size = f.size; features = f.features; control = f.control; bounds = None } in
     let fits : Fits free c = may_stand free c is short read write refl in
     record {
       chain = fits.chain;

@@ -37,7 +37,8 @@ loop-i-preserved g c =
                 (sym c.mode_of.ensures ∙ is_shadow (sameb the_type) c.mode_of.result refl (sym c.eq.ensures ∙ w.if-eq.true))
                 (ap (λ (z : _). z.items) w.kits-is ∙ w.in_ok-push.ensures.items) w.in_ok-make_shadow_ring.ensures before
             | else-eq w ↦
-                subst (λ (z : _). HasKits g.L.Driver.DriverEnd.driver g.L.Device.DeviceEnd.device g.L.Layout.layout plan c.args.queue k z.items)
+                subst (λ (z : _).
+                HasKits g.L.Driver.DriverEnd.driver g.L.Device.DeviceEnd.device g.L.Layout.layout plan c.args.queue k z.items)
                 (sym w.kits-is) (kits_same g.L.Driver.DriverEnd.driver g.L.Device.DeviceEnd.device g.L.Layout.layout plan c.args.queue k
                 c.loop-i.kits.items (λ is. not_shadow (sameb the_type) c.mode_of.result refl (sym c.eq.ensures ∙ w.if-eq.false)
                 (c.mode_of.ensures ∙ is)) before)

@@ -1,19 +1,20 @@
-use Rattle.std.proofs.Common.{◌≡◌, ◌<◌, ◌+◌, ◌++◌, ◌∷◌, [], ℕ, length, arith, sym, subst, refl, ap, ◌∙◌}
+use Rattle.std.proofs.Common.{◌≡◌, ◌+◌, ◌++◌, ◌∷◌, [], Some, length, slice_get, arith, sym, subst, refl, ap, ◌∙◌}
 use Rattle.std.specs.Vec.{with_item}
 use Rattle.std.proofs.lemmas.Option.{slice_get_read}
 use Rattle.std.proofs.lemmas.List.{length_push}
 use Rattle.std.proofs.lemmas.List.Elements.{All-nil, All-cons, All-append, All-same}
 use Rattle.vd_machine.specs.File.{view}
-use Rattle.vd_play.specs.declared.bench.Bench.{Bench}
 use Rattle.vd_play.specs.declared.floor.Lane.{Lane}
 use Rattle.vd_play.specs.Tree.{IsTreeOf}
 use Rattle.vd_play.specs.Played.{KeepsBench}
-use Rattle.vd_play.specs.Prepared.{IsEmptyGuest, IsEmptyDevice}
+use Rattle.vd_play.specs.Prepared.{IsEmptyGuest, IsEmptyDevice, IsUntouched}
 use Rattle.vd_play.proofs.Benches.{keeps_none, keeps_set, keeps_more, lanes_kept, same_many}
 use Rattle.vd_play.proofs.Lists.{All-at}
 use Rattle.vd_play.specs.Setting.{setting_of}
 use Rattle.vd_play.proofs.Untouched.{untouched_start, untouched_set, idle_of, each_none, each_push}
+use Rattle.vd_play.proofs.preparing.prepare.Given.{Over}
 use Rattle.vd_play.proofs.preparing.prepare.Goals as goal
+use Rattle.vd_play.proofs.preparing.prepare.Goals.{After-index_mut-in-loop-i, After-make_lane}
 
 pub returns-in_err-lanes-clause-untouched : goal.returns-in_err-lanes-clause-untouched
 returns-in_err-lanes-clause-untouched g c =
@@ -35,95 +36,72 @@ loop-i-init g c = record {
   none = All-same (λ (lane : Lane _ _ _). lane.relayed ≡ 0) c.in_ok-lanes.lanes.items [] c.in_ok-lanes.ensures.items (All-nil _);
 }
 
+-- ---- the next lane
+
+-- its parties stand where they stood
+at_guest : (g : Over) (c : After-index_mut-in-loop-i g)
+    → slice_get c.args.bench.now.guests.items c.loop-i.i ≡ Some c.index_mut.result.now
+at_guest g c =
+    sym (c.loop-i.invariant.keeps.other_guests c.loop-i.i (omega arith)) ∙ slice_get_read c.loop-i.bench.guests.items _ c.loop-i.i
+    c.index_mut.result.now refl (omega (arith, c.loop-i.invariant.parties.guests)) c.index_mut.ensures.value
+
+at_device : (g : Over) (c : After-index_mut-in-loop-i g)
+    → slice_get c.args.bench.now.devices.items c.loop-i.i ≡ Some c.index_mut-in-loop-i.result.now
+at_device g c =
+    sym (c.loop-i.invariant.keeps.other_devices c.loop-i.i (omega arith)) ∙ slice_get_read c.loop-i.bench.devices.items _ c.loop-i.i
+    c.index_mut-in-loop-i.result.now refl (omega (arith, c.loop-i.invariant.parties.devices)) c.index_mut-in-loop-i.ensures.value
+
+-- and are written
+keeps_next : (g : Over) (c : After-make_lane g)
+    → slice_get c.args.bench.now.devices.items c.loop-i.i ≡ Some c.index_mut-in-loop-i.result.now
+    → KeepsBench g.V.Device.party (c.loop-i.i + 1) c.args.bench.now (record {
+      guests = with_item c.loop-i.bench.guests c.loop-i.i c.make_lane.new.guest;
+      devices = with_item c.loop-i.bench.devices c.loop-i.i c.make_lane.new.device;
+    })
+keeps_next g c at =
+    let i = c.loop-i.i in
+    keeps_set g.V.Device.party (i + 1) c.args.bench.now c.loop-i.bench _ i c.make_lane.new.guest c.index_mut-in-loop-i.result.now
+    c.make_lane.new.device (omega arith) (keeps_more g.V.Device.party i (i + 1) _ _ (omega arith) c.loop-i.invariant.keeps) refl refl
+    (c.loop-i.invariant.keeps.other_devices i (omega arith) ∙ at) c.make_lane.ensures.device.carried
+
+untouched_next : (g : Over) (c : After-make_lane g)
+    → slice_get c.args.bench.now.devices.items c.loop-i.i ≡ Some c.index_mut-in-loop-i.result.now
+    → IsUntouched g.G.Guest.party g.V.Device.party c.args.bench.now (record {
+      guests = with_item c.loop-i.bench.guests c.loop-i.i c.make_lane.new.guest;
+      devices = with_item c.loop-i.bench.devices c.loop-i.i c.make_lane.new.device;
+    })
+untouched_next g c at =
+    untouched_set g.G.Guest.party g.V.Device.party c.args.bench.now c.loop-i.bench _ c.loop-i.i c.make_lane.new.guest
+    c.index_mut-in-loop-i.result.now c.make_lane.new.device c.loop-i.invariant.untouched refl refl c.make_lane.ensures.guest at
+    c.make_lane.ensures.device
+
 pub make_lane-requires-clause-guest : goal.make_lane-requires-clause-guest
 make_lane-requires-clause-guest g c =
-    let i = c.loop-i.i in
-    let n : ℕ = length c.args.m.now.queues in
-    let f = c.loop-i.invariant.parties in
-    let below : i < n = omega arith in
-    let hg = slice_get_read c.loop-i.bench.guests.items _ i c.index_mut.result.now refl
-    (omega (arith, f.guests)) c.index_mut.ensures.value in
-    let hx = slice_get_read c.loop-i.bench.devices.items _ i c.index_mut-in-loop-i.result.now refl
-    (omega (arith, f.devices)) c.index_mut-in-loop-i.ensures.value in
-    let old = sym (c.loop-i.invariant.keeps.other_devices i (omega arith)) ∙ hx in
-    All-at (IsEmptyGuest g.G.Guest.party) c.args.bench.now.guests.items i c.index_mut.result.now
-    (sym (c.loop-i.invariant.keeps.other_guests i (omega arith)) ∙ hg) c.requires.empty.guests
+    All-at (IsEmptyGuest g.G.Guest.party) c.args.bench.now.guests.items c.loop-i.i c.index_mut.result.now
+    (at_guest g (goal.at.make_lane-requires-clause-guest g c).After-index_mut-in-loop-i) c.requires.empty.guests
 
 pub make_lane-requires-clause-device : goal.make_lane-requires-clause-device
 make_lane-requires-clause-device g c =
-    let i = c.loop-i.i in
-    let n : ℕ = length c.args.m.now.queues in
-    let f = c.loop-i.invariant.parties in
-    let below : i < n = omega arith in
-    let hg = slice_get_read c.loop-i.bench.guests.items _ i c.index_mut.result.now refl
-    (omega (arith, f.guests)) c.index_mut.ensures.value in
-    let hx = slice_get_read c.loop-i.bench.devices.items _ i c.index_mut-in-loop-i.result.now refl
-    (omega (arith, f.devices)) c.index_mut-in-loop-i.ensures.value in
-    let old = sym (c.loop-i.invariant.keeps.other_devices i (omega arith)) ∙ hx in
-    All-at (IsEmptyDevice g.V.Device.party) c.args.bench.now.devices.items i c.index_mut-in-loop-i.result.now old c.requires.empty.devices
+    All-at (IsEmptyDevice g.V.Device.party) c.args.bench.now.devices.items c.loop-i.i c.index_mut-in-loop-i.result.now
+    (at_device g (goal.at.make_lane-requires-clause-device g c).After-index_mut-in-loop-i) c.requires.empty.devices
 
 pub returns-in_err-lane-clause-keeps : goal.returns-in_err-lane-clause-keeps
 returns-in_err-lane-clause-keeps g c =
-    let i = c.loop-i.i in
-    let n : ℕ = length c.args.m.now.queues in
-    let f = c.loop-i.invariant.parties in
-    let below : i < n = omega arith in
-    let hg = slice_get_read c.loop-i.bench.guests.items _ i c.index_mut.result.now refl
-    (omega (arith, f.guests)) c.index_mut.ensures.value in
-    let hx = slice_get_read c.loop-i.bench.devices.items _ i c.index_mut-in-loop-i.result.now refl
-    (omega (arith, f.devices)) c.index_mut-in-loop-i.ensures.value in
-    let old = sym (c.loop-i.invariant.keeps.other_devices i (omega arith)) ∙ hx in
-    let new : Bench _ _ = record {
-      guests = with_item c.loop-i.bench.guests i c.make_lane.new.guest;
-      devices =
-          with_item c.loop-i.bench.devices i c.make_lane.new.device;
-    } in
-    let keeps : KeepsBench g.V.Device.party (i + 1) c.args.bench.now new =
-    keeps_set g.V.Device.party (i + 1) c.args.bench.now c.loop-i.bench new i c.make_lane.new.guest _ c.make_lane.new.device
-    (omega arith) (keeps_more g.V.Device.party i (i + 1) _ _ (omega arith) c.loop-i.invariant.keeps) refl refl hx
-    c.make_lane.ensures.device.carried in
-    keeps_more g.V.Device.party (i + 1) n c.args.bench.now new (omega arith) keeps
+    let at = goal.at.returns-in_err-lane-clause-keeps g c in
+    keeps_more g.V.Device.party (c.loop-i.i + 1) (length c.args.m.now.queues) c.args.bench.now _ (omega arith)
+    (keeps_next g at.After-make_lane (at_device g at.After-index_mut-in-loop-i))
 
 pub returns-in_err-lane-clause-untouched : goal.returns-in_err-lane-clause-untouched
 returns-in_err-lane-clause-untouched g c =
-    let i = c.loop-i.i in
-    let n : ℕ = length c.args.m.now.queues in
-    let f = c.loop-i.invariant.parties in
-    let below : i < n = omega arith in
-    let hg = slice_get_read c.loop-i.bench.guests.items _ i c.index_mut.result.now refl
-    (omega (arith, f.guests)) c.index_mut.ensures.value in
-    let hx = slice_get_read c.loop-i.bench.devices.items _ i c.index_mut-in-loop-i.result.now refl
-    (omega (arith, f.devices)) c.index_mut-in-loop-i.ensures.value in
-    let old = sym (c.loop-i.invariant.keeps.other_devices i (omega arith)) ∙ hx in
-    let new : Bench _ _ = record {
-      guests = with_item c.loop-i.bench.guests i c.make_lane.new.guest;
-      devices =
-          with_item c.loop-i.bench.devices i c.make_lane.new.device;
-    } in
-    untouched_set g.G.Guest.party g.V.Device.party c.args.bench.now c.loop-i.bench new i c.make_lane.new.guest
-    c.index_mut-in-loop-i.result.now c.make_lane.new.device c.loop-i.invariant.untouched refl refl c.make_lane.ensures.guest old
-    c.make_lane.ensures.device
+    let at = goal.at.returns-in_err-lane-clause-untouched g c in
+    untouched_next g at.After-make_lane (at_device g at.After-index_mut-in-loop-i)
 
 pub loop-i-preserved : goal.loop-i-preserved
 loop-i-preserved g c =
+    let at = goal.at.loop-i-preserved g c in
+    let was = at_device g at.After-index_mut-in-loop-i in
     let i = c.loop-i.i in
-    let n : ℕ = length c.args.m.now.queues in
-    let f = c.loop-i.invariant.parties in
-    let below : i < n = omega arith in
-    let hg = slice_get_read c.loop-i.bench.guests.items _ i c.index_mut.result.now refl
-    (omega (arith, f.guests)) c.index_mut.ensures.value in
-    let hx = slice_get_read c.loop-i.bench.devices.items _ i c.index_mut-in-loop-i.result.now refl
-    (omega (arith, f.devices)) c.index_mut-in-loop-i.ensures.value in
-    let old = sym (c.loop-i.invariant.keeps.other_devices i (omega arith)) ∙ hx in
-    let new : Bench _ _ = record {
-      guests = with_item c.loop-i.bench.guests i c.make_lane.new.guest;
-      devices =
-          with_item c.loop-i.bench.devices i c.make_lane.new.device;
-    } in
-    let keeps : KeepsBench g.V.Device.party (i + 1) c.args.bench.now new =
-    keeps_set g.V.Device.party (i + 1) c.args.bench.now c.loop-i.bench new i c.make_lane.new.guest _ c.make_lane.new.device
-    (omega arith) (keeps_more g.V.Device.party i (i + 1) _ _ (omega arith) c.loop-i.invariant.keeps) refl refl hx
-    c.make_lane.ensures.device.carried in
+    let keeps = keeps_next g at.After-make_lane was in
     record {
       many = ap length c.push_reserved.ensures.items ∙ length_push c.loop-i.lanes.items c.in_ok-lane.lane
           ∙ ap (λ k. k + 1) c.loop-i.invariant.many;
@@ -131,11 +109,9 @@ loop-i-preserved g c =
         omega (arith, c.push_reserved.ensures.len, c.loop-i.invariant.room.0),
         omega (arith, c.push_reserved.ensures.capacity, c.loop-i.invariant.room.1),
       );
-      parties = lanes_kept g.V.Device.party (i + 1) c.args.bench.now new n keeps c.requires.parties;
+      parties = lanes_kept g.V.Device.party (i + 1) c.args.bench.now _ (length c.args.m.now.queues) keeps c.requires.parties;
       keeps = keeps;
-      untouched = untouched_set g.G.Guest.party g.V.Device.party c.args.bench.now c.loop-i.bench new i c.make_lane.new.guest
-          c.index_mut-in-loop-i.result.now c.make_lane.new.device c.loop-i.invariant.untouched refl refl c.make_lane.ensures.guest old
-          c.make_lane.ensures.device;
+      untouched = untouched_next g at.After-make_lane was;
       each = each_push _ i c.loop-i.lanes.items c.push_reserved.new.self.items _ _ c.in_ok-lane.lane c.make_lane.new.guest
           c.make_lane.new.device c.push_reserved.ensures.items c.loop-i.invariant.many c.loop-i.invariant.each c.in_ok-lane.ensures.ok;
       none = All-same (λ (lane : Lane _ _ _). lane.relayed ≡ 0) c.push_reserved.new.self.items

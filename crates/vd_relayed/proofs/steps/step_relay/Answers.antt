@@ -33,8 +33,8 @@ returns g c = λ z ws shadow_ws v w sv sw plain shadow_plain ring shadow_ring ho
     elim s.made [
       | inl x ↦ (
           let o = x.1 in
-          let m = plain_step p g.met.P.Port.lawful e.side (λ us u. l.ring us v u) c.args.port.now c.step.new.guest_port ws w o.op o.access o.got
-          (law.device_keeps ws v w o.op o.access ring o.was_next) plain o.moved in
+          let m = plain_step p g.met.P.Port.lawful e.side (λ us u. l.ring us v u) c.args.port.now c.step.new.guest_port ws w o.op o.access
+          o.got (law.device_keeps ws v w o.op o.access ring o.was_next) plain o.moved in
           record {
             words = written ws o.access;
             shadow_words = shadow_ws;
@@ -51,8 +51,8 @@ returns g c = λ z ws shadow_ws v w sv sw plain shadow_plain ring shadow_ring ho
           )
       | inr x ↦ (
           let o = x.1 in
-          let m = plain_step q g.met.Q.Port.lawful d.side (λ us u. l.ring us u sw) c.args.other.now c.step.new.shadow_port shadow_ws sv o.op o.access
-          o.got (law.driver_keeps shadow_ws sv sw o.op o.access shadow_ring o.was_next) shadow_plain o.moved in
+          let m = plain_step q g.met.Q.Port.lawful d.side (λ us u. l.ring us u sw) c.args.other.now c.step.new.shadow_port shadow_ws sv o.op
+          o.access o.got (law.driver_keeps shadow_ws sv sw o.op o.access shadow_ring o.was_next) shadow_plain o.moved in
           record {
             words = ws;
             shadow_words = written shadow_ws o.access;
