@@ -1,1 +1,3 @@
 pub mod Bridges
+pub mod Ports
+pub mod Steps

@@ -1,7 +1,10 @@
 //! A guest and a device over two rings, with a relay between them. A call that isn't possible isn't made.
-ghost use Rattle.std.specs.Prelude.{◌≡◌, ◌≤◌, ◌∷◌, [], None, IfOk, true, false};
+ghost use Rattle.std.specs.Prelude.{◌≡◌, ◌≤◌, ◌↔◌, ◌∷◌, [], None, Some, IsNone, IfSome, IfOk, IsTrue, true, false};
 ghost use Rattle.vd_ring.specs.declared.device.DeviceView.{DeviceView};
 ghost use Rattle.vd_layout.specs.Layout.{CanMake};
+ghost use Rattle.vd_relay.specs.Stages.{is_rested};
+ghost use Rattle.vd_relayed.specs.Bridges.{IsBridge};
+ghost use Rattle.vd_relayed.specs.Steps.{GuestSteps, RelaySteps, DeviceSteps, BeginsWindUp};
 
 use crate::orders::order_of;
 use crate::steps::{step_device, step_guest, step_relay};
@@ -19,7 +22,7 @@ use vd_table::ShadowTable;
 use vd_words::PlainWords;
 
 /// The guest holds the driver's end of the first ring, the relay the device's end and the driver's end of the second, and the
-/// device the other end of that.
+/// device the other end of that. Contracts see the three parties, the words of both rings and the map.
 #[derive(Drop)]
 pub struct Bridge<L: Layout, G: Guest<L>, V: Device<L>> {
     guest: G,
@@ -31,14 +34,31 @@ pub struct Bridge<L: Layout, G: Guest<L>, V: Device<L>> {
 }
 
 impl<L: Layout, G: Guest<L>, V: Device<L>> Model for Bridge<L, G, V> {
-    ghost use Rattle.vd_relayed.specs.Bridges.{IsBridge};
+    ghost use Rattle.vd_relayed.specs.Bridges.{Parts, IsBridge};
 
-    ghost Value = { Unit {0} };
+    ghost Value = { Parts L.Device L.Driver G V };
 
-    ghost view = { λ r. tt };
+    ghost view = { λ r. record {
+      guest = r.guest;
+      words = r.words;
+      state = r.relay.state;
+      counts = r.relay.counts;
+      settings = r.relay.settings;
+      shadow = r.shadow_words;
+      device = r.device;
+      map = r.tree.mappings;
+    } };
 
-    ghost invariant = { λ r. IsBridge L.Driver.driver L.Device.device L.layout G.party V.party r.guest r.device r.relay.state
-        r.relay.counts r.words.words r.shadow_words.words r.tree.mappings };
+    ghost invariant = { λ r. IsBridge L.Driver.driver L.Device.device L.layout G.party V.party (record {
+      guest = r.guest;
+      words = r.words;
+      state = r.relay.state;
+      counts = r.relay.counts;
+      settings = r.relay.settings;
+      shadow = r.shadow_words;
+      device = r.device;
+      map = r.tree.mappings;
+    }) };
 }
 
 /// The chain so many times.
@@ -64,6 +84,9 @@ fn attach<'a, L: Layout, V: Device<L>>(device: &'a mut V, end: L::Device, count:
     requires chains { count ≤ V.party.chain_room device.old }
     requires still { L.Device.device.fresh end ≡ true }
     ensures holds { result ≡ true → (w : DeviceView) → L.Device.device.stands end w → w.frame.control ≡ false → V.party.holds device.new w }
+    ensures attached { result ≡ true → (w : DeviceView) → L.Device.device.stands end w → w.done ≡ []
+        → V.party.attached device.new ≡ Some (record { queue = 0; count = count; at = 0; from = 0 }) }
+    ensures begun { result ≡ true → V.party.begun device.new ≡ [] }
 {
     let packed = L::fresh_base().0 != 0;
     let Ok(order) = order_of(packed, end.size(), end.features(), 16, end.base().0, count) else {
@@ -119,14 +142,33 @@ impl<L: Layout, G: Guest<L>, V: Device<L>> Bridge<L, G, V> {
         })
     }
 
-    pub fn guest_step(&mut self) -> Option<Move> {
+    /// Makes one access of the guest on the first ring, unless it is done.
+    pub fn guest_step(&mut self) -> Option<Move>
+        ensures live { IsNone result ↔ G.party.is_done self.old.guest }
+        ensures none { result ≡ None → self.new ≡ self.old }
+        ensures same { self.new ≡ record self.old { guest = self.new.guest; words = self.new.words } }
+        ensures step { IfSome result (λ said. GuestSteps L.Driver.driver L.layout G.party self.old self.new said) }
+        ensures stands { IsBridge L.Driver.driver L.Device.device L.layout G.party V.party self.new }
+    {
         if self.guest.done() {
             return None;
         }
         Some(step_guest::<L, G, _>(&mut self.guest, &mut self.words.port()))
     }
 
-    pub fn relay_step(&mut self) -> Option<Move> {
+    /// Makes one access of the relay on one of the two rings, unless it rests.
+    pub fn relay_step(&mut self) -> Option<Move>
+        ensures live { IsNone result ↔ (is_rested self.old.state.stage ≡ true) }
+        ensures none { result ≡ None → self.new ≡ self.old }
+        ensures same { self.new ≡ record self.old {
+          words = self.new.words;
+          state = self.new.state;
+          counts = self.new.counts;
+          shadow = self.new.shadow;
+        } }
+        ensures step { IfSome result (λ said. RelaySteps L.Driver.driver L.Device.device L.layout self.old self.new said) }
+        ensures stands { IsBridge L.Driver.driver L.Device.device L.layout G.party V.party self.new }
+    {
         if self.relay.rested() {
             return None;
         }
@@ -138,7 +180,14 @@ impl<L: Layout, G: Guest<L>, V: Device<L>> Bridge<L, G, V> {
         ))
     }
 
-    pub fn device_step(&mut self) -> Option<Move> {
+    /// Makes one access of the device on the second ring, unless it is done.
+    pub fn device_step(&mut self) -> Option<Move>
+        ensures live { IsNone result ↔ V.party.is_done self.old.device }
+        ensures none { result ≡ None → self.new ≡ self.old }
+        ensures same { self.new ≡ record self.old { shadow = self.new.shadow; device = self.new.device } }
+        ensures step { IfSome result (λ said. DeviceSteps L.Device.device L.layout V.party self.old self.new said) }
+        ensures stands { IsBridge L.Driver.driver L.Device.device L.layout G.party V.party self.new }
+    {
         if self.device.done() {
             return None;
         }
@@ -146,7 +195,14 @@ impl<L: Layout, G: Guest<L>, V: Device<L>> Bridge<L, G, V> {
     }
 
     /// Once the device is done the relay gives back what it gave, and rests. It tells whether it begins to.
-    pub fn begin_wind_up(&mut self) -> bool {
+    pub fn begin_wind_up(&mut self) -> bool
+        ensures when { IsTrue result ↔ (V.party.is_done self.old.device × (is_rested self.old.state.stage ≡ false)
+            × (self.old.state.winding ≡ false)) }
+        ensures none { result ≡ false → self.new ≡ self.old }
+        ensures same { self.new ≡ record self.old { state = self.new.state } }
+        ensures begun { result ≡ true → BeginsWindUp L.Driver.driver L.Device.device V.party self.old self.new }
+        ensures stands { IsBridge L.Driver.driver L.Device.device L.layout G.party V.party self.new }
+    {
         if !self.device.done() || self.relay.rested() || self.relay.state.winding {
             return false;
         }
@@ -155,20 +211,32 @@ impl<L: Layout, G: Guest<L>, V: Device<L>> Bridge<L, G, V> {
         true
     }
 
-    pub fn rested(&self) -> bool {
+    /// Whether the relay rests.
+    pub fn rested(&self) -> bool
+        ensures { result ≡ is_rested self.now.state.stage }
+    {
         self.relay.rested()
     }
 
     /// How many bells the relay heard.
-    pub fn heard(&self) -> u64 {
+    pub fn heard(&self) -> u64
+        ensures { result ≡ self.now.counts.heard }
+    {
         self.relay.heard()
     }
 
-    pub fn returned(&self) -> &[Return] {
+    /// What came back to the guest, in order.
+    pub fn returned(&self) -> &[Return]
+        ensures { result.now ≡ G.party.returned self.now.guest }
+    {
         self.guest.returned()
     }
 
-    pub fn journal(&self) -> &Journal {
+    /// What the device has recorded.
+    pub fn journal(&self) -> &Journal
+        ensures events { result.now.events.items ≡ V.party.events self.now.device }
+        ensures begun { result.now.begun.items ≡ V.party.begun self.now.device }
+    {
         self.device.journal()
     }
 }

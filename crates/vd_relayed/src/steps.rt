@@ -2,11 +2,10 @@
 ghost use Rattle.std.specs.Prelude.{◌≡◌, ℕ, List, false};
 ghost use Rattle.vd_ring.specs.declared.device.DeviceView.{DeviceView};
 ghost use Rattle.vd_ring.specs.declared.driver.DriverView.{DriverView};
-ghost use Rattle.vd_models.specs.Pairs.{HasStepped};
 ghost use Rattle.vd_relay.specs.Relay.{Holds};
 ghost use Rattle.vd_relay.specs.Stages.{is_rested};
 ghost use Rattle.vd_relay.specs.Tie.{Start};
-ghost use Rattle.vd_relayed.specs.Bridges.{HasRelayed};
+ghost use Rattle.vd_relayed.specs.Ports.{GuestOn, DeviceOn, RelayOn};
 
 use vd_bus::{Device, Guest};
 use vd_iova::IovaTree;
@@ -20,7 +19,7 @@ pub fn step_guest<L: Layout, G: Guest<L>, P: Port>(guest: &mut G, port: &mut P) 
     requires on { (ws : List ℕ) × (v : DriverView) ×
         (w : DeviceView) × P.port.plain port.old ws × L.layout.ring ws v w × G.party.holds guest.old v }
     ensures { (ws : List ℕ) (v : DriverView) (w : DeviceView) → P.port.plain port.old ws → L.layout.ring ws v w
-        → G.party.holds guest.old v → HasStepped P.port G.party.holds (λ us x. L.layout.ring us x w) port.old port.new guest.new }
+        → G.party.holds guest.old v → GuestOn P.port L.Driver.driver L.layout G.party port.old port.new v w guest.old guest.new result }
 {
     guest.step(port)
 }
@@ -31,7 +30,7 @@ pub fn step_device<L: Layout, V: Device<L>, P: Port>(device: &mut V, port: &mut 
     requires on { (ws : List ℕ) × (v : DriverView) ×
         (w : DeviceView) × P.port.plain port.old ws × L.layout.ring ws v w × V.party.holds device.old w }
     ensures { (ws : List ℕ) (v : DriverView) (w : DeviceView) → P.port.plain port.old ws → L.layout.ring ws v w
-        → V.party.holds device.old w → HasStepped P.port V.party.holds (λ us x. L.layout.ring us v x) port.old port.new device.new }
+        → V.party.holds device.old w → DeviceOn P.port L.Device.device L.layout V.party port.old port.new v w device.old device.new result }
 {
     device.step(port)
 }
@@ -48,11 +47,12 @@ pub fn step_relay<L: Layout, P: Port, Q: Port>(
         × (sw : DeviceView) × P.port.plain port.old ws × Q.port.plain other.old shadow_ws × L.layout.ring ws v w
         × L.layout.ring shadow_ws sv sw × Holds L.Device.device L.Driver.driver z relay.old.state relay.old.counts w sv
         × (tree.now.mappings ≡ z.map) }
-    ensures { (z : Start) (ws : List ℕ) (shadow_ws : List ℕ) (v : DriverView) (w : DeviceView) (sv : DriverView) (sw : DeviceView)
+    ensures step { (z : Start) (ws : List ℕ) (shadow_ws : List ℕ) (v : DriverView) (w : DeviceView) (sv : DriverView) (sw : DeviceView)
         → P.port.plain port.old ws → Q.port.plain other.old shadow_ws → L.layout.ring ws v w → L.layout.ring shadow_ws sv sw
         → Holds L.Device.device L.Driver.driver z relay.old.state relay.old.counts w sv → tree.now.mappings ≡ z.map
-        → HasRelayed P.port Q.port L.Device.device L.Driver.driver L.layout z port.old port.new other.old other.new relay.new.state
-        relay.new.counts v sw }
+        → RelayOn P.port Q.port L.Device.device L.Driver.driver L.layout z port.old port.new other.old other.new v w sv sw relay.old.state
+        relay.new.state relay.old.counts relay.new.counts result }
+    ensures settings { relay.new.settings ≡ relay.old.settings }
 {
     relay.step(tree, port, other)
 }

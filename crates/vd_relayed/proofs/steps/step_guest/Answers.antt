@@ -23,9 +23,8 @@ returns g c = λ ws v w plain ring holds.
     (law.driver_keeps ws v w s.op s.access ring s.was_next) plain s.moved in
     record {
       words = written ws s.access;
-      view = side.after v s.op s.access s.got;
       same = m.same;
       plain = m.plain;
+      made = s;
       ring = m.meets;
-      holds = s.holds;
     }

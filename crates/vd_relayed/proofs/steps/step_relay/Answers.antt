@@ -19,8 +19,8 @@ step-requires-clause-own g c =
       own_plain_driver g.Q.Port.port g.met.Q.Port.lawful d e l law c.args.other.now r.2 r.5 r.6 r.8 r.10,
     )
 
-pub returns : goal.returns
-returns g c = λ z ws shadow_ws v w sv sw plain shadow_plain ring shadow_ring holds is.
+pub returns-clause-step : goal.returns-clause-step
+returns-clause-step g c = λ z ws shadow_ws v w sv sw plain shadow_plain ring shadow_ring holds is.
     let d = g.L.Driver.DriverEnd.driver in
     let e = g.L.Device.DeviceEnd.device in
     let l = g.L.Layout.layout in
@@ -44,6 +44,7 @@ returns g c = λ z ws shadow_ws v w sv sw plain shadow_plain ring shadow_ring ho
             plain = m.plain;
             shadow_same = subst (λ y. q.same c.args.other.now y) (sym x.0) (g.met.Q.Port.lawful.same_refl c.args.other.now);
             shadow_plain = subst (λ y. q.plain y shadow_ws) (sym x.0) shadow_plain;
+            made = s;
             ring = m.meets;
             shadow_ring = shadow_ring;
             holds = o.holds;
@@ -62,6 +63,7 @@ returns g c = λ z ws shadow_ws v w sv sw plain shadow_plain ring shadow_ring ho
             plain = subst (λ y. p.plain y ws) (sym x.0) plain;
             shadow_same = m.same;
             shadow_plain = m.plain;
+            made = s;
             ring = ring;
             shadow_ring = m.meets;
             holds = o.holds;
