@@ -25,7 +25,8 @@ pub command_word_at : (bytes all : List ℕ) (half : ℕ) → half < 2 → lengt
     → command_word bytes half ≡ sum_through (λ i. byte_worth i (slice_index all (8 * half + i))) 7
 command_word_at bytes all half two most is =
     let long : List ℕ = bytes ++ replicate 16 0 in
-    sum_through_same (λ i. byte_worth i (slice_index (take 8 (drop (8 * half) long)) i)) (λ i. byte_worth i (slice_index all (8 * half + i))) 7
+    sum_through_same (λ i. byte_worth i (slice_index (take 8 (drop (8 * half) long)) i))
+    (λ i. byte_worth i (slice_index all (8 * half + i))) 7
     (λ i h. ap (byte_worth i)
     (get_or-take 8 (drop (8 * half) long) i 0 (omega arith) ∙ get_or-drop (8 * half) long i 0
     ∙ sym (get_or-take 16 long (8 * half + i) 0 (omega arith))
