@@ -1,5 +1,5 @@
 -- One access of a party over plain ports: the words after it meet the ring invariant with the other side's view as it was.
-use Rattle.std.specs.Prelude.{◌≡◌, ℕ, List}
+use Rattle.std.specs.Prelude.{ℕ, List}
 use Rattle.vd_words.specs.Model.{PortModel}
 use Rattle.vd_ring.specs.declared.device.DeviceView.{DeviceView}
 use Rattle.vd_ring.specs.declared.driver.DriverView.{DriverView}

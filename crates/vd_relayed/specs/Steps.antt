@@ -1,5 +1,5 @@
 -- One access of a party of a bridge, as the contract of that party has it, on the words of its ring.
-use Rattle.std.specs.Prelude.{◌≡◌, ◌<◌, ℕ, List, true, false, length}
+use Rattle.std.specs.Prelude.{◌≡◌, ◌<◌, true, false, length}
 use Rattle.vd_words.specs.Model.{PortModel}
 use Rattle.vd_words.specs.Plain.{RingWords}
 use Rattle.vd_words.specs.Step.{place_of, PlainMoves, AreAlike}

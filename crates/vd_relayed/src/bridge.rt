@@ -3,7 +3,7 @@ ghost use Rattle.std.specs.Prelude.{◌≡◌, ◌≤◌, ◌↔◌, ◌∷◌, 
 ghost use Rattle.vd_ring.specs.declared.device.DeviceView.{DeviceView};
 ghost use Rattle.vd_layout.specs.Layout.{CanMake};
 ghost use Rattle.vd_relay.specs.Stages.{is_rested};
-ghost use Rattle.vd_relayed.specs.Bridges.{IsBridge};
+ghost use Rattle.vd_relayed.specs.Bridges.{IsBridge, IsNew, guest_frame, shadow_frame};
 ghost use Rattle.vd_relayed.specs.Steps.{GuestSteps, RelaySteps, DeviceSteps, BeginsWindUp};
 
 use crate::orders::order_of;
@@ -113,6 +113,8 @@ impl<L: Layout, G: Guest<L>, V: Device<L>> Bridge<L, G, V> {
         requires can { CanMake L.layout size f }
         requires guest { (G.party.script guest ≡ None) × (G.party.offered guest ≡ 0) × (G.party.returned guest ≡ []) }
         requires device { (V.party.attached device ≡ None) × (V.party.begun device ≡ []) }
+        ensures { IfOk result (λ b. IsNew L.Driver.driver L.Device.device L.layout G.party V.party
+            (guest_frame L.layout size f tree.mappings) (shadow_frame L.layout size f) tree.mappings chain.now count stop b) }
     {
         let mut guest = guest;
         let mut device = device;

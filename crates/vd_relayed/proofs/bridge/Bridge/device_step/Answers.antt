@@ -1,4 +1,4 @@
-use Rattle.std.proofs.Common.{◌≡◌, ℕ, List, sym, subst, ap, ◌∙◌, refl}
+use Rattle.std.proofs.Common.{ℕ, List, sym, subst, ap, ◌∙◌}
 use Rattle.vd_words.specs.Plain.{RingWords}
 use Rattle.vd_relayed.proofs.bridge.Bridge.device_step.Goals as goal
 
