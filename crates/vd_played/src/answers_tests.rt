@@ -1,12 +1,12 @@
 //! How commands end, and what they write.
-use crate::benches::{Parties, models, no_parties};
+use crate::benches::{Parties, no_parties};
 use crate::commands::{ending, joined, left_by_models};
 use std::test::*;
 use vd_bus::Guest;
 use vd_machine::MachineFault;
-use vd_models::ModelGuest;
+use vd_models::{ModelDevice, ModelGuest};
 use vd_packed::Packed;
-use vd_runner::Status;
+use vd_runner::{Bench, Status};
 use vd_split::Split;
 use vd_stream::{MemorySink, MemorySource};
 
@@ -151,8 +151,12 @@ fn a_bench_of_too_few_devices_is_left_as_it_is(rt: HostRuntime) -> Result<(), Fa
         "layout = \"split\"\nregions = [{ addr = 4096, size = 8192 }]\nsize = 4\nqueues = [[\"r4096+10 w8192+64\"], []]\n";
     let mut source = MemorySource::new(alloc, text.as_bytes(), &[])?;
     let mut sink = MemorySink::new(alloc, 200, &[])?;
-    let mut bench = models::<Split>(alloc, Parties::Models)?;
-    bench.guests.push(ModelGuest::new(alloc))?;
+    let mut guests = Vec::new(alloc);
+    guests.push(ModelGuest::new(alloc))?;
+    guests.push(ModelGuest::new(alloc))?;
+    let mut devices: Vec<ModelDevice<Split>> = Vec::new(alloc);
+    devices.push(ModelDevice::new(alloc, 1))?;
+    let mut bench = Bench { guests, devices };
     let status = ending(
         alloc,
         &["play"],

@@ -19,14 +19,21 @@ pub enum Parties {
     Others,
 }
 
-/// A bench without parties.
-pub fn no_parties<L: Layout>(alloc: Global) -> Bench<ModelGuest<L>, ModelDevice<L>>
-    ensures { IsEmptyBench ⟦<ModelGuest<L> as Guest<L>>⟧.party ⟦<ModelDevice<L> as Device<L>>⟧.party result }
+/// A bench for these parties, without any.
+fn empty<L: Layout, G: Guest<L>, V: Device<L>>(alloc: Global) -> Bench<G, V>
+    ensures { IsEmptyBench G.party V.party result }
 {
     Bench {
         guests: Vec::new(alloc),
         devices: Vec::new(alloc),
     }
+}
+
+/// A bench without parties.
+pub fn no_parties<L: Layout>(alloc: Global) -> Bench<ModelGuest<L>, ModelDevice<L>>
+    ensures { IsEmptyBench ⟦<ModelGuest<L> as Guest<L>>⟧.party ⟦<ModelDevice<L> as Device<L>>⟧.party result }
+{
+    empty::<L, ModelGuest<L>, ModelDevice<L>>(alloc)
 }
 
 /// A bench with a guest and a device more.
@@ -93,9 +100,7 @@ pub fn faulty<L: Layout>(
     requires { IsWindow window }
     ensures { IfOk result (λ b. IsEmptyBench ⟦<ModelGuest<L> as Guest<L>>⟧.party ⟦<FaultyDevice<L> as Device<L>>⟧.party b) }
 {
-    let mut guests = Vec::new(alloc);
-    guests.push(ModelGuest::new(alloc))?;
-    let mut devices = Vec::new(alloc);
-    devices.push(FaultyDevice::new(ModelDevice::new(alloc, window), fails))?;
-    Ok(Bench { guests, devices })
+    let bench = empty::<L, ModelGuest<L>, FaultyDevice<L>>(alloc);
+    let device = FaultyDevice::new(ModelDevice::new(alloc, window), fails);
+    with_more::<L, _, _>(bench, ModelGuest::new(alloc), device)
 }
