@@ -129,6 +129,8 @@ pub record IsLawfulDevice {E : Type 0} (m : DeviceModel E) : Type 0 where
   -- after a control access of its holder the end stands for the view after it
   pub control : (e : E) (v : DeviceView) (a : Access) (r : ℕ) → m.stands e v → m.side.next v Control a
       → m.stands e (m.side.after v Control a r)
+  -- such an access is no take, no give and no rest: it answers that the end moved on
+  pub control_moves : (v : DeviceView) (a : Access) (r : ℕ) → m.side.next v Control a → m.act v Control a r ≡ act.Moved
   -- no access changes what the ring was made with
   pub framed : (v : DeviceView) (op : Op) (a : Access) (r : ℕ) → (m.side.after v op a r).frame ≡ v.frame
   -- only an access of an arming arms

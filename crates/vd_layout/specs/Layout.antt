@@ -91,8 +91,14 @@ pub record IsLawfulLayout {D E : Type 0} (d : DriverModel D) (e : DeviceModel E)
   pub wide : (ws : List ℕ) (v : DriverView) (w : DeviceView) → l.ring ws v w → (length ws ≡ l.width v.frame) × (w.frame ≡ v.frame)
   pub frames : (ws : List ℕ) (v : DriverView) (w : DeviceView) → l.ring ws v w → l.lawful_frame v.frame
   pub framed : (size : ℕ) (f : Features) (control : Bool) (g : Frame) → CanMake l size f → IsMadeWith l size f control g → l.lawful_frame g
-  -- a ring has a word at least
+  -- a frame tells of which layout it is
+  pub of_layout : (g : Frame) → l.lawful_frame g → g.packed ≡ l.packed
+  -- an end stands only for views of a lawful frame
+  pub driver_framed : (x : D) (v : DriverView) → d.stands x v → l.lawful_frame v.frame
+  pub device_framed : (y : E) (w : DeviceView) → e.stands y w → l.lawful_frame w.frame
+  -- a ring has a word at least, and the place of each in 32 bits
   pub some_word : (g : Frame) → l.lawful_frame g → 0 < l.width g
+  pub narrow : (g : Frame) → l.lawful_frame g → l.width g < 4294967296
   -- the word of an access that is next is one of the ring's, by the view alone
   pub driver_low : (v : DriverView) (op : Op) (a : Access) → l.lawful_frame v.frame → d.side.next v op a → place_of a < l.width v.frame
   pub device_low : (w : DeviceView) (op : Op) (a : Access) → l.lawful_frame w.frame → e.side.next w op a → place_of a < l.width w.frame

@@ -6,6 +6,7 @@ pub mod DriverSteps
 pub mod DriverDescribing
 pub mod DriverPublishing
 pub mod DriverCollecting
+pub mod ControlMoves
 pub mod DriverLaws
 pub mod DeviceGiving
 pub mod ToldTables

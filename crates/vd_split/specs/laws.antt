@@ -3,6 +3,7 @@ pub mod DriverSteps
 pub mod DriverDescribing
 pub mod DriverPublishing
 pub mod DriverCollecting
+pub mod ControlMoves
 pub mod DriverLaws
 pub mod Opening
 pub mod DeviceSteps

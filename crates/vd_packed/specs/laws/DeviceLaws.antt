@@ -20,6 +20,7 @@ use Rattle.vd_layout.specs.Device.{IsLawfulDevice}
 use Rattle.vd_packed.specs.declared.device.PackedDevice.{PackedDevice}
 use Rattle.vd_packed.specs.declared.device.DeviceStep.{DeviceStep}
 use Rattle.vd_packed.specs.DeviceEnd.{HoldsRunning, number_at, DeviceStands, DeviceStepStands, DeviceStepArmed, device_owes, device_begun, is_idle, packed_device}
+use Rattle.vd_packed.specs.laws.ControlMoves.{device_moves}
 use Rattle.vd_packed.specs.laws.DeviceEnd.{not_armed, is_armed}
 use Rattle.vd_packed_ring.proofs.DeviceStaying.{device_stays}
 use Rattle.vd_packed.specs.laws.DeviceStill.{rests_at, ends_at, parts, still_idle, still_unarmed, still_whole, is_based, fresh_unused}
@@ -52,6 +53,7 @@ device_laws = record {
   based = λ e v st still. is_based e v st;
   unused = λ e v st r. fresh_unused e v st (parts (is_idle e.doing && ((e.taken == 0) && (e.given == 0))) (not e.armed) r).0;
   control = λ e v a r st n. control_at v.doing e v a r st n;
+  control_moves = λ v a r n. device_moves v.doing v a r n;
   framed = λ v o a r. device_frame v o a r;
   stays_unarmed = device_unarmed;
   looks = device_looks;

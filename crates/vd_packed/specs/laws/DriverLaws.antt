@@ -30,6 +30,7 @@ use Rattle.vd_packed.specs.declared.driver.DriverStep.{DriverStep}
 use Rattle.vd_packed.specs.declared.driver.DriverStep.TheVariants as step
 use Rattle.vd_packed.specs.declared.ring_position.RingPosition.{RingPosition}
 use Rattle.vd_packed.specs.DriverEnd.{DriverStands, DriverStepStands, DriverStepArmed, driver_owes, driver_begun, driver_left, packed_driver, packed_words}
+use Rattle.vd_packed.specs.laws.ControlMoves.{driver_moves}
 use Rattle.vd_packed.specs.laws.DriverEnd.{not_armed, is_armed}
 use Rattle.vd_packed_ring.proofs.DriverStaying.{driver_stays}
 use Rattle.vd_packed.specs.laws.DriverSteps.{needed_is}
@@ -331,6 +332,7 @@ driver_laws = record {
   at_rest = λ e v st idle. rests_at e.doing e.pieces.items e.at v.frame v.done v.doing st.doing idle;
   ends = λ e none. ends_at e.doing e.pieces.items none;
   control = λ e v a r st n. control_at v.doing e v a r st n;
+  control_moves = λ v a r n. driver_moves v.doing v a r n;
   armed = λ e v st on. (collect_position v.frame v.done, is_armed e v st on);
   unarmed = λ e v st off. not_armed e v st off;
   framed = λ v o a r. driver_frame v o a r;

@@ -20,6 +20,7 @@ use Rattle.vd_layout.specs.Device.{IsLawfulDevice}
 use Rattle.vd_split.specs.declared.device.SplitDevice.{SplitDevice}
 use Rattle.vd_split.specs.declared.device.DeviceStep.{DeviceStep}
 use Rattle.vd_split.specs.DeviceEnd.{DeviceStepArmed, device_owes, HoldsRunning, number_at, DeviceStands, DeviceStepStands, device_begun, is_idle, split_device}
+use Rattle.vd_split.specs.laws.ControlMoves.{device_moves}
 use Rattle.vd_split.specs.laws.DeviceEnd.{not_armed, is_armed}
 use Rattle.vd_split.specs.laws.DeviceStill.{rests_at, ends_at, parts, still_idle, still_unarmed, still_whole, fresh_unused}
 use Rattle.vd_split.specs.laws.DeviceControlled.{control_at}
@@ -53,6 +54,7 @@ device_laws = record {
   based = λ e v st still. ap (λ k. k % 65536) st.counts.takes;
   unused = λ e v st r. fresh_unused e v st (parts (is_idle e.doing && ((e.taken == 0) && (e.given == 0))) (not e.armed) r).0;
   control = λ e v a r st n. control_at v.doing e v a r st n;
+  control_moves = λ v a r n. device_moves v.doing v a r n;
   framed = λ v o a r. device_frame v o a r;
   stays_unarmed = λ v o a r other none. device_unarmed v o a r other none;
   looks = device_looks;

@@ -34,6 +34,7 @@ use Rattle.vd_split.specs.declared.driver.SplitDriver.{SplitDriver}
 use Rattle.vd_split.specs.declared.driver.DriverStep.{DriverStep}
 use Rattle.vd_split.specs.declared.driver.DriverStep.TheVariants as step
 use Rattle.vd_split.specs.DriverEnd.{DriverStands, DriverStepStands, DriverStepArmed, driver_owes, driver_begun, driver_left, split_driver, split_words}
+use Rattle.vd_split.specs.laws.ControlMoves.{driver_moves}
 use Rattle.vd_split.specs.laws.DriverEnd.{is_armed, not_armed}
 use Rattle.vd_split.specs.Parts.{needed, first_store}
 use Rattle.vd_split.specs.laws.Plans.{copies_other}
@@ -334,6 +335,7 @@ driver_laws = record {
   at_rest = λ e v st idle. rests_at e.doing e.pieces.items v.frame v.done v.doing st.doing idle;
   ends = λ e none. ends_at e.doing e.pieces.items none;
   control = λ e v a r st n. control_at v.doing e v a r st n;
+  control_moves = λ v a r n. driver_moves v.doing v a r n;
   framed = λ v o a r. driver_frame v o a r;
   stays_unarmed = λ v o a r other none. driver_unarmed v o a r other none;
   looks = driver_looks;
