@@ -4,3 +4,4 @@ mod Walks
 pub mod PlainRings
 pub mod RingSteps
 pub mod RingArms
+mod ArmedDriver
