@@ -5,3 +5,4 @@ pub mod PlainRings
 pub mod RingSteps
 pub mod RingArms
 mod ArmedDriver
+mod ArmedDevice
