@@ -91,7 +91,8 @@ impl<F: Format> Expected<F> {
 
     pub fn offer(&mut self) {
         let k = self.offered;
-        let (head, rings) = self.format.offer(self.drawn(k));
+        let c = self.drawn(k);
+        let (head, rings) = self.format.offer(c);
         self.numbers[(head & 7) as usize] = k;
         self.shown[(k & 7) as usize] = head;
         self.offered = k.wrapping_add(1);

@@ -21,20 +21,19 @@ impl Queue {
     }
 
     /// Where entry `i` stands.
-    fn at(&self, i: u32) -> usize {
+    fn at(&self, i: u32) -> u32 {
         let at = self.from.wrapping_add(i);
-        let place = if at >= self.size {
+        if at >= self.size {
             at.wrapping_sub(self.size)
         } else {
             at
-        };
-        (place & 7) as usize
+        }
     }
 
     /// The first one is borrowed.
     pub fn borrow_next(&mut self) -> u32 {
         let item = self.items[(self.from & 7) as usize];
-        self.from = self.at(1) as u32;
+        self.from = self.at(1);
         self.count = self.count.wrapping_sub(1);
         item
     }
@@ -42,7 +41,7 @@ impl Queue {
     /// It comes back.
     pub fn put_back(&mut self, item: u32) {
         let at = self.at(self.count);
-        self.items[at & 7] = item;
+        self.items[(at & 7) as usize] = item;
         self.count = self.count.wrapping_add(1);
     }
 }
