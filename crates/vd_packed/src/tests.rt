@@ -1,11 +1,7 @@
-//! Both ends over plain words, against worked rows and an independent model of the format.
+//! Both ends over plain words, against worked rows; event words, and takes of other drivers' words.
 mod bells;
 mod calls;
-mod chains;
 mod events;
-mod format;
 mod last_id;
 mod rows;
-mod sleepers;
-mod table;
 mod tabled;

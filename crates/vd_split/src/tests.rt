@@ -1,10 +1,5 @@
-//! Both ends over plain words, against worked rows and an independent model of the format.
-mod chains;
-mod format;
+//! Both ends over plain words, against worked rows, and the driver's over a port of another kind.
 mod operations;
 mod rows;
-mod sleepers;
-mod spelled;
-mod table;
 mod tables;
 mod tracked;

@@ -1,42 +1,9 @@
-//! Both ends with tables: a worked row, and many operations against the format.
-use super::chains::mixed;
-use super::format::Format;
+//! Both ends with tables: worked words.
 use super::rows::{IN, OUT, words_are};
-use super::table::{Case, operate, words_agree};
 use crate::Split;
 use std::test::*;
 use vd_layout::{DeviceAct, DriverAct, PlainRing};
 use vd_model::{Chain, Features, Piece};
-
-/// Whole operations, with a place for any chain.
-#[test]
-fn words_are_as_the_format_has_them_with_tables(rt: HostRuntime) -> Result<(), Fail> {
-    for size in [2, 4, 8] {
-        for (event_idx, in_order, disorder, rests) in [
-            (false, false, 8, false),
-            (false, true, 0, true),
-            (true, false, 4, true),
-            (true, true, 0, true),
-        ] {
-            let f = Features {
-                indirect: true,
-                event_idx,
-                in_order,
-            };
-            let case = Case { disorder, rests };
-            let mut ring = PlainRing::<Split>::make(rt.alloc(), 0, size, f)?;
-            let mut format = Format::new(size, true, event_idx);
-            for i in 0..2000u32 {
-                assert!(rt; operate(&mut ring, &mut format, &case, mixed(i)));
-                assert!(rt; words_agree(&ring, &format));
-                assert!(rt; ring.whole() == format.whole());
-                assert!(rt; ring.armed() == format.armed());
-            }
-            assert!(rt; format.collected > 20);
-        }
-    }
-    Ok(())
-}
 
 /// Fifteen readable pieces of a byte, and a writable one.
 fn longest_chain() -> Chain {
