@@ -16,6 +16,7 @@ pub mod Ending
 pub mod Sums
 pub mod Low
 pub mod Lasting
+pub mod OneLane
 pub mod Untouched
 pub mod Making
 pub mod KitsMade

@@ -12,6 +12,7 @@ pub mod Progress
 pub mod Played
 pub mod Prepared
 pub mod Rounds
+pub mod Alone
 pub mod Tree
 pub mod Setup
 pub mod Attaching

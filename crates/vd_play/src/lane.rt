@@ -16,7 +16,7 @@ use vd_turns::{Draws, device_turn, guest_turn};
 
 /// Suspends a device that is done, and keeps the ring's end here. It is a function of its own, since an end is large.
 #[inline(never)]
-fn suspend<L: Layout, V: Device<L>>(still: &mut Option<L::Device>, device: &mut V)
+pub(crate) fn suspend<L: Layout, V: Device<L>>(still: &mut Option<L::Device>, device: &mut V)
     requires done { V.party.is_done device.old }
     requires held { (w : DeviceView) × V.party.holds device.old w }
     ensures { IsSuspended L.Device.device V.party device.old device.new still.new }

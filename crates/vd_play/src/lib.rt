@@ -1,6 +1,7 @@
 //! Plays a machine over the guests and devices of a bench.
 #![tactic(auto)]
 
+mod alone;
 mod bench;
 mod calls;
 mod epoch;

@@ -9,6 +9,7 @@ ghost use Rattle.vd_play.specs.Progress.{AllInEpoch};
 ghost use Rattle.vd_play.specs.Rounds.{RoundGoes, EpochGoes, IsLast, AllDone, Drains};
 ghost use Rattle.vd_play.specs.Setting.{setting_of};
 
+use crate::alone::run_alone;
 use crate::bench::Bench;
 use crate::floor::Floor;
 use crate::lane::lane_round;
@@ -17,7 +18,7 @@ use vd_layout::Layout;
 use vd_turns::Draws;
 
 /// More rounds than an epoch has: each makes a step that is no look on every lane that isn't still, and no lane has so many.
-const ROUNDS: u64 = 4_294_967_296;
+pub(crate) const ROUNDS: u64 = 4_294_967_296;
 
 impl<L: Layout> Floor<L> {
     /// Whether each lane is still.
@@ -75,7 +76,7 @@ fn round<L: Layout, G: Guest<L>, V: Device<L>>(
 }
 
 /// Rounds until each lane is still.
-pub(crate) fn run_epoch<L: Layout, G: Guest<L>, V: Device<L>>(
+fn run_all<L: Layout, G: Guest<L>, V: Device<L>>(
     floor: &mut Floor<L>,
     bench: &mut Bench<G, V>,
     draws: &mut Draws,
@@ -101,6 +102,32 @@ pub(crate) fn run_epoch<L: Layout, G: Guest<L>, V: Device<L>>(
         made += round::<L, G, V>(floor, bench, draws);
     }
     made
+}
+
+/// Rounds until each lane is still. The only lane, in the mode pass and without a seed, has a loop of its own.
+pub(crate) fn run_epoch<L: Layout, G: Guest<L>, V: Device<L>>(
+    floor: &mut Floor<L>,
+    bench: &mut Bench<G, V>,
+    draws: &mut Draws,
+) -> u64
+    requires parties { HasLanes (length floor.old.lanes.items) bench.old }
+    requires few { length floor.old.lanes.items ≤ 8 }
+    requires lanes { (plan : Plan) × (k : ℕ) × (floor.old.tree.mappings ≡ tree_map plan)
+        × AllInEpoch (setting_of L.Driver.driver L.Device.device L.layout G.party V.party) plan true k 0 floor.old.lanes.items bench.old }
+    ensures many { length floor.new.lanes.items ≡ length floor.old.lanes.items }
+    ensures tree { floor.new.tree ≡ floor.old.tree }
+    ensures few { result ≤ 412316860416 }
+    ensures keeps { KeepsBench V.party (length floor.old.lanes.items) bench.old bench.new }
+    ensures faults { HasNoFault V.party bench.old bench.new }
+    ensures goes { (plan : Plan) → floor.old.tree.mappings ≡ tree_map plan
+        → EpochGoes (setting_of L.Driver.driver L.Device.device L.layout G.party V.party) plan
+        floor.old.lanes.items floor.new.lanes.items bench.old bench.new result }
+{
+    if floor.is_alone() && !draws.are_drawn() {
+        run_alone::<L, G, V>(floor, bench)
+    } else {
+        run_all::<L, G, V>(floor, bench, draws)
+    }
 }
 
 /// After the closing epoch: rounds until each guest is done.

@@ -8,4 +8,4 @@ mod turn;
 
 pub use draws::Draws;
 pub use relay_steps::relay_turn;
-pub use turn::{device_turn, guest_turn};
+pub use turn::{device_once, device_turn, guest_once, guest_turn};

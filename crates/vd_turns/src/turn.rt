@@ -9,6 +9,7 @@ use vd_bus::{Device, Guest};
 use vd_layout::{Layout, Move};
 use vd_words::{PlainPort, PlainWords, Port};
 
+#[inline(always)]
 fn guest_access<L: Layout, G: Guest<L>, P: Port>(port: &mut P, guest: &mut G) -> Move
     requires live { ¬ (G.party.is_done guest.old) }
     requires on { (ws : List ℕ) × P.port.plain port.old ws × CanDrive L.layout G.party ws guest.old }
@@ -18,6 +19,7 @@ fn guest_access<L: Layout, G: Guest<L>, P: Port>(port: &mut P, guest: &mut G) ->
     guest.step(port)
 }
 
+#[inline(always)]
 fn device_access<L: Layout, V: Device<L>, P: Port>(port: &mut P, device: &mut V) -> Move
     requires live { ¬ (V.party.is_done device.old) }
     requires on { (ws : List ℕ) × P.port.plain port.old ws × CanServe L.layout V.party ws device.old }
@@ -28,6 +30,7 @@ fn device_access<L: Layout, V: Device<L>, P: Port>(port: &mut P, device: &mut V)
 }
 
 /// One step of a guest.
+#[inline(always)]
 fn guest_step<L: Layout, G: Guest<L>>(words: &mut PlainWords, guest: &mut G) -> Move
     requires live { ¬ (G.party.is_done guest.old) }
     requires on { CanDrive L.layout G.party words.old.words guest.old }
@@ -39,6 +42,7 @@ fn guest_step<L: Layout, G: Guest<L>>(words: &mut PlainWords, guest: &mut G) -> 
 }
 
 /// One step of a device.
+#[inline(always)]
 fn device_step<L: Layout, V: Device<L>>(words: &mut PlainWords, device: &mut V) -> Move
     requires live { ¬ (V.party.is_done device.old) }
     requires on { CanServe L.layout V.party words.old.words device.old }
@@ -99,8 +103,9 @@ fn device_drawn<L: Layout, V: Device<L>>(
     most
 }
 
-/// A guest's turn of one step.
-fn guest_once<L: Layout, G: Guest<L>>(words: &mut PlainWords, guest: &mut G) -> u64
+/// A guest's turn of one step. It answers whether that was no look of a sleeper, 0 for a look and for a guest that is done.
+#[inline(always)]
+pub fn guest_once<L: Layout, G: Guest<L>>(words: &mut PlainWords, guest: &mut G) -> u64
     requires on { CanDrive L.layout G.party words.old.words guest.old }
     ensures few { result ≤ 4 }
     ensures ring { words.new.ring ≡ words.old.ring }
@@ -117,7 +122,8 @@ fn guest_once<L: Layout, G: Guest<L>>(words: &mut PlainWords, guest: &mut G) -> 
 }
 
 /// The same of a device that is not done.
-fn device_once<L: Layout, V: Device<L>>(words: &mut PlainWords, device: &mut V) -> u64
+#[inline(always)]
+pub fn device_once<L: Layout, V: Device<L>>(words: &mut PlainWords, device: &mut V) -> u64
     requires live { ¬ (V.party.is_done device.old) }
     requires on { CanServe L.layout V.party words.old.words device.old }
     ensures few { result ≤ 4 }

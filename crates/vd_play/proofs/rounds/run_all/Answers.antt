@@ -3,7 +3,7 @@ use Rattle.vd_play.specs.Played.{KeepsBench}
 use Rattle.vd_play.specs.Setting.{setting_of, IsLawful}
 use Rattle.vd_play.proofs.Benches.{keeps_none, keeps_through, lanes_kept}
 use Rattle.vd_play.proofs.Lasting.{all_still, all_late}
-use Rattle.vd_play.proofs.rounds.run_epoch.Goals as goal
+use Rattle.vd_play.proofs.rounds.run_all.Goals as goal
 
 pub loop-turn-init : goal.loop-turn-init
 loop-turn-init g c = record {

@@ -5,7 +5,7 @@ use Rattle.vd_play.specs.Journal.{tree_map}
 use Rattle.vd_play.specs.Played.{KeepsBench, HasNoFault}
 use Rattle.vd_play.specs.Progress.{AllInEpoch, all_made}
 use Rattle.vd_play.specs.Setting.{setting_of}
-use Rattle.vd_play.proofs.rounds.run_epoch.Given as goal
+use Rattle.vd_play.proofs.rounds.run_all.Given as goal
 
 abbrev pub invariant-loop-turn : goal.invariant-loop-turn
 invariant-loop-turn g l = record {
