@@ -26,6 +26,7 @@ pub mod ShadowGoing
 pub mod Origins
 pub mod ShadowTurns
 pub mod ShadowFree
+pub mod DriverGoing
 pub mod ShadowMoves
 pub mod ShadowNothing
 pub mod ShadowAgain
@@ -40,3 +41,8 @@ pub mod ShadowOffering
 pub mod ShadowCollecting
 pub mod Steps
 pub mod Begins
+pub mod ReplayStages
+pub mod ReplayChains
+pub mod Replaying
+pub mod ReplayWords
+pub mod ReplayControl

@@ -9,7 +9,6 @@ use Rattle.vd_ring.specs.declared.driver.DriverDone.{DriverDone}
 use Rattle.vd_ring.specs.declared.driver.DriverNow.TheVariants as now
 use Rattle.vd_ring.specs.declared.driver.DriverView.{DriverView}
 use Rattle.vd_ring.specs.declared.device.DeviceView.{DeviceView}
-use Rattle.vd_ring.specs.Looks.{DriverGoes, DriverWakes}
 use Rattle.vd_layout.specs.Begun.{DriverOp, IsDriverOp}
 use Rattle.vd_layout.specs.Driver.{DriverModel, IsLawfulDriver, IsDriverStep}
 use Rattle.vd_layout.specs.Device.{DeviceModel, IsLawfulDevice}
@@ -21,6 +20,7 @@ use Rattle.vd_relay.specs.Stages.{is_shadow, OfferIs, EndsIs, ShadowIs, ShadowAr
 use Rattle.vd_relay.specs.Tie.{Start, since}
 use Rattle.vd_relay.specs.Relay.{Stands, ShadowTurn}
 use Rattle.vd_relay.proofs.ShadowGoing.{Goes, went}
+use Rattle.vd_relay.proofs.DriverGoing.{going}
 use Rattle.vd_relay.proofs.Turns.{worked_only}
 use Rattle.vd_relay.proofs.Ops.{at_shadow_hear}
 use Rattle.vd_relay.proofs.Hearings.{shadow_stage, shadow_heard, shadow_goes_on}
@@ -30,39 +30,7 @@ use Rattle.vd_relay.proofs.ShadowFree.{shadow_live}
 module _ {P E D : Type 0} (port : PortModel P) (e : DeviceModel E) (d : DriverModel D) (law : IsLawfulDevice e) (ldr : IsLawfulDriver d)
     (z : Start) (p q : P) (r : State E D) (w : DeviceView) (v : DriverView) (b : D) where
   goes_of : (s : IsDriverStep port d p q v r.shadow b act.Moved) → Goes s.op v (d.side.after v s.op s.access s.got)
-  goes_of s =
-      let is = s.is_answer in
-      let looks = ldr.looks in
-      record {
-        unarmed = λ other none. ldr.stays_unarmed v s.op s.access s.got other none;
-        shown = λ h. ldr.stays.shown v s.op s.access s.got s.was_next (subst (λ y. DriverGoes y) is tt) h;
-        disarms = λ arm dis. elim ((looks.disarming v s.op s.access s.got s.was_next).0 (dis ∙ ap now.Disarming (sym arm))).0 [
-          | inl x ↦ inr (x.0, x.1)
-          | inr x ↦ absurd (cc (arm, x.0))
-        ];
-        arms = λ arm idle. ldr.stays.arms v s.op s.access s.got s.was_next arm idle;
-        woke = λ arm again. woken_by (d.shows v s.got) refl arm again;
-        heard = λ hears idle.
-            let wakes : DriverWakes d.shows v s.got s.op = inr (
-              hears,
-              idle,
-              λ y. cc
-                  (is, (looks.asleep v s.op s.access s.got s.was_next).1 (hears, idle, y)),
-            ) in
-            disarmed_by v.frame.features.event_idx refl wakes ∙ ap now.Disarming hears;
-        busy = λ dis. cc (is, (looks.awake v s.op s.access s.got s.was_next).1 (inr (inl dis)));
-        other = λ dis. cc (is, (looks.awake v s.op s.access s.got s.was_next).1 (inr (inr dis)));
-      }
-    where
-      disarmed_by : (x : Bool) → v.frame.features.event_idx ≡ x → DriverWakes d.shows v s.got s.op
-          → (d.side.after v s.op s.access s.got).doing ≡ now.Disarming s.op
-      disarmed_by true x wakes = absurd (cc (s.is_answer, (ldr.looks.awake v s.op s.access s.got s.was_next).1 (inl (wakes, x))))
-      disarmed_by false x wakes = (ldr.looks.disarming v s.op s.access s.got s.was_next).1 (wakes, x)
-
-      woken_by : (x : Bool) → d.shows v s.got ≡ x → s.op ≡ op.Arm → v.doing ≡ now.Arming
-          → (d.side.after v s.op s.access s.got).doing ≡ now.Disarming op.Arm
-      woken_by true x arm again = disarmed_by v.frame.features.event_idx refl (inl (arm, again, x)) ∙ ap now.Disarming arm
-      woken_by false x arm again = absurd (cc (s.is_answer, (ldr.looks.armed v s.op s.access s.got s.was_next).1 (arm, again, x)))
+  goes_of s = going port d ldr p q r.shadow v b s
 
   offer_after : (answer : DriverAct) (s : IsDriverStep port d p q v r.shadow b answer) (st : Stage)
       → (d.side.after v s.op s.access s.got).done ≡ v.done → OfferIs st (since z) v.frame v.done

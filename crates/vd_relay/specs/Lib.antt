@@ -3,3 +3,4 @@ pub mod Pairing
 pub mod Stages
 pub mod Pace
 pub mod Relay
+pub mod Replays

@@ -6,6 +6,7 @@ mod begin;
 mod counts;
 mod guest_side;
 mod relay;
+mod replay;
 mod shadow_side;
 mod stage;
 mod state;
@@ -13,5 +14,6 @@ mod translate;
 
 pub use counts::{Counts, Turn};
 pub use relay::Relay;
+pub use replay::{Replay, ReplayStage};
 pub use stage::Stage;
 pub use state::State;
