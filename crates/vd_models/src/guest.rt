@@ -1,4 +1,5 @@
-//! A guest that offers its script while there is room, and else collects; where it can do neither it sleeps.
+//! A guest that offers its script while there is room, and else collects; where it can do neither it sleeps. On a control ring it stores
+//! a command's words before its offer, and loads its ack after it was collected.
 ghost use Rattle.std.specs.Prelude.{◌≡◌, Option, None, true, false};
 ghost use Rattle.vd_models.specs.Unused.{IsUnloaded};
 ghost use Rattle.vd_models.specs.GuestStages.{first_stage};
@@ -6,9 +7,10 @@ ghost use Rattle.vd_models.specs.Driving.{GuestHolds, IsLoaded, IsFresh, Paces, 
 ghost use Rattle.vd_models.specs.laws.GuestLaws.{unloaded_law, held_law, offered_law, offers_law, returned_law, done_law, finishes_law, armed_law, pace_law};
 
 use crate::counts::{Counts, move_of};
-use crate::cursor::{Cursor, count, settle};
+use crate::cursor::{Cursor, settle};
 use crate::driving::{Booted, GuestPhase, GuestStage, Loaded, drive};
-use crate::script::copy_script;
+use crate::hand::Hand;
+use crate::script::{copy_script, total};
 use std::alloc::{AllocError, Global};
 use std::mem::replace;
 use vd_bus::Guest;
@@ -16,7 +18,7 @@ use vd_layout::{Layout, Move};
 use vd_model::{Return, Script};
 use vd_words::Port;
 
-/// A guest that offers the next chain of its script where there is room, and else collects. Where it can't offer and no entry
+/// A guest that offers the next chain or command of its script where there is room, and else collects. Where it can't offer and no entry
 /// is there it arms its end, and hears its bell until it wakes.
 #[derive(Drop)]
 pub struct ModelGuest<L: Layout> {
@@ -96,7 +98,7 @@ impl<L: Layout> Guest<L> for ModelGuest<L> {
 
     fn load(&mut self, alloc: Global, script: &Script) -> Result<(), AllocError> {
         let script = copy_script(alloc, script)?;
-        let total = count(script.runs.as_slice());
+        let total = total(&script);
         let returned = Vec::with_capacity(alloc, total as usize)?;
         let at = settle(script.runs.as_slice(), Cursor { run: 0, used: 0 });
         self.phase = GuestPhase::Loaded(Loaded {
@@ -106,6 +108,7 @@ impl<L: Layout> Guest<L> for ModelGuest<L> {
             offered: 0,
             returned,
             stage: first_stage(total),
+            hand: Hand::Free,
         });
         Ok(())
     }
@@ -119,6 +122,7 @@ impl<L: Layout> Guest<L> for ModelGuest<L> {
         let loaded = Loaded {
             at,
             stage,
+            hand: Hand::Free,
             ..loaded
         };
         self.phase = GuestPhase::Booted(Booted { end, loaded });
