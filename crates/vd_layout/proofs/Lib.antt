@@ -4,3 +4,5 @@ mod Walks
 pub mod PlainRings
 pub mod RingSteps
 pub mod RingArms
+mod ArmedDriver
+mod ArmedDevice

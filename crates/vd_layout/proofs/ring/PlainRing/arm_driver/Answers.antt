@@ -1,7 +1,7 @@
 use Rattle.std.proofs.Common.{◌≡◌, refl}
 use Rattle.vd_layout.specs.PlainRing.{PlainView, frame_at}
-use Rattle.vd_layout.proofs.PlainRings.{driver_begun, driver_kept, driver_same, driver_moved, driver_arms_on}
-use Rattle.vd_layout.proofs.RingSteps.{driver_armed}
+use Rattle.vd_layout.proofs.PlainRings.{driver_begun, driver_moved}
+use Rattle.vd_layout.proofs.ArmedDriver.{armed_driver}
 use Rattle.vd_layout.proofs.ring.PlainRing.arm_driver.Goals as goal
 
 pub end_driver-answer-requires-clause-on : goal.end_driver-answer-requires-clause-on
@@ -19,72 +19,33 @@ end_driver-answer-requires-clause-on g c =
 
 pub invariant_of-self : goal.invariant_of-self
 invariant_of-self g c =
-    let d = g.L.Driver.DriverEnd.driver in
-    let e = g.L.Device.DeviceEnd.device in
-    let l = g.L.Layout.layout in
-    let law = g.met.L.Layout.lawful in
     let i = c.self.invariant in
     let stands = c.begin_arm.ensures.stands i.on.view i.on.drives in
-    let z = c.end_driver-answer.ensures.did (frame_at d l c.self.inside.driver c.self.inside.words)
-    (driver_begun d e l _ c.self.inside.driver c.begin_arm.new.self c.self.inside.device c.self.inside.words.words i.on stands) in
-    let did = driver_armed c.end_driver-answer.result (d.begun c.begin_arm.new.self) i.on.view.frame i.on.view.done z.on.view.done
-    c.begin_arm.ensures.begun z.says in
-    (driver_kept d e l law c.self.inside.driver c.begin_arm.new.self c.end_driver-answer.new.driver c.self.inside.device
-    c.self.inside.words c.end_driver-answer.new.words c.self.inside.history.lists c.self.inside.history.lists c.self.inside.count
-    c.self.inside.limit c.self.inside.resting c.end_driver-answer.result i stands z c.end_driver-answer.ensures.ring
-    c.end_driver-answer.ensures.idle
-    (driver_same d e l law c.self.inside.driver c.begin_arm.new.self c.end_driver-answer.new.driver c.self.inside.device
-    c.self.inside.words c.end_driver-answer.new.words c.self.inside.history.lists c.self.inside.history.lists c.self.inside.count
-    c.self.inside.limit c.self.inside.resting c.end_driver-answer.result i stands z did.1)).ring
+    let is = armed_driver g.met.L.Layout.lawful c.end_driver-answer.new.driver c.end_driver-answer.new.words c.end_driver-answer.result i stands
+    c.end_driver-answer.ensures.did c.end_driver-answer.ensures.ring c.end_driver-answer.ensures.idle c.begin_arm.ensures.begun in
+    is.2.ring
 
 pub returns-clause-made : goal.returns-clause-made
 returns-clause-made g c =
-    let d = g.L.Driver.DriverEnd.driver in
-    let e = g.L.Device.DeviceEnd.device in
-    let l = g.L.Layout.layout in
-    let law = g.met.L.Layout.lawful in
     let i = c.self.invariant in
     let stands = c.begin_arm.ensures.stands i.on.view i.on.drives in
-    let z = c.end_driver-answer.ensures.did (frame_at d l c.self.inside.driver c.self.inside.words)
-    (driver_begun d e l _ c.self.inside.driver c.begin_arm.new.self c.self.inside.device c.self.inside.words.words i.on stands) in
-    let did = driver_armed c.end_driver-answer.result (d.begun c.begin_arm.new.self) i.on.view.frame i.on.view.done z.on.view.done
-    c.begin_arm.ensures.begun z.says in
-    did.0
+    let is = armed_driver g.met.L.Layout.lawful c.end_driver-answer.new.driver c.end_driver-answer.new.words c.end_driver-answer.result i stands
+    c.end_driver-answer.ensures.did c.end_driver-answer.ensures.ring c.end_driver-answer.ensures.idle c.begin_arm.ensures.begun in
+    is.0
 
 pub returns-clause-armed : goal.returns-clause-armed
 returns-clause-armed g c =
-    let d = g.L.Driver.DriverEnd.driver in
-    let e = g.L.Device.DeviceEnd.device in
-    let l = g.L.Layout.layout in
-    let law = g.met.L.Layout.lawful in
     let i = c.self.invariant in
     let stands = c.begin_arm.ensures.stands i.on.view i.on.drives in
-    let z = c.end_driver-answer.ensures.did (frame_at d l c.self.inside.driver c.self.inside.words)
-    (driver_begun d e l _ c.self.inside.driver c.begin_arm.new.self c.self.inside.device c.self.inside.words.words i.on stands) in
-    let did = driver_armed c.end_driver-answer.result (d.begun c.begin_arm.new.self) i.on.view.frame i.on.view.done z.on.view.done
-    c.begin_arm.ensures.begun z.says in
-    driver_arms_on d e l law c.self.inside.driver c.begin_arm.new.self c.end_driver-answer.new.driver c.self.inside.device
-    c.self.inside.words c.end_driver-answer.new.words c.self.inside.history.lists c.self.inside.history.lists c.self.inside.count
-    c.self.inside.limit c.self.inside.resting c.end_driver-answer.result i stands z did.0
+    let is = armed_driver g.met.L.Layout.lawful c.end_driver-answer.new.driver c.end_driver-answer.new.words c.end_driver-answer.result i stands
+    c.end_driver-answer.ensures.did c.end_driver-answer.ensures.ring c.end_driver-answer.ensures.idle c.begin_arm.ensures.begun in
+    is.1
 
 pub returns-clause-same : goal.returns-clause-same
 returns-clause-same g c =
-    let d = g.L.Driver.DriverEnd.driver in
-    let e = g.L.Device.DeviceEnd.device in
-    let l = g.L.Layout.layout in
-    let law = g.met.L.Layout.lawful in
     let i = c.self.invariant in
     let stands = c.begin_arm.ensures.stands i.on.view i.on.drives in
-    let z = c.end_driver-answer.ensures.did (frame_at d l c.self.inside.driver c.self.inside.words)
-    (driver_begun d e l _ c.self.inside.driver c.begin_arm.new.self c.self.inside.device c.self.inside.words.words i.on stands) in
-    let did = driver_armed c.end_driver-answer.result (d.begun c.begin_arm.new.self) i.on.view.frame i.on.view.done z.on.view.done
-    c.begin_arm.ensures.begun z.says in
-    let k = driver_kept d e l law c.self.inside.driver c.begin_arm.new.self c.end_driver-answer.new.driver c.self.inside.device
-    c.self.inside.words c.end_driver-answer.new.words c.self.inside.history.lists c.self.inside.history.lists c.self.inside.count
-    c.self.inside.limit c.self.inside.resting c.end_driver-answer.result i stands z c.end_driver-answer.ensures.ring
-    c.end_driver-answer.ensures.idle
-    (driver_same d e l law c.self.inside.driver c.begin_arm.new.self c.end_driver-answer.new.driver c.self.inside.device
-    c.self.inside.words c.end_driver-answer.new.words c.self.inside.history.lists c.self.inside.history.lists c.self.inside.count
-    c.self.inside.limit c.self.inside.resting c.end_driver-answer.result i stands z did.1) in
+    let is = armed_driver g.met.L.Layout.lawful c.end_driver-answer.new.driver c.end_driver-answer.new.words c.end_driver-answer.result i stands
+    c.end_driver-answer.ensures.did c.end_driver-answer.ensures.ring c.end_driver-answer.ensures.idle c.begin_arm.ensures.begun in
     driver_moved _ _ _ (λ (v : PlainView). c.self.inside.history.lists ≡ v.lists) c.self.view_is
-    (record { frame = k.frame; wide = k.wide; device_armed = refl; resting = refl; base = refl }, refl)
+    (record { frame = is.2.frame; wide = is.2.wide; device_armed = refl; resting = refl; base = refl }, refl)

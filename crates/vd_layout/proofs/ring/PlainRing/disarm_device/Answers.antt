@@ -1,7 +1,7 @@
-use Rattle.std.proofs.Common.{◌≡◌, ◌∙◌, sym, refl, rules}
+use Rattle.std.proofs.Common.{◌≡◌, refl, rules}
 use Rattle.vd_layout.specs.PlainRing.{PlainView, frame_at}
-use Rattle.vd_layout.proofs.PlainRings.{device_begun, device_kept, device_moved, device_awake, device_same, device_disarms_on}
-use Rattle.vd_layout.proofs.RingSteps.{device_disarmed}
+use Rattle.vd_layout.proofs.PlainRings.{device_begun, device_moved}
+use Rattle.vd_layout.proofs.ArmedDevice.{disarmed_device}
 use Rattle.vd_layout.proofs.ring.PlainRing.disarm_device.Goals as goal
 
 pub end_device-answer-requires-clause-on : goal.end_device-answer-requires-clause-on
@@ -19,68 +19,29 @@ end_device-answer-requires-clause-on g c =
 
 pub invariant_of-self : goal.invariant_of-self
 invariant_of-self g c =
-    let d = g.L.Driver.DriverEnd.driver in
-    let e = g.L.Device.DeviceEnd.device in
-    let l = g.L.Layout.layout in
-    let law = g.met.L.Layout.lawful in
     let i = c.self.invariant in
     let stands = c.begin_disarm.ensures.stands i.on.device_view i.on.serves in
-    let z = c.end_device-answer.ensures.did (frame_at d l c.self.inside.driver c.self.inside.words)
-    (device_begun d e l _ c.self.inside.driver c.self.inside.device c.begin_disarm.new.self c.self.inside.words.words i.on stands) in
-    let did = device_disarmed e.words c.end_device-answer.result (e.begun c.begin_disarm.new.self) i.on.device_view.frame
-    i.on.device_view.done z.on.device_view.done c.begin_disarm.ensures.begun z.says in
-    (device_kept d e l law c.self.inside.driver c.self.inside.device c.begin_disarm.new.self c.end_device-answer.new.device
-    c.self.inside.words c.end_device-answer.new.words c.self.inside.history.lists c.self.inside.history.lists c.self.inside.count
-    c.self.inside.limit c.self.inside.resting c.end_device-answer.result i stands z c.self.inside.resting
-    c.end_device-answer.ensures.ring c.end_device-answer.ensures.idle
-    (device_awake d e l law c.self.inside.driver c.self.inside.device c.begin_disarm.new.self c.end_device-answer.new.device
-    c.self.inside.words c.end_device-answer.new.words c.self.inside.history.lists c.self.inside.history.lists c.self.inside.count
-    c.self.inside.limit c.self.inside.resting c.end_device-answer.result i stands z (λ w. cc (w, c.begin_disarm.ensures.begun))
-    c.end_device-answer.ensures.rests ∙ sym (search rules))
-    (device_same d e l law c.self.inside.driver c.self.inside.device c.begin_disarm.new.self c.end_device-answer.new.device
-    c.self.inside.words c.end_device-answer.new.words c.self.inside.history.lists c.self.inside.history.lists c.self.inside.count
-    c.self.inside.limit c.self.inside.resting c.end_device-answer.result i stands z did.1)).ring
+    let is = disarmed_device g.met.L.Layout.lawful c.end_device-answer.new.device c.end_device-answer.new.words c.end_device-answer.result i stands
+    c.end_device-answer.ensures.did c.end_device-answer.ensures.ring c.end_device-answer.ensures.idle c.end_device-answer.ensures.rests
+    c.begin_disarm.ensures.begun in
+    (is.2 (search rules)).ring
 
 pub returns-clause-made : goal.returns-clause-made
 returns-clause-made g c =
-    let d = g.L.Driver.DriverEnd.driver in
-    let e = g.L.Device.DeviceEnd.device in
-    let l = g.L.Layout.layout in
-    let law = g.met.L.Layout.lawful in
     let i = c.self.invariant in
     let stands = c.begin_disarm.ensures.stands i.on.device_view i.on.serves in
-    let z = c.end_device-answer.ensures.did (frame_at d l c.self.inside.driver c.self.inside.words)
-    (device_begun d e l _ c.self.inside.driver c.self.inside.device c.begin_disarm.new.self c.self.inside.words.words i.on stands) in
-    let did = device_disarmed e.words c.end_device-answer.result (e.begun c.begin_disarm.new.self) i.on.device_view.frame
-    i.on.device_view.done z.on.device_view.done c.begin_disarm.ensures.begun z.says in (
-      did.0,
-      device_disarms_on d e l law c.self.inside.driver c.self.inside.device c.begin_disarm.new.self c.end_device-answer.new.device
-          c.self.inside.words c.end_device-answer.new.words c.self.inside.history.lists c.self.inside.history.lists c.self.inside.count
-          c.self.inside.limit c.self.inside.resting c.end_device-answer.result i stands z did.0,
-    )
+    let is = disarmed_device g.met.L.Layout.lawful c.end_device-answer.new.device c.end_device-answer.new.words c.end_device-answer.result i stands
+    c.end_device-answer.ensures.did c.end_device-answer.ensures.ring c.end_device-answer.ensures.idle c.end_device-answer.ensures.rests
+    c.begin_disarm.ensures.begun in
+    (is.0, is.1)
 
 pub returns-clause-same : goal.returns-clause-same
 returns-clause-same g c =
-    let d = g.L.Driver.DriverEnd.driver in
-    let e = g.L.Device.DeviceEnd.device in
-    let l = g.L.Layout.layout in
-    let law = g.met.L.Layout.lawful in
     let i = c.self.invariant in
     let stands = c.begin_disarm.ensures.stands i.on.device_view i.on.serves in
-    let z = c.end_device-answer.ensures.did (frame_at d l c.self.inside.driver c.self.inside.words)
-    (device_begun d e l _ c.self.inside.driver c.self.inside.device c.begin_disarm.new.self c.self.inside.words.words i.on stands) in
-    let did = device_disarmed e.words c.end_device-answer.result (e.begun c.begin_disarm.new.self) i.on.device_view.frame
-    i.on.device_view.done z.on.device_view.done c.begin_disarm.ensures.begun z.says in
-    let k = device_kept d e l law c.self.inside.driver c.self.inside.device c.begin_disarm.new.self c.end_device-answer.new.device
-    c.self.inside.words c.end_device-answer.new.words c.self.inside.history.lists c.self.inside.history.lists c.self.inside.count
-    c.self.inside.limit c.self.inside.resting c.end_device-answer.result i stands z c.self.inside.resting
-    c.end_device-answer.ensures.ring c.end_device-answer.ensures.idle
-    (device_awake d e l law c.self.inside.driver c.self.inside.device c.begin_disarm.new.self c.end_device-answer.new.device
-    c.self.inside.words c.end_device-answer.new.words c.self.inside.history.lists c.self.inside.history.lists c.self.inside.count
-    c.self.inside.limit c.self.inside.resting c.end_device-answer.result i stands z (λ w. cc (w, c.begin_disarm.ensures.begun))
-    c.end_device-answer.ensures.rests ∙ sym (search rules))
-    (device_same d e l law c.self.inside.driver c.self.inside.device c.begin_disarm.new.self c.end_device-answer.new.device
-    c.self.inside.words c.end_device-answer.new.words c.self.inside.history.lists c.self.inside.history.lists c.self.inside.count
-    c.self.inside.limit c.self.inside.resting c.end_device-answer.result i stands z did.1) in
+    let is = disarmed_device g.met.L.Layout.lawful c.end_device-answer.new.device c.end_device-answer.new.words c.end_device-answer.result i stands
+    c.end_device-answer.ensures.did c.end_device-answer.ensures.ring c.end_device-answer.ensures.idle c.end_device-answer.ensures.rests
+    c.begin_disarm.ensures.begun in
+    let k = is.2 (search rules) in
     device_moved _ _ _ (λ (v : PlainView). (c.self.inside.resting ≡ v.resting) × (c.self.inside.history.lists ≡ v.lists)) c.self.view_is
     (record { frame = k.frame; wide = k.wide; driver_armed = refl }, (refl, refl))
