@@ -26,7 +26,8 @@ use Rattle.vd_models.specs.Hands.{HandIs, IsNoOffer, IsOffering, hand_owes, offe
 use Rattle.vd_models.specs.Driving.{Driven, Drives, DriveOpens, BeginsDrive, command_next, next_of, owes_at}
 use Rattle.vd_models.specs.Sending.{IsDue, DueIs}
 use Rattle.vd_models.proofs.Drives.{to, still_free, all_back, owes_free}
-use Rattle.vd_models.proofs.Offering.{begins, offer_small, commands_or, some_runs, next_is_chain, next_is_command}
+use Rattle.vd_models.proofs.Offering.{begins, offer_small}
+use Rattle.vd_models.specs.laws.Scripted.{next_is_chain}
 
 -- a script of chains has nothing in hand
 pub free_of_chains : (words : ControlWords) (s : Script) (rs : List Return) (f : Frame) (o : List DriverDone) (st : GuestStage)
@@ -154,9 +155,10 @@ module _ {D : Type 0} (d : DriverModel D) (l : LayoutModel) (law : IsLawfulDrive
   pub begins_hear : x.stage ≡ stage.Hearing → IsDue d x v None → d.begun e ≡ DriverOp.hear → d.stands e v
       → BeginsDrive d l v x (to x e x.stage)
   begins_hear is due begun stands =
+      let a = armed_idle stage.Hearing is in
       with_free stage.Hearing DriverOp.hear is (free_now d x v x.hand due (both_offers d.words x.script x.returned v.frame v.done
       x.stage (d.begun x.end) x.hand (λ z. cc (z, is)) h.drives.held)) begun stands (λ some. tt) (begun_idle stage.Hearing is)
-      (inl (rests, armed_idle stage.Hearing is)) tt (omega (arith, ap hear_owes rests))
+      (inl (rests, a.0, a.1)) tt (omega (arith, ap hear_owes rests))
 
   pub begins_command : (c : List Piece) → x.hand ≡ hand.Both → next_of d.words x.script x.at v.frame v.done ≡ Some c
       → d.begun e ≡ DriverOp.offer c → d.stands e v → d.left e ≤ 38 → BeginsDrive d l v x (to x e x.stage)

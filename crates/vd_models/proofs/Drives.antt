@@ -181,6 +181,42 @@ owes_on words s rs f os st b b' o (hand.Ack k l m) left left' n n' g of h less p
 pub owes_free : (h : Hand) (b : DriverOp) (left n : ℕ) → h ≡ hand.Free → hand_owes h b left n ≡ n
 owes_free h b left n is = ap (λ (z : Hand). hand_owes z b left n) is
 
+module _ {P D : Type 0} {port : PortModel P} {d : DriverModel D} (law : IsLawfulDriver d) (from : Driven D) {p q : P} {v : DriverView}
+    {y : D} where
+  goes_of : (h : IsDriverStep port d p q v from.end y act.Moved) → Goes h.op v (d.side.after v h.op h.access h.got)
+  goes_of h =
+      let is = h.is_answer in
+      let looks = law.looks in
+      record {
+        unarmed = λ other none. law.stays_unarmed v h.op h.access h.got other none;
+        shown = λ x. law.stays.shown v h.op h.access h.got h.was_next (subst (λ z. DriverGoes z) is tt) x;
+        disarms = λ arm x. elim ((looks.disarming v h.op h.access h.got h.was_next).0 (x ∙ ap now.Disarming (sym arm))).0 [
+          | inl z ↦ inr (z.0, z.1)
+          | inr z ↦ absurd (cc (arm, z.0))
+        ];
+        arms = λ arm idle. law.stays.arms v h.op h.access h.got h.was_next arm idle;
+        woke = λ arm again. woken_by (d.shows v h.got) refl arm again;
+        heard = λ hears idle.
+            let wakes : DriverWakes d.shows v h.got h.op = inr (
+              hears,
+              idle,
+              λ z. cc
+                  (is, (looks.asleep v h.op h.access h.got h.was_next).1 (hears, idle, z)),
+            ) in
+            disarmed_by v.frame.features.event_idx refl wakes ∙ ap now.Disarming hears;
+        busy = λ x. cc (is, (looks.awake v h.op h.access h.got h.was_next).1 (inr (inl x)));
+      }
+    where
+      disarmed_by : (x : Bool) → v.frame.features.event_idx ≡ x → DriverWakes d.shows v h.got h.op
+          → (d.side.after v h.op h.access h.got).doing ≡ now.Disarming h.op
+      disarmed_by true x wakes = absurd (cc (h.is_answer, (law.looks.awake v h.op h.access h.got h.was_next).1 (inl (wakes, x))))
+      disarmed_by false x wakes = (law.looks.disarming v h.op h.access h.got h.was_next).1 (wakes, x)
+
+      woken_by : (x : Bool) → d.shows v h.got ≡ x → h.op ≡ op.Arm → v.doing ≡ now.Arming
+          → (d.side.after v h.op h.access h.got).doing ≡ now.Disarming op.Arm
+      woken_by true x arm again = disarmed_by v.frame.features.event_idx refl (inl (arm, again, x)) ∙ ap now.Disarming arm
+      woken_by false x arm again = absurd (cc (h.is_answer, (law.looks.armed v h.op h.access h.got h.was_next).1 (arm, again, x)))
+
 module _ {P D : Type 0} {port : PortModel P} {d : DriverModel D} {l : LayoutModel} (law : IsLawfulDriver d) (from : Driven D) {p q : P}
     {v : DriverView} {y : D} where
   -- ---- what was done is the same
@@ -258,40 +294,6 @@ module _ {P D : Type 0} {port : PortModel P} {d : DriverModel D} {l : LayoutMode
             (owes from.stage (d.begun from.end) v.doing v.shown (d.left from.end)) free,
       ))
 
-  goes_of : (h : IsDriverStep port d p q v from.end y act.Moved) → Goes h.op v (d.side.after v h.op h.access h.got)
-  goes_of h =
-      let is = h.is_answer in
-      let looks = law.looks in
-      record {
-        unarmed = λ other none. law.stays_unarmed v h.op h.access h.got other none;
-        shown = λ x. law.stays.shown v h.op h.access h.got h.was_next (subst (λ z. DriverGoes z) is tt) x;
-        disarms = λ arm x. elim ((looks.disarming v h.op h.access h.got h.was_next).0 (x ∙ ap now.Disarming (sym arm))).0 [
-          | inl z ↦ inr (z.0, z.1)
-          | inr z ↦ absurd (cc (arm, z.0))
-        ];
-        arms = λ arm idle. law.stays.arms v h.op h.access h.got h.was_next arm idle;
-        woke = λ arm again. woken_by (d.shows v h.got) refl arm again;
-        heard = λ hears idle.
-            let wakes : DriverWakes d.shows v h.got h.op = inr (
-              hears,
-              idle,
-              λ z. cc
-                  (is, (looks.asleep v h.op h.access h.got h.was_next).1 (hears, idle, z)),
-            ) in
-            disarmed_by v.frame.features.event_idx refl wakes ∙ ap now.Disarming hears;
-        busy = λ x. cc (is, (looks.awake v h.op h.access h.got h.was_next).1 (inr (inl x)));
-      }
-    where
-      disarmed_by : (x : Bool) → v.frame.features.event_idx ≡ x → DriverWakes d.shows v h.got h.op
-          → (d.side.after v h.op h.access h.got).doing ≡ now.Disarming h.op
-      disarmed_by true x wakes = absurd (cc (h.is_answer, (law.looks.awake v h.op h.access h.got h.was_next).1 (inl (wakes, x))))
-      disarmed_by false x wakes = (law.looks.disarming v h.op h.access h.got h.was_next).1 (wakes, x)
-
-      woken_by : (x : Bool) → d.shows v h.got ≡ x → h.op ≡ op.Arm → v.doing ≡ now.Arming
-          → (d.side.after v h.op h.access h.got).doing ≡ now.Disarming op.Arm
-      woken_by true x arm again = disarmed_by v.frame.features.event_idx refl (inl (arm, again, x)) ∙ ap now.Disarming arm
-      woken_by false x arm again = absurd (cc (h.is_answer, (law.looks.armed v h.op h.access h.got h.was_next).1 (arm, again, x)))
-
   pub went_on : DriveOpens d l from v → IsDriverStep port d p q v from.end y act.Moved
       → IsDriveTurn port d l p q v from (to from y from.stage) Worked
   went_on opens h =
@@ -299,7 +301,7 @@ module _ {P D : Type 0} {port : PortModel P} {d : DriverModel D} {l : LayoutMode
       let v' : DriverView = d.side.after v h.op h.access h.got in
       let next = next_of d.words from.script from.at v.frame v.done in
       let g = went from.stage next v.frame v.done h.op v v' (d.left from.end) (d.left y) (d.begun from.end)
-      (d.begun y) x.begun h.of_it x.armed x.op h.says.0 h.left (goes_of h) in
+      (d.begun y) x.begun h.of_it x.armed x.op h.says.0 h.left (goes_of law from h) in
       same_held opens act.Moved h from.stage Worked h.says.1 opens.live
       (held_on d.words from.script from.returned v.frame v.done from.stage (d.begun from.end) (d.begun y) h.op from.hand h.says.0 h.of_it
       x.held)

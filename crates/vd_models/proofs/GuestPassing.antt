@@ -36,7 +36,8 @@ use Rattle.vd_models.proofs.GuestGoing.{at_offer, at_collect, unarming, armed_no
 use Rattle.vd_models.proofs.Lists.{prefix_same, prefix_push}
 use Rattle.vd_models.proofs.Scripts.{next_left}
 use Rattle.vd_models.proofs.Drives.{not_woken, no_sleep, live_less, less_live, done_is, still_free, all_back, owes_free}
-use Rattle.vd_models.proofs.Offering.{next_chain, used_small, commands_or, next_is_chain, scripted_chains, scripted_commands}
+use Rattle.vd_models.proofs.Offering.{next_chain, used_small}
+use Rattle.vd_models.specs.laws.Scripted.{commands_or, next_is_chain, scripted_chains, scripted_commands}
 use Rattle.vd_models.proofs.Begins.{free_of_chains}
 
 abbrev pub put : {D : Type 0} → D → Script → Cursor → ℕ → List Return → GuestStage → Hand → Driven D
@@ -183,13 +184,6 @@ module _ {P D : Type 0} {port : PortModel P} {d : DriverModel D} {l : LayoutMode
       let is : next_at from.script.runs from.at ≡ Some c = sym (next_is_chain d.words from.script from.at v.frame v.done none) ∙ t.1 in
       omega (arith, used_small from.script.runs from.at c x.settled is, x.few, scripted_chains from.script none)
 
-  -- and so does the count
-  pub count_fits : DriveOpens d l from v → from.offered + 1 < 4294967296
-  count_fits opens =
-      let x = opens.drives in
-      commands_or from.script (λ none. omega (arith, (x.chained none).some, x.few, scripted_chains from.script none))
-      (λ some. omega (arith, (x.sent some).offered, (x.sent some).sent.some, x.few, scripted_commands from.script some))
-
   pub collected_at : (r' : List Return) (k len hd : ℕ) (t : Bool) → from.script.commands ≡ [] → DriveOpens d l from v
       → IsDriverStep port d p q v from.end y (act.Collected k len hd)
       → r' ≡ from.returned ++ record { number = k; len = len; ack = 0 } ∷ [] → t ≡ (length r' == scripted from.script)
@@ -278,3 +272,11 @@ module _ {P D : Type 0} {port : PortModel P} {d : DriverModel D} {l : LayoutMode
 pub can_keep : {D : Type 0} {d : DriverModel D} {l : LayoutModel} {x : Driven D} {v : DriverView} → DriveOpens d l x v
     → length x.returned < scripted x.script
 can_keep {x = x} opens = live_less x.stage (length x.returned) (scripted x.script) opens.live opens.drives.done
+
+-- the count of chains or commands fits
+pub count_fits : {D : Type 0} {d : DriverModel D} {l : LayoutModel} {x : Driven D} {v : DriverView} → DriveOpens d l x v
+    → x.offered + 1 < 4294967296
+count_fits {x = x} opens =
+    let y = opens.drives in
+    commands_or x.script (λ none. omega (arith, (y.chained none).some, y.few, scripted_chains x.script none))
+    (λ some. omega (arith, (y.sent some).offered, (y.sent some).sent.some, y.few, scripted_commands x.script some))

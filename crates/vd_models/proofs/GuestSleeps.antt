@@ -55,19 +55,18 @@ woken_armed : {D : Type 0} {d : DriverModel D} (law : IsLawfulDriver d) (y : D) 
 woken_armed law y true v stands is = law.armed y v stands is
 woken_armed law y false v stands is = law.unarmed y v stands is
 
-module _ {P D : Type 0} {port : PortModel P} {d : DriverModel D} {l : LayoutModel} (law : IsLawfulDriver d) (from : Driven D) {p q : P}
-    {v : DriverView} {y : D} where
-  -- while no command is offered nothing is in hand
-  unheld : DriveOpens d l from v → (b : DriverOp) → d.begun from.end ≡ b → (b ≡ DriverOp.idle → ⊥) → IsNoOffer b → from.hand ≡ hand.Free
-  unheld opens b is busy other =
-      free_at d.words from.script from.returned v.frame v.done from.stage b from.hand busy other
-      (subst (λ z. HandIs d.words from.script from.returned v.frame v.done from.stage z from.hand) is opens.drives.held)
+-- while no command is offered nothing is in hand
+unheld : {D : Type 0} (d : DriverModel D) (l : LayoutModel) (x : Driven D) (v : DriverView) → DriveOpens d l x v → (b : DriverOp)
+    → d.begun x.end ≡ b → (b ≡ DriverOp.idle → ⊥) → IsNoOffer b → x.hand ≡ hand.Free
+unheld d l x v opens b is busy other =
+    free_at d.words x.script x.returned v.frame v.done x.stage b x.hand busy other
+    (subst (λ z. HandIs d.words x.script x.returned v.frame v.done x.stage z x.hand) is opens.drives.held)
 
-  no_offer : d.begun y ≡ DriverOp.idle → IsNoOffer (d.begun y)
-  no_offer is = subst (λ z. IsNoOffer z) (sym is) tt
+no_offer : {D : Type 0} (d : DriverModel D) (y : D) → d.begun y ≡ DriverOp.idle → IsNoOffer (d.begun y)
+no_offer d y is = subst (λ z. IsNoOffer z) (sym is) tt
 
-  -- ---- a look that shows nothing
-
+module _ {P D : Type 0} {port : PortModel P} {d : DriverModel D} (law : IsLawfulDriver d) (from : Driven D) {p q : P} {v : DriverView}
+    {y : D} where
   unshown : (shown : Bool) → (h : IsDriverStep port d p q v from.end y act.Nothing) → v.shown ≡ shown → IsOwn port d.side p v → shown
       ≡ false
   unshown false h is own = refl
@@ -77,14 +76,28 @@ module _ {P D : Type 0} {port : PortModel P} {d : DriverModel D} {l : LayoutMode
       (own.told h.op h.access h.was_next h.got q h.moved) (inl (n.0, n.1)) is in
       absurd (cc (t, n.2))
 
+  -- an arming that ends with Awake was shown an entry
+  shown_at : (h : IsDriverStep port d p q v from.end y act.Awake) → h.op ≡ op.Arm → OpIs DriverOp.arm v.doing v.shown (d.left from.end)
+      → (d.side.after v h.op h.access h.got).shown ≡ true
+  shown_at h arm i = law.stays.shown v h.op h.access h.got h.was_next (subst (λ z. DriverGoes z) h.is_answer tt)
+      (elim ((law.looks.awake v h.op h.access h.got h.was_next).0 (sym h.is_answer)) [
+        | inl x ↦ elim x.0 [ inl a ↦ inr (inr (a.0, a.1)) | inr z ↦ absurd (cc (arm, z.0)) ]
+        | inr (inl z) ↦ inl (i (z ∙ ap now.Disarming arm))
+        | inr (inr z) ↦ absurd (cc (arm, z))
+      ])
+
+module _ {P D : Type 0} {port : PortModel P} {d : DriverModel D} {l : LayoutModel} (law : IsLawfulDriver d) (from : Driven D) {p q : P}
+    {v : DriverView} {y : D} where
+  -- ---- a look that shows nothing
+
   pub found_none : DriveOpens d l from v → IsOwn port d.side p v → IsDriverStep port d p q v from.end y act.Nothing
       → IsDriveTurn port d l p q v from (to from y (none_stage from.stage)) Worked
   found_none opens own h =
       let x = opens.drives in
       let v' : DriverView = d.side.after v h.op h.access h.got in
       let next = next_of d.words from.script from.at v.frame v.done in
-      let none : v.shown ≡ false = unshown v.shown h refl own in
-      let free = unheld opens DriverOp.collect h.says.0 (λ z. cc z) tt in
+      let none : v.shown ≡ false = unshown law from v.shown h refl own in
+      let free = unheld d l from v opens DriverOp.collect h.says.0 (λ z. cc z) tt in
       let u = unarming from.stage (d.begun from.end) v.doing next v.frame v.done h.op v.armed (λ z. cc (z, h.says.0)) (λ z. cc
       (z, h.says.0)) x.begun h.of_it x.armed in
       let unarmed : v'.armed ≡ None = law.stays_unarmed v h.op h.access h.got u.other u.none in
@@ -94,7 +107,7 @@ module _ {P D : Type 0} {port : PortModel P} {d : DriverModel D} {l : LayoutMode
       let build : (st' : GuestStage) → is_done st' ≡ false → st' ≢ stage.Hearing → BegunIs st' DriverOp.idle next v.frame v.done
       → idle_owes st' v'.shown + 1 ≤ collect_owes from.stage false (d.left from.end)
       → IsDriveTurn port d l p q v from (to from y st') Worked =
-      λ st' live awake begun paid. same_turn law from opens act.Nothing h st' Worked h.says.2 live free (no_offer h.says.1)
+      λ st' live awake begun paid. same_turn law from opens act.Nothing h st' Worked h.says.2 live free (no_offer d y h.says.1)
       (subst (λ z. BegunIs st' z next v.frame v.done) (sym h.says.1) begun)
       (armed_none st' (d.begun y) v'.doing v'.armed awake (λ z. cc (z, h.says.1)) unarmed)
       (subst (λ z. OpIs z v'.doing v'.shown (d.left y)) (sym h.says.1) tt)
@@ -125,7 +138,7 @@ module _ {P D : Type 0} {port : PortModel P} {d : DriverModel D} {l : LayoutMode
             ∙ stands.1,
       ) in
       same_turn law from opens act.Armed h stage.Hearing Worked h.says.2 refl
-      (unheld opens DriverOp.arm h.says.0 (λ z. cc z) tt) (no_offer h.says.1)
+      (unheld d l from v opens DriverOp.arm h.says.0 (λ z. cc z) tt) (no_offer d y h.says.1)
       (subst (λ z. BegunIs stage.Hearing z next v.frame v.done) (sym h.says.1) t.1)
       (subst (λ z. ArmedIs stage.Hearing z v'.doing v'.armed) (sym h.says.1) some)
       (subst (λ z. OpIs z v'.doing v'.shown (d.left y)) (sym h.says.1) tt)
@@ -151,7 +164,7 @@ module _ {P D : Type 0} {port : PortModel P} {d : DriverModel D} {l : LayoutMode
       (subst (λ (z : GuestStage). ArmedIs z (d.begun from.end) v.doing v.armed) t.0 x.armed)) idle in
       let here : ArmedIs stage.Hearing DriverOp.idle v'.doing v'.armed = (some.0, ap (λ (z : DriverView). z.armed) stays ∙ some.1) in
       same_turn law from opens act.Asleep h from.stage Slept h.says.2 opens.live
-      (unheld opens DriverOp.hear h.says.0 (λ z. cc z) tt) (no_offer h.says.1)
+      (unheld d l from v opens DriverOp.hear h.says.0 (λ z. cc z) tt) (no_offer d y h.says.1)
       (subst (λ (z : GuestStage). BegunIs z (d.begun y) next v.frame v.done) (sym t.0) (subst
       (λ z. BegunIs stage.Hearing z next v.frame v.done) (sym h.says.1) t.1))
       (subst (λ (z : GuestStage). ArmedIs z (d.begun y) v'.doing v'.armed) (sym t.0) (subst
@@ -167,16 +180,6 @@ module _ {P D : Type 0} {port : PortModel P} {d : DriverModel D} {l : LayoutMode
         ap hear_owes idle,
       ))
 
-  -- an arming that ends with Awake was shown an entry
-  shown_at : (h : IsDriverStep port d p q v from.end y act.Awake) → h.op ≡ op.Arm → OpIs DriverOp.arm v.doing v.shown (d.left from.end)
-      → (d.side.after v h.op h.access h.got).shown ≡ true
-  shown_at h arm i = law.stays.shown v h.op h.access h.got h.was_next (subst (λ z. DriverGoes z) h.is_answer tt)
-      (elim ((law.looks.awake v h.op h.access h.got h.was_next).0 (sym h.is_answer)) [
-        | inl x ↦ elim x.0 [ inl a ↦ inr (inr (a.0, a.1)) | inr z ↦ absurd (cc (arm, z.0)) ]
-        | inr (inl z) ↦ inl (i (z ∙ ap now.Disarming arm))
-        | inr (inr z) ↦ absurd (cc (arm, z))
-      ])
-
   pub woken_at : (armed : Bool) → DriveOpens d l from v → (h : IsDriverStep port d p q v from.end y act.Awake) → d.armed y ≡ armed
       → IsDriveTurn port d l p q v from (to from y (woken_stage armed)) (waking_turn from.stage)
   woken_at armed opens h is_armed =
@@ -185,15 +188,15 @@ module _ {P D : Type 0} {port : PortModel P} {d : DriverModel D} {l : LayoutMode
       let next = next_of d.words from.script from.at v.frame v.done in
       let t = wakes_at next v.frame v.done from.stage (d.begun from.end) h.says.0 x.begun in
       let idle = h.says.1 in
-      let free = elim t.0 [
-        | inl a ↦ unheld opens DriverOp.arm a.0 (λ z. cc z) tt
-        | inr a ↦ unheld opens DriverOp.hear a.0 (λ z. cc z) tt
+      let free : from.hand ≡ hand.Free = elim t.0 [
+        | inl a ↦ unheld d l from v opens DriverOp.arm a.0 (λ z. cc z) tt
+        | inr a ↦ unheld d l from v opens DriverOp.hear a.0 (λ z. cc z) tt
       ] in
       let build : (u : Turn) → (u ≡ Slept → ⊥) → woke u ≡ driver_woken h.op act.Awake
       → idle_owes (woken_stage armed) v'.shown + counted u ≤ owes from.stage (d.begun from.end) v.doing v.shown
       (d.left from.end) + 64 * woke u
       → IsDriveTurn port d l p q v from (to from y (woken_stage armed)) u =
-      λ u no woken paid. same_turn law from opens act.Awake h (woken_stage armed) u h.says.2 (woken_live armed) free (no_offer idle)
+      λ u no woken paid. same_turn law from opens act.Awake h (woken_stage armed) u h.says.2 (woken_live armed) free (no_offer d y idle)
       (subst (λ z. BegunIs (woken_stage armed) z next v.frame v.done) (sym idle) (woken_is armed next v.frame v.done t.1))
       (subst (λ z. ArmedIs (woken_stage armed) z v'.doing v'.armed) (sym idle) (woken_armed law y armed v' h.now_stands is_armed))
       (subst (λ z. OpIs z v'.doing v'.shown (d.left y)) (sym idle) tt)
@@ -202,7 +205,7 @@ module _ {P D : Type 0} {port : PortModel P} {d : DriverModel D} {l : LayoutMode
       elim t.0 [
         | inl a ↦ (
             let arm : h.op ≡ op.Arm = subst (λ z. IsDriverOp z h.op) a.0 h.of_it in
-            let shown : v'.shown ≡ true = shown_at h arm (subst (λ z. OpIs z v.doing v.shown (d.left from.end)) a.0 x.op) in
+            let shown : v'.shown ≡ true = shown_at law from h arm (subst (λ z. OpIs z v.doing v.shown (d.left from.end)) a.0 x.op) in
             subst (λ u. IsDriveTurn port d l p q v from (to from y (woken_stage armed)) u) (sym (ap waking_turn a.1))
             (build Worked (λ z. cc z) (sym (ap (λ z. driver_woken z act.Awake) arm)) (omega
             (arith, h.left, woken_owes armed v'.shown shown, ap (λ z. owes from.stage z v.doing v.shown (d.left from.end)) a.0)))

@@ -15,5 +15,7 @@ pub mod GuestSleeps
 pub mod GuestPassing
 pub mod Sends
 pub mod SendTurns
+pub mod SendPlaces
+pub mod SendAccess
 pub mod GuestParties
 pub mod Faults

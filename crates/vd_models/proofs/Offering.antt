@@ -23,6 +23,7 @@ use Rattle.vd_models.specs.Hands.{HandIs, IsTurnToOffer}
 use Rattle.vd_models.specs.Driving.{Driven, Drives, DriveOpens, BeginsDrive, by_commands, command_next, next_of, owes_at, scripted}
 use Rattle.vd_models.proofs.Scripts.{next_left, chains_count}
 use Rattle.vd_models.proofs.Drives.{to}
+use Rattle.vd_models.specs.laws.Scripted.{commands_or, scripted_chains}
 
 count_drop : (runs : List Run) (n : ℕ) → run_count (drop n runs) ≤ run_count runs
 count_drop runs zero = omega arith
@@ -75,35 +76,6 @@ some_runs s at c is none = absurd (let gone : next_at s.runs at ≡ None = ap
     empty zero = refl
     empty (suc n) = refl
 
--- a script of chains or of commands
-pub commands_or : {A : Type 0} (s : Script) → (s.commands ≡ [] → A) → (HasCommands s → A) → A
-commands_or {A} s a b = at s.commands refl
-  where
-    at : (cs : List _) → s.commands ≡ cs → A
-    at [] e = a e
-    at (c ∷ cs) e = b (λ z. cc (z, e))
-
-by_none : {B X : Type 0} (cs : List B) (a b : X) → cs ≡ [] → by_commands cs a b ≡ a
-by_none cs a b none = ap (λ z. by_commands z a b) none
-
-by_some : {B X : Type 0} (cs : List B) (a b : X) → (cs ≡ [] → ⊥) → by_commands cs a b ≡ b
-by_some [] a b some = absurd (some refl)
-by_some (c ∷ cs) a b some = refl
-
-pub scripted_chains : (s : Script) → s.commands ≡ [] → scripted s ≡ length (chains s)
-scripted_chains s none = by_none s.commands (length (chains s)) (length s.commands) none
-
-pub scripted_commands : (s : Script) → HasCommands s → scripted s ≡ length s.commands
-scripted_commands s some = by_some s.commands (length (chains s)) (length s.commands) some
-
-pub next_is_chain : (words : ControlWords) (s : Script) (at : Cursor) (f : Frame) (o : List DriverDone) → s.commands ≡ []
-    → next_of words s at f o ≡ next_at s.runs at
-next_is_chain words s at f o none = by_none s.commands (next_at s.runs at) (command_next words s f o) none
-
-pub next_is_command : (words : ControlWords) (s : Script) (at : Cursor) (f : Frame) (o : List DriverDone) → HasCommands s
-    → next_of words s at f o ≡ command_next words s f o
-next_is_command words s at f o some = by_some s.commands (next_at s.runs at) (command_next words s f o) some
-
 module _ {D : Type 0} (d : DriverModel D) (l : LayoutModel) where
   pub may_offer : (x : Driven D) (v : DriverView) (c : List Piece) → Drives d l x v → x.script.commands ≡ []
       → next_at x.script.runs x.at ≡ Some c → HasRoom v.frame v.done c → MayOffer d.words v c
@@ -128,6 +100,12 @@ module _ {D : Type 0} (d : DriverModel D) (l : LayoutModel) where
 pub offer_small : (shown : Bool) → 38 ≤ idle_owes stage.Offering shown
 offer_small true = omega arith
 offer_small false = omega arith
+
+-- a script with a next chain is one of chains
+pub chains_by : {D : Type 0} (d : DriverModel D) (l : LayoutModel) (x : Driven D) (v : DriverView) (c : List Piece) → DriveOpens d l x v
+    → next_at x.script.runs x.at ≡ Some c → x.script.commands ≡ []
+chains_by d l x v c opens next = commands_or x.script (λ none. none)
+    (λ some. absurd (some_runs x.script x.at c next (opens.drives.sent some).plain))
 
 -- the stage at which a guest offers, where it isn't done
 pub offers_at : (st : GuestStage) → IsTurnToOffer st → is_done st ≡ false → st ≡ stage.Offering

@@ -1,5 +1,5 @@
 -- What each access of a model guest's commands leaves: the stores of a command's words, its offer, its collect, and the load of its ack.
-use Rattle.std.proofs.Common.{◌≡◌, ◌≢◌, ◌⊎◌, ◌↔◌, ◌==◌, ◌%◌, ℕ, ◌+◌, ◌<◌, ◌≤◌, Bool, true, false, Option, Some, None, List, [], ◌∷◌, ◌++◌, length, slice_get, refl, sym, ◌∙◌, ap, subst, arith, inl, inr}
+use Rattle.std.proofs.Common.{◌≡◌, ◌≢◌, ◌⊎◌, ◌↔◌, ◌==◌, ◌%◌, ℕ, ◌*◌, ◌+◌, ◌<◌, ◌≤◌, Bool, true, false, Option, Some, None, List, [], ◌∷◌, ◌++◌, length, slice_get, refl, sym, ◌∙◌, ap, subst, arith, inl, inr}
 use Rattle.std.specs.Option.{option_map}
 use Rattle.std.proofs.lemmas.List.{length_push, length-map}
 use Rattle.vd_model.specs.declared.chain.Piece.{Piece}
@@ -24,6 +24,7 @@ use Rattle.vd_layout.specs.Begun.{DriverOp, DriverPublished}
 use Rattle.vd_layout.specs.Control.{ControlWords}
 use Rattle.vd_layout.specs.Driver.{DriverModel, IsDriverStep, IsLawfulDriver}
 use Rattle.vd_layout.specs.Layout.{LayoutModel}
+use Rattle.vd_commands.specs.Words.{command_word}
 use Rattle.vd_bus.specs.GuestCommands.{command_chain, HasCommands, HasSent, AreAcked}
 use Rattle.vd_models.specs.declared.counts.Turn.TheVariants.{Worked, Slept}
 use Rattle.vd_models.specs.declared.driving.GuestStage.{GuestStage}
@@ -31,12 +32,12 @@ use Rattle.vd_models.specs.declared.driving.GuestStage.TheVariants as stage
 use Rattle.vd_models.specs.declared.hand.Hand.{Hand}
 use Rattle.vd_models.specs.declared.hand.Hand.TheVariants as hand
 use Rattle.vd_models.specs.GuestStages.{BegunIs, ArmedIs, OpIs, is_done, idle_owes, collect_owes, owes, offered_stage, collected_stage}
-use Rattle.vd_models.specs.Hands.{HandIs, IsInHand, IsNoOffer, IsTurnToCollect, hand_owes, offer_owes}
+use Rattle.vd_models.specs.Hands.{HandIs, IsInHand, IsNoOffer, IsOffering, IsTurnToCollect, hand_owes, offer_owes}
 use Rattle.vd_models.specs.Driving.{Driven, Drives, DriveOpens, IsDriveTurn, IsSent, command_next, next_of, owes_at, scripted}
 use Rattle.vd_models.proofs.GuestGoing.{at_offer, at_collect, unarming, armed_none, idle_small, collect_small, published_owes, published_op, published_not}
 use Rattle.vd_models.proofs.Lists.{prefix_same, prefix_push}
 use Rattle.vd_models.proofs.Drives.{not_woken, no_sleep, live_less, less_live, done_is, free_at, all_back, owes_free}
-use Rattle.vd_models.proofs.Offering.{next_is_command, scripted_commands}
+use Rattle.vd_models.specs.laws.Scripted.{next_is_command, scripted_commands}
 use Rattle.vd_models.proofs.GuestPassing.{put, offered_begun, offered_live, collected_begun, collected_awake, no_offer_published}
 use Rattle.vd_models.proofs.Sends.{sent_stored, sent_loaded, sent_collected, sent_offered, acked_stored, acked_offered, acked_collected, acked_loaded, hand_first, hand_both, used_last}
 
@@ -65,6 +66,16 @@ turn_unarmed stage.Collecting b d a h x = x
 turn_unarmed stage.Arming b d a h x = absurd h
 turn_unarmed stage.Hearing b d a h x = absurd h
 turn_unarmed stage.Done b d a h x = absurd h
+
+owed_free : {D : Type 0} (d : DriverModel D) (x : Driven D) (v : DriverView) → x.hand ≡ hand.Free → d.begun x.end ≡ DriverOp.idle
+    → x.stage ≡ stage.Offering → 40 ≤ owes_at d x v
+owed_free d x v free idle offering = omega (
+  arith,
+  first_owed v.shown,
+  owes_free x.hand (d.begun x.end) (d.left x.end) (owes x.stage (d.begun x.end) v.doing v.shown (d.left x.end)) free,
+  ap (λ b. owes x.stage b v.doing v.shown (d.left x.end)) idle,
+  ap (λ (st : GuestStage). idle_owes st v.shown) offering,
+)
 
 module _ {P D : Type 0} {port : PortModel P} {d : DriverModel D} {l : LayoutModel} (law : IsLawfulDriver d) (from : Driven D) {p q : P}
     {v : DriverView} where
@@ -152,20 +163,10 @@ module _ {P D : Type 0} {port : PortModel P} {d : DriverModel D} {l : LayoutMode
         owed (d.begun from.end) idle (d.left from.end) (owes from.stage (d.begun from.end) v.doing v.shown (d.left from.end)),
       ))
 
-  owed_free : from.hand ≡ hand.Free → d.begun from.end ≡ DriverOp.idle → from.stage ≡ stage.Offering → 40 ≤ owes_at d from v
-  owed_free free idle offering = omega (
-    arith,
-    first_owed v.shown,
-    owes_free from.hand (d.begun from.end) (d.left from.end)
-        (owes from.stage (d.begun from.end) v.doing v.shown (d.left from.end)) free,
-    ap (λ b. owes from.stage b v.doing v.shown (d.left from.end)) idle,
-    ap (λ (st : GuestStage). idle_owes st v.shown) offering,
-  )
-
   -- the store of the first word
   pub first_at : (opens : DriveOpens d l from v) (x r place : ℕ) → d.begun from.end ≡ DriverOp.idle → from.stage ≡ stage.Offering
       → from.hand ≡ hand.Free → HasCommands from.script
-      → (h : IsInHand d.words from.script v.frame v.done 0) → x ≡ Rattle.vd_commands.specs.Words.command_word h.bytes 0
+      → (h : IsInHand d.words from.script v.frame v.done 0) → x ≡ command_word h.bytes 0
       → (s : StoresCommand v.frame (d.words.command v.frame) v.done place) → s.half ≡ 0
       → port.moves p op.Control (Store place x) r q
       → IsDriveTurn port d l p q v from (put from.end from.script from.at from.offered from.returned from.stage hand.First) Worked
@@ -179,11 +180,11 @@ module _ {P D : Type 0} {port : PortModel P} {d : DriverModel D} {l : LayoutMode
         held = subst (λ i. IsInHand d.words from.script v.frame (StoreCommand (next_head v.frame v.done) i x ∷ v.done) 1) (sym zero)
             (hand_first d.words from.script v.frame v.done x h word);
       }, idle)
-      (λ b e k m. refl) (owed_free free idle offering)
+      (λ b e k m. refl) (owed_free d from v free idle offering)
 
   -- and of the second
   pub second_at : (opens : DriveOpens d l from v) (x r place : ℕ) → from.hand ≡ hand.First
-      → (h : IsInHand d.words from.script v.frame v.done 1) → x ≡ Rattle.vd_commands.specs.Words.command_word h.bytes 1
+      → (h : IsInHand d.words from.script v.frame v.done 1) → x ≡ command_word h.bytes 1
       → (s : StoresCommand v.frame (d.words.command v.frame) v.done place) → s.half ≡ 1
       → port.moves p op.Control (Store place x) r q
       → IsDriveTurn port d l p q v from (put from.end from.script from.at from.offered from.returned from.stage hand.Both) Worked
@@ -197,7 +198,7 @@ module _ {P D : Type 0} {port : PortModel P} {d : DriverModel D} {l : LayoutMode
         stage = held.0.stage;
         held = subst (λ i. IsInHand d.words from.script v.frame (StoreCommand (next_head v.frame v.done) i x ∷ v.done) 2) (sym one)
             (hand_both d.words from.script v.frame v.done x h word);
-      }, subst (λ b. Rattle.vd_models.specs.Hands.IsOffering b) (sym held.1) tt)
+      }, subst (λ b. IsOffering b) (sym held.1) tt)
       (λ b e k m. ap (λ z. offer_owes z k) e)
       (omega (
         arith,

@@ -151,7 +151,7 @@ fn begin_command<L: Layout>(end: &mut L::Driver, loaded: &Loaded)
 
 /// Begins the offer of the next chain or command where it has room, and else a collect. A command's words are stored before.
 fn begin_next<L: Layout>(end: &mut L::Driver, loaded: &Loaded)
-    requires { CanBegin L.Driver.driver L.layout (drive end.old loaded.now) }
+    requires can { CanBegin L.Driver.driver L.layout (drive end.old loaded.now) }
     requires idle { L.Driver.driver.begun end.old ≡ DriverOp.idle }
     requires stage { IsTurnToOffer loaded.now.stage }
     ensures busy { ¬ (L.Driver.driver.begun end.new ≡ DriverOp.idle) }

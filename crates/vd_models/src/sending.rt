@@ -2,6 +2,8 @@
 ghost use Rattle.std.specs.Prelude.{◌≡◌, slice_get};
 ghost use Rattle.std.specs.Option.{option_copied};
 ghost use Rattle.vd_ring.specs.declared.driver.DriverView.{DriverView};
+ghost use Rattle.vd_layout.specs.Begun.{DriverOp};
+ghost use Rattle.vd_models.specs.declared.driving.GuestStage.TheVariants.{Offering};
 ghost use Rattle.vd_models.specs.declared.hand.Hand.TheVariants.{First};
 ghost use Rattle.vd_models.specs.Driving.{DriveOpens, IsKept, IsPlan, drive};
 ghost use Rattle.vd_models.specs.Sending.{CanControl, FirstIs, StoresSecond, IsDue, MakesControlTurn};
@@ -28,20 +30,30 @@ pub(crate) fn next_command(loaded: &Loaded) -> Option<&ArrayVec<u8, 10>>
     }
 }
 
+/// The store of the next command's first word, where one is left and has room.
+fn room_store<L: Layout>(end: &L::Driver, loaded: &Loaded) -> Option<Access>
+    requires idle { L.Driver.driver.begun end.now ≡ DriverOp.idle }
+    requires offering { loaded.now.stage ≡ Offering }
+    requires opens { (v : DriverView) × DriveOpens L.Driver.driver L.layout (drive end.now loaded.now) v }
+    ensures { (v : DriverView) → DriveOpens L.Driver.driver L.layout (drive end.now loaded.now) v
+        → FirstIs L.Driver.driver (drive end.now loaded.now) v result }
+{
+    match next_command(loaded) {
+        Some(command) if end.room(&control_chain(0, 0, command.len())) => {
+            Some(command_store::<L>(end, command.as_slice(), false))
+        }
+        _ => None,
+    }
+}
+
 /// The store of the next command's first word, where an offer comes next and has room.
 fn first_store<L: Layout>(end: &L::Driver, loaded: &Loaded) -> Option<Access>
     requires { (v : DriverView) × DriveOpens L.Driver.driver L.layout (drive end.now loaded.now) v }
     ensures { (v : DriverView) → DriveOpens L.Driver.driver L.layout (drive end.now loaded.now) v
         → FirstIs L.Driver.driver (drive end.now loaded.now) v result }
 {
-    let offering = matches!(loaded.stage, GuestStage::Offering);
-    if !end.idle() || !offering {
-        return None;
-    }
-    match next_command(loaded) {
-        Some(command) if end.room(&control_chain(0, 0, command.len())) => {
-            Some(command_store::<L>(end, command.as_slice(), false))
-        }
+    match loaded.stage {
+        GuestStage::Offering if end.idle() => room_store::<L>(end, loaded),
         _ => None,
     }
 }
