@@ -1,5 +1,5 @@
 -- What a guest is, as one record, and what each of its calls does.
-use Rattle.std.specs.Prelude.{◌≡◌, ◌↔◌, ℕ, ◌+◌, true, false, Option, Some, None, IsSome, List, [], length, map, slice_get}
+use Rattle.std.specs.Prelude.{◌≡◌, ◌↔◌, ℕ, ◌+◌, false, Option, Some, None, IsSome, List, [], length, map, slice_get}
 use Rattle.std.specs.List.{All}
 use mathlib.Core.List.{IsPrefix}
 use Rattle.vd_model.specs.declared.chain.Piece.{Piece}
@@ -20,7 +20,9 @@ use Rattle.vd_layout.specs.Begun.{DriverOp}
 use Rattle.vd_layout.specs.declared.moves.Move.{Move}
 use Rattle.vd_layout.specs.declared.moves.Move.TheVariants as move
 use Rattle.vd_layout.specs.Driver.{DriverModel, HasRoom}
+use Rattle.vd_layout.specs.Layout.{LayoutModel}
 use Rattle.vd_bus.specs.Acts.{IsOneActMore}
+use Rattle.vd_bus.specs.GuestCommands.{HasCommands, HasSent, AreAcked, HasSentAll, CannotSend, CanSend}
 use Rattle.vd_bus.specs.Pace.{KeepsPace, raised, worked}
 use Rattle.vd_bus.specs.Scripts.{chains}
 
@@ -68,6 +70,14 @@ pub record IsLawfulGuestParty {D X : Type 0} (d : DriverModel D) (m : GuestParty
   -- it is armed only where it can't offer
   pub armed : (x : X) (v : DriverView) (s : Script) (at : ℕ) → m.holds x v → m.script x ≡ Some s → s.commands ≡ [] → v.armed ≡ Some at
       → CannotOffer s v
+  -- the same of a script with commands: they are offered in order, each once, and what was collected is in the list, with its ack
+  pub sent : (x : X) (v : DriverView) (s : Script) → m.holds x v → m.script x ≡ Some s → HasCommands s → HasSent d.words s v.frame v.done
+  pub acked : (x : X) (v : DriverView) (s : Script) → m.holds x v → m.script x ≡ Some s → HasCommands s → AreAcked v.done (m.returned x)
+  -- it is done exactly where all came back with their acks and its end is idle
+  pub sent_all : (x : X) (v : DriverView) (s : Script) → m.holds x v → m.script x ≡ Some s → HasCommands s
+      → m.is_done x ↔ HasSentAll s v (m.returned x)
+  pub sleeps : (x : X) (v : DriverView) (s : Script) (at : ℕ) → m.holds x v → m.script x ≡ Some s → HasCommands s → v.armed ≡ Some at
+      → CannotSend d.words s v.frame v.done
   pub pace : (x : X) → KeepsPace (m.accesses x) (m.heard x) (m.offered x + length (m.returned x) + m.heard x + 1)
 
 -- it holds no end
@@ -75,17 +85,17 @@ abbrev pub HoldsNone : {X : Type 0} → GuestParty X → X → Type 0
 HoldsNone m x = (v : DriverView) → m.holds x v → ⊥
 
 -- a fresh end's view with which a guest of this script can be booted
-pub record CanBoot (s : Script) (v : DriverView) : Type 0 where
+pub record CanBoot (l : LayoutModel) (s : Script) (v : DriverView) : Type 0 where
   pub fresh : v.done ≡ []
   pub unarmed : v.armed ≡ None
   pub fits : All (Fits v.frame) (chains s)
   -- commands go to a control ring, chains to another ring
   pub other : (s.runs ≡ [] → ⊥) → v.frame.control ≡ false
-  pub control : (s.commands ≡ [] → ⊥) → v.frame.control ≡ true
+  pub sends : HasCommands s → CanSend l s v.frame
 
 -- the guest holds the end
-pub record IsBoot {D X : Type 0} (d : DriverModel D) (m : GuestParty X) (end : D) (x y : X) : Type 0 where
-  pub holds : (v : DriverView) (s : Script) → m.script x ≡ Some s → d.stands end v → CanBoot s v → m.holds y v
+pub record IsBoot {D X : Type 0} (d : DriverModel D) (l : LayoutModel) (m : GuestParty X) (end : D) (x y : X) : Type 0 where
+  pub holds : (v : DriverView) (s : Script) → m.script x ≡ Some s → d.stands end v → CanBoot l s v → m.holds y v
   pub script : m.script y ≡ m.script x
   pub offered : m.offered y ≡ m.offered x
   pub returned : m.returned y ≡ m.returned x

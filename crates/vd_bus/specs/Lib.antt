@@ -2,6 +2,7 @@ pub mod Orders
 pub mod Entries
 pub mod Device
 pub mod Scripts
+pub mod GuestCommands
 pub mod Guest
 pub mod Pace
 pub mod Acts

@@ -11,7 +11,8 @@ use vd_model::{Return, Script};
 use vd_words::Port;
 
 /// A guest of a queue: from `boot` to `halt` it holds a ring's driver end, offers the chains of its script in order, and
-/// keeps what comes back.
+/// keeps what comes back. Of a script with commands it offers those, on a control ring: before each offer it stores the command's
+/// bytes, filled up with zeros, in the two command words of the next head, and after each collect it loads the ack.
 pub trait Guest<L: Layout>: Drop {
     ghost party: { GuestParty Self };
 
@@ -26,12 +27,12 @@ pub trait Guest<L: Layout>: Drop {
         ensures counts { (party.accesses self.new ≡ party.accesses self.old) × (party.heard self.new ≡ party.heard self.old) }
         ensures free { HoldsNone party self.new };
 
-    /// Takes over the driver's end of a fresh ring.
+    /// Takes over the driver's end of a fresh ring: of a control ring where the script has commands.
     fn boot(&mut self, end: L::Driver)
         requires loaded { party.is_loaded self.old }
         requires unused { (party.offered self.old ≡ 0) × (party.returned self.old ≡ []) }
         requires idle { L.Driver.driver.begun end ≡ DriverOp.idle }
-        ensures { IsBoot L.Driver.driver party end self.old self.new };
+        ensures { IsBoot L.Driver.driver L.layout party end self.old self.new };
 
     /// Makes one access of the ring's words.
     fn step<P: Port>(&mut self, port: &mut P) -> Move
@@ -39,7 +40,7 @@ pub trait Guest<L: Layout>: Drop {
         requires own { OwnsAsGuest P.port L.Driver.driver party port.old self.old }
         ensures { MakesGuestAccess P.port L.Driver.driver party port.old port.new self.old self.new result };
 
-    /// Whether all chains of the script were offered and returned, and the end is idle.
+    /// Whether all chains of the script, or all commands, were offered and returned, and the end is idle.
     fn done(&self) -> bool
         ensures { IsTrue result ↔ party.is_done self.now };
 
@@ -49,7 +50,7 @@ pub trait Guest<L: Layout>: Drop {
         requires held { (v : DriverView) × party.holds self.old v }
         ensures { IsHalt L.Driver.driver party self.old self.new result };
 
-    /// How many chains were offered.
+    /// How many chains or commands were offered.
     fn offered(&self) -> u32
         ensures { result ≡ party.offered self.now };
 

@@ -150,7 +150,7 @@ armed_none stage.Arming DriverOp.disarm d armed x y none = none
 
 -- ---- what it owes
 
-pub idle_small : (st : GuestStage) (shown : Bool) → idle_owes st shown ≤ 43
+pub idle_small : (st : GuestStage) (shown : Bool) → idle_owes st shown ≤ 45
 idle_small stage.Offering true = omega arith
 idle_small stage.Offering false = omega arith
 idle_small stage.Collecting shown = omega arith
@@ -158,11 +158,11 @@ idle_small stage.Arming shown = omega arith
 idle_small stage.Hearing shown = omega arith
 idle_small stage.Done shown = omega arith
 
-pub offering_small : (shown : Bool) → idle_owes stage.Offering shown ≤ 42
+pub offering_small : (shown : Bool) → idle_owes stage.Offering shown ≤ 44
 offering_small true = omega arith
 offering_small false = omega arith
 
-pub collect_small : (st : GuestStage) (shown : Bool) (n : ℕ) → n ≤ 3 → n ≤ collect_owes st shown n
+pub collect_small : (st : GuestStage) (shown : Bool) (n : ℕ) → n ≤ 3 → n + 1 ≤ collect_owes st shown n
 collect_small st true n few = omega arith
 collect_small stage.Offering false n few = omega arith
 collect_small stage.Collecting false n few = omega arith
@@ -171,9 +171,9 @@ collect_small stage.Hearing false n few = omega arith
 collect_small stage.Done false n few = omega arith
 
 pub published_owes : (st : GuestStage) (b : DriverOp) (d : DriverNow) (shown : Bool) (n : ℕ) → DriverPublished b
-    → owes st b d shown n ≤ n + 43
-published_owes st b d shown n (inl e) = subst (λ o. owes st o d shown n ≤ n + 43) (sym e) (omega (arith, idle_small st shown))
-published_owes st b d shown n (inr e) = subst (λ o. owes st o d shown n ≤ n + 43) (sym e) (omega arith)
+    → owes st b d shown n ≤ n + 45
+published_owes st b d shown n (inl e) = subst (λ o. owes st o d shown n ≤ n + 45) (sym e) (omega (arith, idle_small st shown))
+published_owes st b d shown n (inr e) = subst (λ o. owes st o d shown n ≤ n + 45) (sym e) (omega arith)
 
 pub published_op : (b : DriverOp) (d : DriverNow) (shown : Bool) (left : ℕ) → DriverPublished b → OpIs b d shown left
 published_op b d shown left (inl e) = subst (λ z. OpIs z d shown left) (sym e) tt
@@ -219,7 +219,7 @@ module _ (st : GuestStage) (next : Option (List Piece)) (f : Frame) (os : List D
       }
 
   arming : BegunIs st DriverOp.arm next f os → o ≡ op.Arm → ArmedIs st DriverOp.arm v.doing v.armed → left' < left → Goes o v w
-      → Went st DriverOp.arm w left' (left + 38)
+      → Went st DriverOp.arm w left' (left + 40)
   arming h of a less g =
       let is = (at_arm next f os st h).0 in
       let b : ArmedIs stage.Arming DriverOp.arm v.doing v.armed = subst (λ (s : GuestStage). ArmedIs s DriverOp.arm v.doing v.armed) is a in
@@ -256,7 +256,7 @@ module _ (st : GuestStage) (next : Option (List Piece)) (f : Frame) (os : List D
       → Went st b' w left' (owes st b v.doing v.shown left)
   went DriverOp.collect b' h of a i goes less g = same_op st DriverOp.collect b' w left' (collect_owes st v.shown left) goes
       (collecting h of a i less g)
-  went DriverOp.arm b' h of a i goes less g = same_op st DriverOp.arm b' w left' (left + 38) goes (arming h of a less g)
+  went DriverOp.arm b' h of a i goes less g = same_op st DriverOp.arm b' w left' (left + 40) goes (arming h of a less g)
   went DriverOp.hear b' h of a i goes less g = same_op st DriverOp.hear b' w left' (hear_owes v.doing) goes (hearing h of a g)
   went (DriverOp.offer c) b' h of a i goes less g =
       let u = unarming st (DriverOp.offer c) v.doing next f os o v.armed (λ z. cc z) (λ z. cc z) h of a in

@@ -10,7 +10,12 @@ pub mod Scripts
 pub mod GuestGoing
 pub mod Drives
 pub mod Offering
+pub mod Begins
 pub mod GuestSleeps
 pub mod GuestPassing
+pub mod Sends
+pub mod SendTurns
+pub mod SendPlaces
+pub mod SendAccess
 pub mod GuestParties
 pub mod Faults

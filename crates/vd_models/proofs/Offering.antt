@@ -1,5 +1,5 @@
 -- The next chain of a script, and the begin of its offer.
-use Rattle.std.proofs.Common.{◌≡◌, ℕ, zero, suc, ◌+◌, ◌-◌, ◌<◌, ◌≤◌, Bool, true, false, Some, None, List, [], ◌∷◌, ◌++◌, length, take, drop, slice_get, slice_index_or, refl, sym, ◌∙◌, ap, subst, arith}
+use Rattle.std.proofs.Common.{◌≡◌, ℕ, zero, suc, ◌+◌, ◌-◌, ◌<◌, ◌≤◌, Bool, true, false, Option, Some, None, List, [], ◌∷◌, ◌++◌, length, take, drop, slice_get, slice_index_or, refl, sym, ◌∙◌, ap, subst, arith}
 use Rattle.std.proofs.lemmas.List.{length-drop, length-take-le, drop_more, take_more}
 use Rattle.std.proofs.lemmas.List.Sums.{sum_by-cons}
 use Rattle.vd_model.specs.declared.chain.Piece.{Piece}
@@ -8,17 +8,22 @@ use Rattle.vd_model.specs.declared.record.Script.{Script}
 use Rattle.vd_ring.specs.declared.driver.DriverView.{DriverView}
 use Rattle.vd_ring.specs.declared.frame.Frame.{Frame}
 use Rattle.vd_ring.specs.Frames.{Fits, limit}
-use Rattle.vd_layout.specs.Begun.{DriverOp}
+use Rattle.vd_ring.specs.declared.driver.DriverDone.{DriverDone}
+use Rattle.vd_layout.specs.Control.{ControlWords}
 use Rattle.vd_layout.specs.Driver.{DriverModel, HasRoom, MayOffer}
+use Rattle.vd_layout.specs.Layout.{LayoutModel}
+use Rattle.vd_bus.specs.GuestCommands.{HasCommands}
 use Rattle.vd_bus.specs.Scripts.{chains, run_chains, run_count}
 use Rattle.vd_models.specs.declared.cursor.Cursor.{Cursor}
 use Rattle.vd_models.specs.declared.driving.GuestStage.{GuestStage}
 use Rattle.vd_models.specs.declared.driving.GuestStage.TheVariants as stage
 use Rattle.vd_models.specs.Cursors.{left_at, left_of, next_at, IsSettled, HasFirst}
-use Rattle.vd_models.specs.GuestStages.{BegunIs, ArmedIs, OpIs, is_done, idle_owes, owes}
-use Rattle.vd_models.specs.Driving.{Driven, Drives, DriveOpens, BeginsDrive}
+use Rattle.vd_models.specs.GuestStages.{BegunIs, ArmedIs, OpIs, is_done, idle_owes}
+use Rattle.vd_models.specs.Hands.{HandIs, IsTurnToOffer}
+use Rattle.vd_models.specs.Driving.{Driven, Drives, DriveOpens, BeginsDrive, by_commands, command_next, next_of, owes_at, scripted}
 use Rattle.vd_models.proofs.Scripts.{next_left, chains_count}
 use Rattle.vd_models.proofs.Drives.{to}
+use Rattle.vd_models.specs.laws.Scripted.{commands_or, scripted_chains}
 
 count_drop : (runs : List Run) (n : ℕ) → run_count (drop n runs) ≤ run_count runs
 count_drop runs zero = omega arith
@@ -56,14 +61,14 @@ next_chain s at offered c settled left is =
       left = drop_more (chains s) offered c more ∙ ap (λ x. x ∷ drop (offered + 1) (chains s)) same;
     }
 
-limit_least : (f : Frame) → 4000000000 ≤ limit f
+pub limit_least : (f : Frame) → 4000000000 ≤ limit f
 limit_least f = at (Rattle.std.proofs.Common.nat_lt f.ring 16)
   where
     at : (b : Bool) → 4000000000 ≤ (Rattle.std.specs.Prelude.if◌then◌else◌ b 4000000000 4294967295)
     at true = omega arith
     at false = omega arith
 
-some_runs : (s : Script) (at : Cursor) (c : List Piece) → next_at s.runs at ≡ Some c → s.runs ≡ [] → ⊥
+pub some_runs : (s : Script) (at : Cursor) (c : List Piece) → next_at s.runs at ≡ Some c → s.runs ≡ [] → ⊥
 some_runs s at c is none = absurd (let gone : next_at s.runs at ≡ None = ap
     (λ (rs : List Run). slice_get (left_of (drop at.run rs) at.used) 0) none ∙ empty at.run in cc)
   where
@@ -71,69 +76,70 @@ some_runs s at c is none = absurd (let gone : next_at s.runs at ≡ None = ap
     empty zero = refl
     empty (suc n) = refl
 
-module _ {D : Type 0} (d : DriverModel D) where
-  pub may_offer : (x : Driven D) (v : DriverView) (c : List Piece) → Drives d x v → next_at x.script.runs x.at ≡ Some c
-      → HasRoom v.frame v.done c → MayOffer d.words v c
-  may_offer x v c h is room =
-      let n = next_chain x.script x.at x.offered c h.settled h.left is in
+module _ {D : Type 0} (d : DriverModel D) (l : LayoutModel) where
+  pub may_offer : (x : Driven D) (v : DriverView) (c : List Piece) → Drives d l x v → x.script.commands ≡ []
+      → next_at x.script.runs x.at ≡ Some c → HasRoom v.frame v.done c → MayOffer d.words v c
+  may_offer x v c h none is room =
+      let y = h.chained none in
+      let n = next_chain x.script x.at x.offered c h.settled y.left is in
       record {
-        fits = subst (λ (z : List Piece). Fits v.frame z) n.is (h.fits x.offered c n.more);
+        fits = subst (λ (z : List Piece). Fits v.frame z) n.is (y.fits x.offered c n.more);
         room = room;
-        limited = omega (arith, ap length h.offers, length-take-le x.offered (chains x.script) h.some, n.more, h.few, limit_least v.frame);
-        control = λ t. absurd (let no : v.frame.control ≡ false = h.control (some_runs x.script x.at c is) in cc);
+        limited = omega (
+          arith,
+          ap length y.offers,
+          length-take-le x.offered (chains x.script) y.some,
+          n.more,
+          h.few,
+          scripted_chains x.script none,
+          limit_least v.frame,
+        );
+        control = λ t. absurd (let no : v.frame.control ≡ false = y.control (some_runs x.script x.at c is) in cc);
       }
 
-offering_is : (st : GuestStage) → (st ≡ stage.Collecting → ⊥) → (st ≡ stage.Arming → ⊥) → (st ≡ stage.Hearing → ⊥) → is_done st ≡ false
-    → st ≡ stage.Offering
-offering_is stage.Offering a b c live = refl
-offering_is stage.Collecting a b c live = absurd (a refl)
-offering_is stage.Arming a b c live = absurd (b refl)
-offering_is stage.Hearing a b c live = absurd (c refl)
-offering_is stage.Done a b c live = absurd (cc live)
-
-offer_small : (shown : Bool) → 38 ≤ idle_owes stage.Offering shown
+pub offer_small : (shown : Bool) → 38 ≤ idle_owes stage.Offering shown
 offer_small true = omega arith
 offer_small false = omega arith
 
--- an offer is begun
-pub begins_offer : {D : Type 0} (d : DriverModel D) (x : Driven D) (e : D) (v : DriverView) (c : List Piece) → DriveOpens d x v
-    → d.begun x.end ≡ DriverOp.idle
-    → (x.stage ≡ stage.Collecting → ⊥) → (x.stage ≡ stage.Arming → ⊥) → (x.stage ≡ stage.Hearing → ⊥)
-    → next_at x.script.runs x.at ≡ Some c → d.begun e ≡ DriverOp.offer c → d.stands e v → d.left e ≤ 38
-    → BeginsDrive d v x (to x e x.stage)
-begins_offer d x e v c h idle one two three next begun stands few =
-    let is = offering_is x.stage one two three h.live in
+-- a script with a next chain is one of chains
+pub chains_by : {D : Type 0} (d : DriverModel D) (l : LayoutModel) (x : Driven D) (v : DriverView) (c : List Piece) → DriveOpens d l x v
+    → next_at x.script.runs x.at ≡ Some c → x.script.commands ≡ []
+chains_by d l x v c opens next = commands_or x.script (λ none. none)
+    (λ some. absurd (some_runs x.script x.at c next (opens.drives.sent some).plain))
+
+-- the stage at which a guest offers, where it isn't done
+pub offers_at : (st : GuestStage) → IsTurnToOffer st → is_done st ≡ false → st ≡ stage.Offering
+offers_at stage.Offering turn live = refl
+offers_at stage.Collecting turn live = absurd turn
+offers_at stage.Arming turn live = absurd turn
+offers_at stage.Hearing turn live = absurd turn
+offers_at stage.Done turn live = absurd (cc live)
+
+-- an operation is begun, at a stage that goes with it
+pub begins : {D : Type 0} (d : DriverModel D) (l : LayoutModel) (x : Driven D) (e : D) (v : DriverView) → DriveOpens d l x v
+    → d.stands e v
+    → HandIs d.words x.script x.returned v.frame v.done x.stage (d.begun e) x.hand
+    → BegunIs x.stage (d.begun e) (next_of d.words x.script x.at v.frame v.done) v.frame v.done
+    → ArmedIs x.stage (d.begun e) v.doing v.armed → OpIs (d.begun e) v.doing v.shown (d.left e)
+    → owes_at d (to x e x.stage) v ≤ owes_at d x v → BeginsDrive d l v x (to x e x.stage)
+begins d l x e v h stands held begun armed op owes =
     let y = h.drives in
-    let here : ArmedIs stage.Offering DriverOp.idle v.doing v.armed = subst (λ o. ArmedIs stage.Offering o v.doing v.armed) idle (subst
-    (λ (z : GuestStage). ArmedIs z (d.begun x.end) v.doing v.armed) is y.armed) in
     record {
       opens = record {
         drives = record {
           stands = stands;
           settled = y.settled;
-          left = y.left;
-          offers = y.offers;
-          some = y.some;
-          returned = y.returned;
+          chained = y.chained;
+          sent = y.sent;
+          held = held;
           count = y.count;
-          begun = subst (λ (z : GuestStage). BegunIs z (d.begun e) (next_at x.script.runs x.at) v.frame v.done) (sym is) (subst
-              (λ o. BegunIs stage.Offering o (next_at x.script.runs x.at) v.frame v.done) (sym begun) next);
+          begun = begun;
           done = y.done;
-          armed = subst (λ (z : GuestStage). ArmedIs z (d.begun e) v.doing v.armed) (sym is) here;
-          op = subst (λ o. OpIs o v.doing v.shown (d.left e)) (sym begun) tt;
+          armed = armed;
+          op = op;
           few = y.few;
-          fits = y.fits;
-          control = y.control;
         };
         live = h.live;
       };
-      owes = omega (
-        arith,
-        few,
-        offer_small v.shown,
-        ap (λ (z : GuestStage). idle_owes z v.shown) is,
-        ap
-            (λ o. owes x.stage o v.doing v.shown (d.left e)) begun,
-        ap (λ o. owes x.stage o v.doing v.shown (d.left x.end)) idle,
-      );
+      owes = owes;
     }

@@ -1,5 +1,5 @@
 -- The stages of a model guest, what holds at each while an operation is in progress, and how many accesses it may make until the next
--- chain is offered or collected, or the next bell is heard.
+-- chain is offered or collected, or the next bell is heard, with nothing in hand.
 use Rattle.std.specs.Prelude.{◌≡◌, ◌⊎◌, ℕ, ◌+◌, ◌<◌, ◌≤◌, ◌==◌, Bool, true, false, Option, Some, None, List, if◌then◌else◌}
 use Rattle.vd_model.specs.declared.chain.Piece.{Piece}
 use Rattle.vd_words.specs.declared.access.Op.TheVariants as op
@@ -85,10 +85,10 @@ waking_turn _ = Worked
 -- ---- how many accesses it may make, sleepers' looks left out
 
 abbrev pub idle_owes : GuestStage → Bool → ℕ
-idle_owes stage.Offering true = 38
-idle_owes stage.Offering false = 42
-idle_owes stage.Collecting shown = 43
-idle_owes stage.Arming shown = 41
+idle_owes stage.Offering true = 40
+idle_owes stage.Offering false = 44
+idle_owes stage.Collecting shown = 45
+idle_owes stage.Arming shown = 43
 idle_owes stage.Hearing shown = 2
 idle_owes stage.Done shown = 0
 
@@ -97,14 +97,14 @@ hear_owes now.Idle = 2
 hear_owes _ = 1
 
 abbrev pub collect_owes : GuestStage → Bool → ℕ → ℕ
-collect_owes st true left = left
-collect_owes stage.Collecting false left = 43
-collect_owes _ false left = 42
+collect_owes st true left = left + 1
+collect_owes stage.Collecting false left = 45
+collect_owes _ false left = 44
 
 abbrev pub owes : GuestStage → DriverOp → DriverNow → Bool → ℕ → ℕ
 owes st DriverOp.idle d shown left = idle_owes st shown
 owes st DriverOp.collect d shown left = collect_owes st shown left
-owes st DriverOp.arm d shown left = left + 38
+owes st DriverOp.arm d shown left = left + 40
 owes st DriverOp.hear d shown left = hear_owes d
-owes st DriverOp.signal d shown left = left + 43
+owes st DriverOp.signal d shown left = left + 45
 owes st _ d shown left = left

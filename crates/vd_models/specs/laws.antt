@@ -1,3 +1,4 @@
+pub mod Scripted
 pub mod GuestLaws
 pub mod Laws
 pub mod Pairs

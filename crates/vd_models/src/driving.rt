@@ -4,11 +4,17 @@ ghost use Rattle.std.specs.Option.{option_copied};
 ghost use Rattle.vd_model.specs.declared.record.Return.{Return};
 ghost use Rattle.vd_ring.specs.declared.driver.DriverView.{DriverView};
 ghost use Rattle.vd_layout.specs.Begun.{DriverOp};
+ghost use Rattle.vd_models.specs.declared.hand.Hand.TheVariants.{Both};
 ghost use Rattle.vd_models.specs.GuestStages.{is_done, offered_stage, woken_stage, none_stage, waking_turn};
-ghost use Rattle.vd_models.specs.Driving.{DriveOpens, Begins, CanDrive, MakesDriveTurn, IsKept, IsPlan, drive, loaded_of};
+ghost use Rattle.vd_models.specs.Hands.{IsTurnToOffer};
+ghost use Rattle.vd_models.specs.Driving.{DriveOpens, CanDrive, MakesDriveTurn, IsKept, IsPlan, drive, loaded_of};
+ghost use Rattle.vd_models.specs.Sending.{Begins, CanTurn, CanBegin, MakesTurn};
 
 use crate::counts::Turn;
 use crate::cursor::{Cursor, next_chain, settle};
+use crate::hand::Hand;
+use crate::sending::{control, control_access, next_command};
+use crate::sent::command_chain;
 use vd_layout::{DriverAct, DriverEnd, Layout};
 use vd_model::{Return, Script};
 use vd_words::Port;
@@ -37,12 +43,13 @@ impl GuestStage {
 #[derive(Drop)]
 pub struct Loaded {
     pub script: Script,
-    /// How many chains the script has.
+    /// How many chains or commands the script has.
     pub total: u32,
     pub at: Cursor,
     pub offered: u32,
     pub returned: Vec<Return>,
     pub stage: GuestStage,
+    pub hand: Hand,
 }
 
 /// From its boot to its halt: the end that the guest holds, and its script.
@@ -75,7 +82,7 @@ impl<D> GuestPhase<D> {
 }
 
 /// Appends what came back, into the room that is there.
-fn keep(list: &mut Vec<Return>, item: Return)
+pub(crate) fn keep(list: &mut Vec<Return>, item: Return)
     requires { vec_len list.old < vec_capacity list.old }
     ensures items { list.new.items ≡ list.old.items ++ item ∷ [] }
     ensures room { vec_capacity list.old ≤ vec_capacity list.new }
@@ -127,66 +134,106 @@ fn waking(stage: GuestStage) -> Turn
     }
 }
 
+/// Begins the offer of the command whose words are stored.
+fn begin_command<L: Layout>(end: &mut L::Driver, loaded: &Loaded)
+    requires can { CanBegin L.Driver.driver L.layout (drive end.old loaded.now) }
+    requires idle { L.Driver.driver.begun end.old ≡ DriverOp.idle }
+    requires both { loaded.now.hand ≡ Both }
+    ensures busy { ¬ (L.Driver.driver.begun end.new ≡ DriverOp.idle) }
+    ensures next { Begins L.Driver.driver L.layout (drive end.old loaded.now) (drive end.new loaded.now) }
+{
+    let Some(command) = next_command(loaded) else {
+        unreachable!()
+    };
+    let chain = command_chain::<L>(end, command.len());
+    end.begin_offer(&chain);
+}
+
+/// Begins the offer of the next chain or command where it has room, and else a collect. A command's words are stored before.
+fn begin_next<L: Layout>(end: &mut L::Driver, loaded: &Loaded)
+    requires can { CanBegin L.Driver.driver L.layout (drive end.old loaded.now) }
+    requires idle { L.Driver.driver.begun end.old ≡ DriverOp.idle }
+    requires stage { IsTurnToOffer loaded.now.stage }
+    ensures busy { ¬ (L.Driver.driver.begun end.new ≡ DriverOp.idle) }
+    ensures next { Begins L.Driver.driver L.layout (drive end.old loaded.now) (drive end.new loaded.now) }
+{
+    match loaded.hand {
+        Hand::Both => begin_command::<L>(end, loaded),
+        _ => match next_chain(loaded.script.runs.as_slice(), loaded.at) {
+            Some(chain) if end.room(chain) => end.begin_offer(chain),
+            _ => end.begin_collect(),
+        },
+    }
+}
+
 /// Begins the next operation where none is in progress.
 fn begin_drive<L: Layout>(end: &mut L::Driver, loaded: &Loaded)
-    requires { (v : DriverView) × DriveOpens L.Driver.driver (drive end.old loaded.now) v }
+    requires { CanBegin L.Driver.driver L.layout (drive end.old loaded.now) }
     ensures busy { ¬ (L.Driver.driver.begun end.new ≡ DriverOp.idle) }
-    ensures next { Begins L.Driver.driver (drive end.old loaded.now) (drive end.new loaded.now) }
+    ensures next { Begins L.Driver.driver L.layout (drive end.old loaded.now) (drive end.new loaded.now) }
 {
     if end.idle() {
         match loaded.stage {
             GuestStage::Arming => end.begin_arm(),
             GuestStage::Hearing => end.begin_hear(),
             GuestStage::Collecting => end.begin_collect(),
-            _ => match next_chain(loaded.script.runs.as_slice(), loaded.at) {
-                Some(chain) if end.room(chain) => end.begin_offer(chain),
-                _ => end.begin_collect(),
-            },
+            _ => begin_next::<L>(end, loaded),
         }
     }
 }
 
-/// Makes one access. With `turns` an offer is followed by a turn to collect, until nothing is shown.
-pub(crate) fn drive<L: Layout, P: Port>(
-    booted: &mut Booted<L::Driver>,
+/// Makes one access of an operation, which it begins where none is in progress. With `turns` an offer is followed by a turn to collect,
+/// until nothing is shown.
+fn operate<L: Layout, P: Port>(
+    end: &mut L::Driver,
+    loaded: &mut Loaded,
     turns: bool,
     port: &mut P,
 ) -> Turn
-    requires plan { IsPlan booted.old.loaded }
-    requires own { CanDrive P.port L.Driver.driver port.old (drive booted.old.end booted.old.loaded) }
-    ensures kept { IsKept booted.old.loaded booted.new.loaded }
-    ensures turn { MakesDriveTurn
+    requires plan { IsPlan loaded.old }
+    requires own { CanTurn P.port L.Driver.driver L.layout port.old (drive end.old loaded.old) }
+    ensures kept { IsKept loaded.old loaded.new }
+    ensures turn { MakesTurn
         P.port
         L.Driver.driver
+        L.layout
         port.old
         port.new
-        (drive booted.old.end booted.old.loaded)
-        (drive booted.new.end booted.new.loaded)
+        (drive end.old loaded.old)
+        (drive end.new loaded.new)
         result }
 {
-    let Booted { end, loaded } = booted;
     begin_drive::<L>(end, loaded);
     match end.step(port) {
         DriverAct::Offered(_) => {
             loaded.offered += 1;
-            let next = Cursor {
-                run: loaded.at.run,
-                used: loaded.at.used + 1,
-            };
-            loaded.at = settle(loaded.script.runs.as_slice(), next);
             loaded.stage = after_offer(turns);
+            match loaded.hand {
+                Hand::Both => loaded.hand = Hand::Free,
+                _ => {
+                    let next = Cursor {
+                        run: loaded.at.run,
+                        used: loaded.at.used + 1,
+                    };
+                    loaded.at = settle(loaded.script.runs.as_slice(), next);
+                }
+            }
         }
-        DriverAct::Collected { number, len, .. } => {
-            keep(
-                &mut loaded.returned,
-                Return {
-                    number,
-                    len,
-                    ack: 0,
-                },
-            );
-            if loaded.returned.len() == loaded.total as usize {
-                loaded.stage = GuestStage::Done;
+        DriverAct::Collected { number, len, head } => {
+            if loaded.script.commands.as_slice().is_empty() {
+                keep(
+                    &mut loaded.returned,
+                    Return {
+                        number,
+                        len,
+                        ack: 0,
+                    },
+                );
+                if loaded.returned.len() == loaded.total as usize {
+                    loaded.stage = GuestStage::Done;
+                }
+            } else {
+                loaded.hand = Hand::Ack { number, len, head };
             }
         }
         DriverAct::Nothing => loaded.stage = after_nothing(loaded.stage),
@@ -200,4 +247,30 @@ pub(crate) fn drive<L: Layout, P: Port>(
         DriverAct::Moved => {}
     }
     Turn::Worked
+}
+
+/// Makes one access: of a command or ack word where one comes next, else of an operation.
+pub(crate) fn drive<L: Layout, P: Port>(
+    booted: &mut Booted<L::Driver>,
+    turns: bool,
+    port: &mut P,
+) -> Turn
+    requires plan { IsPlan booted.old.loaded }
+    requires own { CanDrive P.port L.Driver.driver L.layout port.old (drive booted.old.end booted.old.loaded) }
+    ensures kept { IsKept booted.old.loaded booted.new.loaded }
+    ensures turn { MakesDriveTurn
+        P.port
+        L.Driver.driver
+        L.layout
+        port.old
+        port.new
+        (drive booted.old.end booted.old.loaded)
+        (drive booted.new.end booted.new.loaded)
+        result }
+{
+    let Booted { end, loaded } = booted;
+    match control_access::<L>(end, loaded) {
+        Some(access) => control::<L, P>(end, loaded, port, access),
+        None => operate::<L, P>(end, loaded, turns, port),
+    }
 }

@@ -1,14 +1,16 @@
-//! A guest that offers its script while there is room, and else collects; where it can do neither it sleeps.
+//! A guest that offers its script while there is room, and else collects; where it can do neither it sleeps. On a control ring it stores
+//! a command's words before its offer, and loads its ack after it was collected.
 ghost use Rattle.std.specs.Prelude.{◌≡◌, Option, None, true, false};
 ghost use Rattle.vd_models.specs.Unused.{IsUnloaded};
 ghost use Rattle.vd_models.specs.GuestStages.{first_stage};
 ghost use Rattle.vd_models.specs.Driving.{GuestHolds, IsLoaded, IsFresh, Paces, loaded_of, script_of, offered_of, returned_of, is_done_of};
-ghost use Rattle.vd_models.specs.laws.GuestLaws.{unloaded_law, held_law, offered_law, offers_law, returned_law, done_law, finishes_law, armed_law, pace_law};
+ghost use Rattle.vd_models.specs.laws.GuestLaws.{unloaded_law, held_law, offered_law, offers_law, returned_law, done_law, finishes_law, armed_law, sent_law, acked_law, sent_all_law, sleeps_law, pace_law};
 
 use crate::counts::{Counts, move_of};
-use crate::cursor::{Cursor, count, settle};
+use crate::cursor::{Cursor, settle};
 use crate::driving::{Booted, GuestPhase, GuestStage, Loaded, drive};
-use crate::script::copy_script;
+use crate::hand::Hand;
+use crate::script::{copy_script, total};
 use std::alloc::{AllocError, Global};
 use std::mem::replace;
 use vd_bus::Guest;
@@ -16,7 +18,7 @@ use vd_layout::{Layout, Move};
 use vd_model::{Return, Script};
 use vd_words::Port;
 
-/// A guest that offers the next chain of its script where there is room, and else collects. Where it can't offer and no entry
+/// A guest that offers the next chain or command of its script where there is room, and else collects. Where it can't offer and no entry
 /// is there it arms its end, and hears its bell until it wakes.
 #[derive(Drop)]
 pub struct ModelGuest<L: Layout> {
@@ -76,7 +78,7 @@ impl<L: Layout> Guest<L> for ModelGuest<L> {
       is_loaded = λ m. IsLoaded m.phase;
       offered = λ m. offered_of (loaded_of m.phase);
       returned = λ m. returned_of (loaded_of m.phase);
-      holds = λ m v. GuestHolds L.Driver.driver m.phase m.counts v;
+      holds = λ m v. GuestHolds L.Driver.driver L.layout m.phase m.counts v;
       is_done = λ m. is_done_of (loaded_of m.phase) ≡ true;
       accesses = λ m. m.counts.accesses;
       heard = λ m. m.counts.heard;
@@ -84,19 +86,23 @@ impl<L: Layout> Guest<L> for ModelGuest<L> {
 
     ghost lawful = { record {
       unloaded = λ x h. unloaded_law (loaded_of x.phase) h;
-      held = λ x v h. held_law L.Driver.driver x.phase x.counts v h;
-      offered = λ x v h. offered_law L.Driver.driver x.phase x.counts v h;
-      offers = λ x v s h is d. offers_law L.Driver.driver x.phase x.counts v s h is;
-      returned = λ x v s h is d. returned_law L.Driver.driver x.phase x.counts v h;
-      done = λ x v s h is d e. done_law L.Driver.driver L.Driver.driver_lawful x.phase x.counts v s h is e;
-      finishes = λ x v s h is d e. finishes_law L.Driver.driver x.phase x.counts v s h is e;
-      armed = λ x v s t h is d a. armed_law L.Driver.driver x.phase x.counts v s t h is a;
+      held = λ x v h. held_law L.Driver.driver L.layout x.phase x.counts v h;
+      offered = λ x v h. offered_law L.Driver.driver L.layout x.phase x.counts v h;
+      offers = λ x v s h is d. offers_law L.Driver.driver L.layout x.phase x.counts v s h is d;
+      returned = λ x v s h is d. returned_law L.Driver.driver L.layout x.phase x.counts v s h is d;
+      done = λ x v s h is d e. done_law L.Driver.driver L.layout L.Driver.driver_lawful x.phase x.counts v s h is d e;
+      finishes = λ x v s h is d e. finishes_law L.Driver.driver L.layout x.phase x.counts v s h is d e;
+      armed = λ x v s t h is d a. armed_law L.Driver.driver L.layout x.phase x.counts v s t h is d a;
+      sent = λ x v s h is d. sent_law L.Driver.driver L.layout x.phase x.counts v s h is d;
+      acked = λ x v s h is d. acked_law L.Driver.driver L.layout x.phase x.counts v s h is d;
+      sent_all = λ x v s h is d. sent_all_law L.Driver.driver L.layout L.Driver.driver_lawful x.phase x.counts v s h is d;
+      sleeps = λ x v s t h is d a. sleeps_law L.Driver.driver L.layout x.phase x.counts v s t h is d a;
       pace = λ x. pace_law (loaded_of x.phase) x.counts x.paced;
     } };
 
     fn load(&mut self, alloc: Global, script: &Script) -> Result<(), AllocError> {
         let script = copy_script(alloc, script)?;
-        let total = count(script.runs.as_slice());
+        let total = total(&script);
         let returned = Vec::with_capacity(alloc, total as usize)?;
         let at = settle(script.runs.as_slice(), Cursor { run: 0, used: 0 });
         self.phase = GuestPhase::Loaded(Loaded {
@@ -106,6 +112,7 @@ impl<L: Layout> Guest<L> for ModelGuest<L> {
             offered: 0,
             returned,
             stage: first_stage(total),
+            hand: Hand::Free,
         });
         Ok(())
     }
@@ -119,6 +126,7 @@ impl<L: Layout> Guest<L> for ModelGuest<L> {
         let loaded = Loaded {
             at,
             stage,
+            hand: Hand::Free,
             ..loaded
         };
         self.phase = GuestPhase::Booted(Booted { end, loaded });

@@ -1,6 +1,9 @@
-//! A copy of a script.
+//! A copy of a script, and how much is in it.
 ghost use Rattle.std.specs.Prelude.{◌≡◌, IfOk};
+ghost use Rattle.vd_bus.specs.Scripts.{IsScript};
+ghost use Rattle.vd_models.specs.Driving.{scripted};
 
+use crate::cursor::count;
 use arrayvec::ArrayVec;
 use sqlite_items::Items;
 use std::alloc::{AllocError, Global};
@@ -14,6 +17,19 @@ pub(crate) fn copy_script(alloc: Global, script: &Script) -> Result<Script, Allo
         runs: copy_runs(alloc, script.runs.as_slice())?,
         commands: copy_commands(alloc, script.commands.as_slice())?,
     })
+}
+
+/// How many chains the script has, or commands where it has some.
+pub(crate) fn total(script: &Script) -> u32
+    requires { IsScript script.now }
+    ensures { result ≡ scripted script.now }
+{
+    let commands = script.commands.as_slice();
+    if commands.is_empty() {
+        count(script.runs.as_slice())
+    } else {
+        commands.len() as u32
+    }
 }
 
 fn copy_runs(alloc: Global, runs: &[Run]) -> Result<Items<Run>, AllocError>

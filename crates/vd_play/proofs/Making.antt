@@ -83,7 +83,7 @@ module _ {D E G X C : Type 0} (s : Setting D E G X C) (law : IsLawful s) (plan :
       → CanMake s.layout plan.size plan.features → words.ring ≡ q → words.words ≡ replicate (s.layout.width (guest_frame s.layout plan q)) 0
       → IsFresh s.driver s.device s.layout plan.size plan.features false driver end → IsEmptyGuest s.guest guest
       → s.guest.script guest1 ≡ Some (queue_script plan q) → (s.guest.accesses guest1 ≡ s.guest.accesses guest)
-      × (s.guest.heard guest1 ≡ s.guest.heard guest) → IsBoot s.driver s.guest driver guest1 guest2
+      × (s.guest.heard guest1 ≡ s.guest.heard guest) → IsBoot s.driver s.layout s.guest driver guest1 guest2
       → IsEmptyDevice s.party device → IsUnchanged s.party device device' → s.party.window device' ≡ plan.window
       → 2 * (length plan.switches + 2) ≤ s.party.event_room device' → length (queue_chains plan q) ≤ s.party.chain_room device'
       → IsStopped s plan q 0 0 words end 0 guest2 device'
@@ -94,12 +94,12 @@ module _ {D E G X C : Type 0} (s : Setting D E G X C) (law : IsLawful s) (plan :
       let with : IsMadeWith s.layout plan.size plan.features false f =
       record { packed = refl; size = refl; features = refl; control = refl } in
       let none : s.party.begun device' ≡ [] = same.begun ∙ empty.begun in
-      let boots : CanBoot (queue_script plan q) v = record {
+      let boots : CanBoot s.layout (queue_script plan q) v = record {
         fresh = refl;
         unarmed = refl;
         fits = queue.fits;
         other = λ h. refl;
-        control = λ h. absurd (h queue.plain);
+        sends = λ h. absurd (h queue.plain);
       } in
       let account : Account plan q 0 [] = record { before = refl; many = omega arith; each = All-nil IsBegun } in
       let times : attaches (s.party.events device') ≡ 0 = ap attaches (same.events ∙ empty.events) in

@@ -52,15 +52,15 @@ may_stand f c is short r w free = record {
     at true = omega (arith, some_piece c is, short)
     at false = short
 
-pub can_boot : (f : Frame) (n : ℕ) (s : Script) (count : ℕ) (c : List Piece)
-    → s ≡ record { runs = record { count = count; chain = c } ∷ []; commands = [] } → Fits f c → f.control ≡ false → CanBoot s
+pub can_boot : (l : LayoutModel) (f : Frame) (n : ℕ) (s : Script) (count : ℕ) (c : List Piece)
+    → s ≡ record { runs = record { count = count; chain = c } ∷ []; commands = [] } → Fits f c → f.control ≡ false → CanBoot l s
     (fresh_driver f n)
-can_boot f n s count c is fits plain = subst (λ (z : Script). CanBoot z (fresh_driver f n)) (sym is) record {
+can_boot l f n s count c is fits plain = subst (λ (z : Script). CanBoot l z (fresh_driver f n)) (sym is) record {
   fresh = refl;
   unarmed = refl;
   fits = subst (λ (cs : List (List Piece)). All (Fits f) cs) (sym (append-nil (replicate count c))) (All-replicate (Fits f) count c fits);
   other = λ some. plain;
-  control = λ some. absurd (some refl);
+  sends = λ some. absurd (some refl);
 }
 
 module _ {D E G V C : Type 0} (d : DriverModel D) (e : DeviceModel E) (l : LayoutModel) (law : IsLawfulLayout d e l) (g : GuestParty G)

@@ -6,6 +6,7 @@ use Rattle.vd_ring.specs.declared.device.DeviceView.{DeviceView}
 use Rattle.vd_layout.specs.declared.moves.Move.{Move}
 use Rattle.vd_layout.specs.Driver.{DriverModel}
 use Rattle.vd_layout.specs.Device.{DeviceModel}
+use Rattle.vd_layout.specs.Layout.{LayoutModel}
 use Rattle.vd_bus.specs.declared.event.Event.{Event}
 use Rattle.vd_bus.specs.Device.{DeviceParty, IsLawfulDeviceParty, IsUnchanged, IsNoted, IsAttach, IsRefused, IsServed, IsDeviceAccess, IsSuspend, IsReset}
 use Rattle.vd_bus.specs.Guest.{GuestParty, IsLawfulGuestParty, IsBoot, IsGuestAccess, IsHalt}
@@ -23,11 +24,15 @@ module _ {D X Y : Type 0} (d : DriverModel D) (f : Y → X) (m : GuestParty X) w
     done = λ y. law.done (f y);
     finishes = λ y. law.finishes (f y);
     armed = λ y. law.armed (f y);
+    sent = λ y. law.sent (f y);
+    acked = λ y. law.acked (f y);
+    sent_all = λ y. law.sent_all (f y);
+    sleeps = λ y. law.sleeps (f y);
     pace = λ y. law.pace (f y);
   }
 
-  pub boots : (end : D) (x y : Y) → IsBoot d m end (f x) (f y) → IsBoot d (guest_through f m) end x y
-  boots end x y b = record { holds = b.holds; script = b.script; offered = b.offered; returned = b.returned; counts = b.counts }
+  pub boots : (l : LayoutModel) (end : D) (x y : Y) → IsBoot d l m end (f x) (f y) → IsBoot d l (guest_through f m) end x y
+  boots l end x y b = record { holds = b.holds; script = b.script; offered = b.offered; returned = b.returned; counts = b.counts }
 
   pub guest_accesses : {P : Type 0} (port : PortModel P) (p q : P) (v : DriverView) (x y : Y) (answer : Move)
       → IsGuestAccess port d m p q v (f x) (f y) answer → IsGuestAccess port d (guest_through f m) p q v x y answer

@@ -3,6 +3,7 @@ use Rattle.vd_model.specs.declared.record.Run.{Run}
 use Rattle.vd_model.specs.declared.record.Script.{Script}
 use Rattle.vd_bus.specs.Guest.{CanBoot}
 use Rattle.vd_models.specs.declared.driving.Loaded.{Loaded}
+use Rattle.vd_models.specs.declared.hand.Hand.TheVariants as hand
 use Rattle.vd_models.specs.Cursors.{left_at, IsSettled}
 use Rattle.vd_models.specs.Driving.{drive, script_of, offered_of, returned_of, loaded_of}
 use Rattle.vd_models.proofs.GuestParties.{boots, first_paid, loaded_is, quiet, same_script}
@@ -25,18 +26,19 @@ returns g c =
       offered = y.offered;
       returned = y.returned;
       stage = c.first_stage-stage.result;
+      hand = hand.Free;
     } in
     record {
       holds = λ v s is stands can. record {
         plan = record { total = plan.total; few = plan.few; room = plan.room };
-        drives = boots d c.args.end y c.settle-at.result c.first_stage-stage.result v c.requires.idle plan none empty
+        drives = boots d g.L.Layout.layout c.args.end y c.settle-at.result c.first_stage-stage.result v c.requires.idle plan none empty
             (subst (λ (rs : List Run). left_at rs c.settle-at.result ≡ left_at rs
             (record { run = 0; used = 0 })) c.as_slice.ensures c.settle-at.ensures.left)
             (subst (λ
             (rs : List Run). IsSettled rs c.settle-at.result) c.as_slice.ensures c.settle-at.ensures.settled)
             c.first_stage-stage.ensures stands
-            (subst (λ (z : Script). CanBoot z v) (sym (same_script y.script s (sym (ap (λ p. script_of (loaded_of p)) is_y) ∙ is))) can);
-        paid = first_paid d (drive c.args.end l) v m.counts _ c.requires.idle quiet;
+            (subst (λ (z : Script). CanBoot g.L.Layout.layout z v) (sym (same_script y.script s (sym (ap (λ p. script_of (loaded_of p)) is_y) ∙ is))) can);
+        paid = first_paid d (drive c.args.end l) v m.counts _ refl c.requires.idle quiet;
       };
       script = sym (ap (λ p. script_of (loaded_of p)) is_y);
       offered = sym (ap (λ p. offered_of (loaded_of p)) is_y);

@@ -11,12 +11,12 @@ invariant_of-self g c =
     let m = c.args.self.now in
     let r = c.requires.own in
     let b = c.in-Booted.booted in
-    let o = opened d m.phase b m.counts r.0 r.1 c.in-Booted.is in
+    let o = opened d g.L.Layout.layout m.phase b m.counts r.0 r.1 c.in-Booted.is in
     let t = c.drive-turn.ensures.turn r.0 (record { drives = o.drives; live = not_done m.phase b c.in-Booted.is c.requires.live }) r.2 in
     let n = c.drive-turn.new in
     record {
       fresh = λ e. absurd (cc e);
-      paced = less_paid c.note.new.self _ _ (pays g.P.Port.port d c.args.port.now n.port r.0 (drive b.end b.loaded)
+      paced = less_paid c.note.new.self _ _ (pays g.P.Port.port d g.L.Layout.layout c.args.port.now n.port r.0 (drive b.end b.loaded)
           (drive n.booted.end n.booted.loaded) c.drive-turn.result
           m.counts c.note.new.self t c.note.ensures.accesses c.note.ensures.heard o.paid);
     }
@@ -26,7 +26,7 @@ returns g c = λ v holds own.
     let d = g.L.Driver.DriverEnd.driver in
     let m = c.args.self.now in
     let b = c.in-Booted.booted in
-    let o = opened d m.phase b m.counts v holds c.in-Booted.is in
+    let o = opened d g.L.Layout.layout m.phase b m.counts v holds c.in-Booted.is in
     let t = c.drive-turn.ensures.turn v (record { drives = o.drives; live = not_done m.phase b c.in-Booted.is c.requires.live }) own in
     let n = c.drive-turn.new in
     let kept = c.drive-turn.ensures.kept in
@@ -41,7 +41,7 @@ returns g c = λ v holds own.
       holds = record {
         plan = kept.plan;
         drives = t.drives;
-        paid = pays g.P.Port.port d c.args.port.now n.port v (drive b.end b.loaded)
+        paid = pays g.P.Port.port d g.L.Layout.layout c.args.port.now n.port v (drive b.end b.loaded)
             (drive n.booted.end n.booted.loaded) u m.counts c.note.new.self t
             c.note.ensures.accesses c.note.ensures.heard o.paid;
       };

@@ -29,7 +29,7 @@ invariant_of-result g c =
       ring = subst (λ (us : List ℕ). l.ring us view device_view) (sym words)
           (g.met.L.Layout.lawful.opens c.args.size c.args.f false f c.requires.can with);
       control = refl;
-      drives = c.boot.ensures.holds view c.in_ok-script.script (c.in_ok-load.ensures.ok.1) (fresh.drives f with) (can_boot f
+      drives = c.boot.ensures.holds view c.in_ok-script.script (c.in_ok-load.ensures.ok.1) (fresh.drives f with) (can_boot l f
           (l.width f) c.in_ok-script.script c.args.count c.args.chain.now c.in_ok-script.ensures
           (may_stand f c.args.chain.now chain short read write refl) refl);
       at = record { stands = fresh.serves f with; still = inr fresh.unused; free = c.reserve.ensures.same.attached ∙ c.requires.device };
