@@ -128,6 +128,7 @@ fn waking(stage: GuestStage) -> Turn
 }
 
 /// Begins the next operation where none is in progress.
+#[inline]
 fn begin_drive<L: Layout>(end: &mut L::Driver, loaded: &Loaded)
     requires { (v : DriverView) × DriveOpens L.Driver.driver (drive end.old loaded.now) v }
     ensures busy { ¬ (L.Driver.driver.begun end.new ≡ DriverOp.idle) }
@@ -147,6 +148,7 @@ fn begin_drive<L: Layout>(end: &mut L::Driver, loaded: &Loaded)
 }
 
 /// Makes one access. With `turns` an offer is followed by a turn to collect, until nothing is shown.
+#[inline(always)]
 pub(crate) fn drive<L: Layout, P: Port>(
     booted: &mut Booted<L::Driver>,
     turns: bool,
