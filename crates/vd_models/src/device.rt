@@ -176,6 +176,7 @@ impl<L: Layout> Device<L> for ModelDevice<L> {
         Ok(())
     }
 
+    #[inline(always)]
     fn step<P: Port>(&mut self, port: &mut P) -> Move {
         let Phase::Serving(session) = &mut self.phase else {
             unreachable!()
@@ -186,6 +187,7 @@ impl<L: Layout> Device<L> for ModelDevice<L> {
         move_of(turn, done)
     }
 
+    #[inline(always)]
     fn done(&self) -> bool {
         match &self.phase {
             Phase::Serving(session) => session.stage.is_done(),

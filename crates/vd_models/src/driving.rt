@@ -167,6 +167,7 @@ fn begin_next<L: Layout>(end: &mut L::Driver, loaded: &Loaded)
 }
 
 /// Begins the next operation where none is in progress.
+#[inline]
 fn begin_drive<L: Layout>(end: &mut L::Driver, loaded: &Loaded)
     requires { CanBegin L.Driver.driver L.layout (drive end.old loaded.now) }
     ensures busy { ¬ (L.Driver.driver.begun end.new ≡ DriverOp.idle) }
@@ -184,6 +185,7 @@ fn begin_drive<L: Layout>(end: &mut L::Driver, loaded: &Loaded)
 
 /// Makes one access of an operation, which it begins where none is in progress. With `turns` an offer is followed by a turn to collect,
 /// until nothing is shown.
+#[inline(always)]
 fn operate<L: Layout, P: Port>(
     end: &mut L::Driver,
     loaded: &mut Loaded,
@@ -250,6 +252,7 @@ fn operate<L: Layout, P: Port>(
 }
 
 /// Makes one access: of a command or ack word where one comes next, else of an operation.
+#[inline(always)]
 pub(crate) fn drive<L: Layout, P: Port>(
     booted: &mut Booted<L::Driver>,
     turns: bool,

@@ -132,6 +132,7 @@ impl<L: Layout> Guest<L> for ModelGuest<L> {
         self.phase = GuestPhase::Booted(Booted { end, loaded });
     }
 
+    #[inline(always)]
     fn step<P: Port>(&mut self, port: &mut P) -> Move {
         let GuestPhase::Booted(booted) = &mut self.phase else {
             unreachable!()
@@ -142,6 +143,7 @@ impl<L: Layout> Guest<L> for ModelGuest<L> {
         move_of(turn, done)
     }
 
+    #[inline(always)]
     fn done(&self) -> bool {
         match self.phase.loaded() {
             Some(loaded) => loaded.stage.is_done(),

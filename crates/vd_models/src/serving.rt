@@ -88,6 +88,7 @@ fn waking(stage: Stage) -> Turn
 }
 
 /// Begins the next operation where none is in progress. `more` tells whether there are chains still to begin.
+#[inline]
 fn begin_next<L: Layout>(session: &mut Session<L::Device>, more: bool)
     requires { CanBegin L.Device.device session.old more }
     ensures busy { ¬ (L.Device.device.begun session.new.end ≡ DeviceOp.idle) }
@@ -111,6 +112,7 @@ fn begin_next<L: Layout>(session: &mut Session<L::Device>, more: bool)
 }
 
 /// Makes one access.
+#[inline(always)]
 pub(crate) fn serve<L: Layout, P: Port>(
     session: &mut Session<L::Device>,
     begun: &mut Entries<Begun>,
