@@ -18,11 +18,11 @@ use Rattle.vd_layout.specs.Layout.{LayoutModel}
 use Rattle.vd_bus.specs.GuestCommands.{commands, command_chain, HasCommands, CannotSend}
 use Rattle.vd_models.specs.declared.driving.GuestStage.{GuestStage}
 use Rattle.vd_models.specs.declared.driving.GuestStage.TheVariants as stage
-use Rattle.vd_models.specs.declared.hand.Hand.{Hand}
-use Rattle.vd_models.specs.declared.hand.Hand.TheVariants as hand
+use Rattle.vd_models.specs.declared.pending.Pending.{Pending}
+use Rattle.vd_models.specs.declared.pending.Pending.TheVariants as hand
 use Rattle.vd_models.specs.Cursors.{next_at}
 use Rattle.vd_models.specs.GuestStages.{BegunIs, ArmedIs, OpIs, IsStuck, idle_owes, collect_owes, hear_owes, owes}
-use Rattle.vd_models.specs.Hands.{HandIs, IsNoOffer, IsOffering, hand_owes, offer_owes}
+use Rattle.vd_models.specs.Pending.{HandIs, IsNoOffer, IsOffering, hand_owes, offer_owes}
 use Rattle.vd_models.specs.Driving.{Driven, Drives, DriveOpens, BeginsDrive, command_next, next_of, owes_at}
 use Rattle.vd_models.specs.Sending.{IsDue, DueIs}
 use Rattle.vd_models.proofs.Drives.{to, still_free, all_back, owes_free}
@@ -31,14 +31,14 @@ use Rattle.vd_models.specs.laws.Scripted.{next_is_chain}
 
 -- a script of chains has nothing in hand
 pub free_of_chains : (words : ControlWords) (s : Script) (rs : List Return) (f : Frame) (o : List DriverDone) (st : GuestStage)
-    (b : DriverOp) (h : Hand) → s.commands ≡ [] → HandIs words s rs f o st b h → h ≡ hand.Free
+    (b : DriverOp) (h : Pending) → s.commands ≡ [] → HandIs words s rs f o st b h → h ≡ hand.Free
 free_of_chains words s rs f o st b hand.Free none h = refl
 free_of_chains words s rs f o st b hand.First none h = absurd (h.0.some none)
 free_of_chains words s rs f o st b hand.Both none h = absurd (h.0.some none)
 free_of_chains words s rs f o st b (hand.Ack n k g) none h = absurd (h.0.some none)
 
 -- where no access of a command or ack word comes next, and both words of the next command aren't in hand, nothing is
-pub free_now : {D : Type 0} (d : DriverModel D) (x : Driven D) (v : DriverView) (h : Hand) → DueIs d x v h None → h ≢ hand.Both
+pub free_now : {D : Type 0} (d : DriverModel D) (x : Driven D) (v : DriverView) (h : Pending) → DueIs d x v h None → h ≢ hand.Both
     → h ≡ hand.Free
 free_now d x v hand.Free due other = refl
 free_now d x v hand.First due other = absurd due
@@ -46,7 +46,7 @@ free_now d x v hand.Both due other = absurd (other refl)
 free_now d x v (hand.Ack n k g) due other = absurd due
 
 pub both_offers : (words : ControlWords) (s : Script) (rs : List Return) (f : Frame) (o : List DriverDone) (st : GuestStage)
-    (b : DriverOp) (h : Hand) → st ≢ stage.Offering → HandIs words s rs f o st b h → h ≢ hand.Both
+    (b : DriverOp) (h : Pending) → st ≢ stage.Offering → HandIs words s rs f o st b h → h ≢ hand.Both
 both_offers words s rs f o st b hand.Free other h e = cc e
 both_offers words s rs f o st b hand.First other h e = cc e
 both_offers words s rs f o st b hand.Both other h e = other h.0.stage
@@ -163,10 +163,10 @@ module _ {D : Type 0} (d : DriverModel D) (l : LayoutModel) (law : IsLawfulDrive
   pub begins_command : (c : List Piece) → x.hand ≡ hand.Both → next_of d.words x.script x.at v.frame v.done ≡ Some c
       → d.begun e ≡ DriverOp.offer c → d.stands e v → d.left e ≤ 38 → BeginsDrive d l v x (to x e x.stage)
   begins_command c both next begun stands few =
-      let held = subst (λ (z : Hand). HandIs d.words x.script x.returned v.frame v.done x.stage (d.begun x.end) z) both h.drives.held in
+      let held = subst (λ (z : Pending). HandIs d.words x.script x.returned v.frame v.done x.stage (d.begun x.end) z) both h.drives.held in
       let is = held.0.stage in
       begins d l x e v h stands
-      (subst (λ (z : Hand). HandIs d.words x.script x.returned v.frame v.done x.stage (d.begun e) z) (sym both)
+      (subst (λ (z : Pending). HandIs d.words x.script x.returned v.frame v.done x.stage (d.begun e) z) (sym both)
       (held.0, subst (λ z. IsOffering z) (sym begun) tt))
       (subst (λ (z : GuestStage). BegunIs z (d.begun e) (next_of d.words x.script x.at v.frame v.done) v.frame v.done) (sym is) (subst
       (λ o. BegunIs stage.Offering o (next_of d.words x.script x.at v.frame v.done) v.frame v.done) (sym begun) next))
@@ -176,8 +176,8 @@ module _ {D : Type 0} (d : DriverModel D) (l : LayoutModel) (law : IsLawfulDrive
       (omega (
         arith,
         few,
-        ap (λ (z : Hand). hand_owes z (d.begun e) (d.left e) (owes x.stage (d.begun e) v.doing v.shown (d.left e))) both,
-        ap (λ (z : Hand). hand_owes z (d.begun x.end) (d.left x.end) (owes x.stage (d.begun x.end) v.doing v.shown (d.left x.end))) both,
+        ap (λ (z : Pending). hand_owes z (d.begun e) (d.left e) (owes x.stage (d.begun e) v.doing v.shown (d.left e))) both,
+        ap (λ (z : Pending). hand_owes z (d.begun x.end) (d.left x.end) (owes x.stage (d.begun x.end) v.doing v.shown (d.left x.end))) both,
         ap (λ o. offer_owes o (d.left e)) begun,
         ap (λ o. offer_owes o (d.left x.end)) idle,
       ))

@@ -24,11 +24,11 @@ use Rattle.vd_models.specs.declared.driving.GuestStage.{GuestStage}
 use Rattle.vd_models.specs.declared.driving.GuestStage.TheVariants as stage
 use Rattle.vd_models.specs.Counting.{counted, woke}
 use Rattle.vd_models.specs.GuestStages.{BegunIs, DoneIs, ArmedIs, OpIs, is_done, owes, collected_stage}
-use Rattle.vd_models.specs.Hands.{HandIs, IsNoOffer, IsOffering, hand_owes, offer_owes}
+use Rattle.vd_models.specs.Pending.{HandIs, IsNoOffer, IsOffering, hand_owes, offer_owes}
 use Rattle.vd_models.specs.Driving.{Driven, drive, DriveOpens, IsDriveTurn, HasOffered, IsSent, next_of, owes_at, scripted}
 use Rattle.vd_models.specs.Sending.{Begins, IsDue}
-use Rattle.vd_models.specs.declared.hand.Hand.{Hand}
-use Rattle.vd_models.specs.declared.hand.Hand.TheVariants as hand
+use Rattle.vd_models.specs.declared.pending.Pending.{Pending}
+use Rattle.vd_models.specs.declared.pending.Pending.TheVariants as hand
 use Rattle.vd_model.specs.declared.record.Return.{Return}
 use Rattle.vd_model.specs.declared.record.Script.{Script}
 use Rattle.vd_models.proofs.GuestGoing.{Goes, went, goes_on}
@@ -97,7 +97,7 @@ no_sleep answer n = ((λ z. absurd (cc z)), λ z. absurd (n z))
 
 -- only in an offer a command's words are in hand, and with an ack to be loaded the end is idle
 pub free_at : (words : ControlWords) (s : Script) (rs : List Return) (f : Frame) (o : List DriverDone) (st : GuestStage) (b : DriverOp)
-    (h : Hand) → (b ≡ DriverOp.idle → ⊥) → IsNoOffer b → HandIs words s rs f o st b h → h ≡ hand.Free
+    (h : Pending) → (b ≡ DriverOp.idle → ⊥) → IsNoOffer b → HandIs words s rs f o st b h → h ≡ hand.Free
 free_at words s rs f o st b hand.Free busy other h = refl
 free_at words s rs f o st b hand.First busy other h = absurd (busy h.1)
 free_at words s rs f o st DriverOp.idle hand.Both busy other h = absurd (busy refl)
@@ -111,15 +111,15 @@ free_at words s rs f o st b (hand.Ack n k g) busy other h = absurd (busy h.1)
 
 -- all that was collected came back, with its ack, while no ack is to be loaded
 pub all_back : (words : ControlWords) (s : Script) (rs : List Return) (f : Frame) (o : List DriverDone) (st : GuestStage) (b : DriverOp)
-    (h : Hand) → h ≡ hand.Free → HandIs words s rs f o st b h → length rs ≡ length (collects o)
+    (h : Pending) → h ≡ hand.Free → HandIs words s rs f o st b h → length rs ≡ length (collects o)
 all_back words s rs f o st b h is held =
-    (subst (λ (z : Hand). HandIs words s rs f o st b z) is held).0
+    (subst (λ (z : Pending). HandIs words s rs f o st b z) is held).0
 
 -- where nothing is in hand it stays so, while no command's offer is begun
 pub still_free : (words : ControlWords) (s : Script) (rs : List Return) (f : Frame) (o : List DriverDone) (st : GuestStage) (b : DriverOp)
-    (h : Hand) → h ≡ hand.Free → length rs ≡ length (collects o) → (HasCommands s → IsNoOffer b) → HandIs words s rs f o st b h
+    (h : Pending) → h ≡ hand.Free → length rs ≡ length (collects o) → (HasCommands s → IsNoOffer b) → HandIs words s rs f o st b h
 still_free words s rs f o st b h is back other =
-    subst (λ (z : Hand). HandIs words s rs f o st b z) (sym is) (back, other)
+    subst (λ (z : Pending). HandIs words s rs f o st b z) (sym is) (back, other)
 
 not_idle : (b : DriverOp) (o : Op) → IsDriverOp b o → b ≡ DriverOp.idle → ⊥
 not_idle DriverOp.idle o of e = of
@@ -151,7 +151,7 @@ offering_on DriverOp.hear b' o g of h = absurd h
 offering_on DriverOp.disarm b' o g of h = absurd h
 
 pub held_on : (words : ControlWords) (s : Script) (rs : List Return) (f : Frame) (os : List DriverDone) (st : GuestStage)
-    (b b' : DriverOp) (o : Op) (h : Hand) → DriverGoesOn b b' → IsDriverOp b o → HandIs words s rs f os st b h
+    (b b' : DriverOp) (o : Op) (h : Pending) → DriverGoesOn b b' → IsDriverOp b o → HandIs words s rs f os st b h
     → HandIs words s rs f os st b' h
 held_on words s rs f os st b b' o hand.Free g of h = (h.0, λ some. no_offer_on b b' g (h.1 some))
 held_on words s rs f os st b b' o hand.First g of h = absurd (not_idle b o of h.1)
@@ -171,15 +171,15 @@ offer_less DriverOp.hear b' o left left' g of h less = absurd h
 offer_less DriverOp.disarm b' o left left' g of h less = absurd h
 
 pub owes_on : (words : ControlWords) (s : Script) (rs : List Return) (f : Frame) (os : List DriverDone) (st : GuestStage)
-    (b b' : DriverOp) (o : Op) (h : Hand) (left left' n n' : ℕ) → DriverGoesOn b b' → IsDriverOp b o → HandIs words s rs f os st b h
+    (b b' : DriverOp) (o : Op) (h : Pending) (left left' n n' : ℕ) → DriverGoesOn b b' → IsDriverOp b o → HandIs words s rs f os st b h
     → left' < left → n' + 1 ≤ n → hand_owes h b' left' n' + 1 ≤ hand_owes h b left n
 owes_on words s rs f os st b b' o hand.Free left left' n n' g of h less paid = paid
 owes_on words s rs f os st b b' o hand.First left left' n n' g of h less paid = absurd (not_idle b o of h.1)
 owes_on words s rs f os st b b' o hand.Both left left' n n' g of h less paid = offer_less b b' o left left' g of h.1 less
 owes_on words s rs f os st b b' o (hand.Ack k l m) left left' n n' g of h less paid = absurd (not_idle b o of h.1)
 
-pub owes_free : (h : Hand) (b : DriverOp) (left n : ℕ) → h ≡ hand.Free → hand_owes h b left n ≡ n
-owes_free h b left n is = ap (λ (z : Hand). hand_owes z b left n) is
+pub owes_free : (h : Pending) (b : DriverOp) (left n : ℕ) → h ≡ hand.Free → hand_owes h b left n ≡ n
+owes_free h b left n is = ap (λ (z : Pending). hand_owes z b left n) is
 
 module _ {P D : Type 0} {port : PortModel P} {d : DriverModel D} (law : IsLawfulDriver d) (from : Driven D) {p q : P} {v : DriverView}
     {y : D} where

@@ -27,8 +27,8 @@ use Rattle.vd_models.specs.declared.driving.GuestStage.TheVariants as stage
 use Rattle.vd_models.specs.Counting.{counted, woke}
 use Rattle.vd_models.specs.Cursors.{left_at, IsSettled}
 use Rattle.vd_models.specs.GuestStages.{BegunIs, ArmedIs, OpIs, DoneIs, is_done, first_stage, owes}
-use Rattle.vd_models.specs.Hands.{IsNoOffer}
-use Rattle.vd_models.specs.declared.hand.Hand.TheVariants as hand
+use Rattle.vd_models.specs.Pending.{IsNoOffer}
+use Rattle.vd_models.specs.declared.pending.Pending.TheVariants as hand
 use Rattle.vd_models.specs.Driving.{GuestHolds, next_of, scripted, IsBooted, IsPlan, IsLoaded, IsFresh, booted_of, Driven, Drives, IsDriveTurn, IsPaid, owes_at, loaded_of, is_done_of}
 use Rattle.vd_models.proofs.GuestGoing.{idle_small}
 use Rattle.vd_models.proofs.Parties.{raised_small}

@@ -26,10 +26,10 @@ use Rattle.vd_models.specs.declared.driving.GuestStage.{GuestStage}
 use Rattle.vd_models.specs.declared.driving.GuestStage.TheVariants as stage
 use Rattle.vd_models.specs.Cursors.{left_at, next_at, IsSettled}
 use Rattle.vd_models.specs.GuestStages.{BegunIs, OpIs, is_done, owes, offered_stage, collected_stage}
-use Rattle.vd_models.specs.Hands.{HandIs, IsNoOffer}
+use Rattle.vd_models.specs.Pending.{HandIs, IsNoOffer}
 use Rattle.vd_models.specs.Driving.{Driven, DriveOpens, IsDriveTurn, HasOffered, next_of, scripted}
-use Rattle.vd_models.specs.declared.hand.Hand.{Hand}
-use Rattle.vd_models.specs.declared.hand.Hand.TheVariants as hand
+use Rattle.vd_models.specs.declared.pending.Pending.{Pending}
+use Rattle.vd_models.specs.declared.pending.Pending.TheVariants as hand
 use Rattle.vd_layout.specs.Control.{ControlWords}
 use Rattle.vd_layout.specs.Layout.{LayoutModel}
 use Rattle.vd_models.proofs.GuestGoing.{at_offer, at_collect, unarming, armed_none, idle_small, published_owes, published_op, published_not}
@@ -40,7 +40,7 @@ use Rattle.vd_models.proofs.Offering.{next_chain, used_small}
 use Rattle.vd_models.specs.laws.Scripted.{commands_or, next_is_chain, scripted_chains, scripted_commands}
 use Rattle.vd_models.proofs.Begins.{free_of_chains}
 
-abbrev pub put : {D : Type 0} → D → Script → Cursor → ℕ → List Return → GuestStage → Hand → Driven D
+abbrev pub put : {D : Type 0} → D → Script → Cursor → ℕ → List Return → GuestStage → Pending → Driven D
 put e s a o r st h = record { end = e; script = s; at = a; offered = o; returned = r; stage = st; hand = h }
 
 -- ---- an offer
@@ -68,7 +68,7 @@ collected_awake false st h = h
 
 -- the offer of a chain without a command's words in hand is of a script of chains
 chains_at : (words : ControlWords) (s : Script) (rs : List Return) (f : Frame) (o : List DriverDone) (st : GuestStage) (b : DriverOp)
-    (c : List Piece) (h : Hand) → b ≡ DriverOp.offer c → h ≢ hand.Both → HandIs words s rs f o st b h → s.commands ≡ []
+    (c : List Piece) (h : Pending) → b ≡ DriverOp.offer c → h ≢ hand.Both → HandIs words s rs f o st b h → s.commands ≡ []
 chains_at words s rs f o st b c hand.Free is other h = commands_or s (λ none. none)
     (λ some. absurd (subst (λ z. IsNoOffer z) is (h.1 some)))
 chains_at words s rs f o st b c hand.First is other h = absurd (cc (is, h.1))

@@ -21,9 +21,9 @@ use Rattle.vd_models.specs.declared.driving.GuestStage.{GuestStage}
 use Rattle.vd_models.specs.declared.driving.GuestStage.TheVariants as stage
 use Rattle.vd_models.specs.Counting.{counted, woke}
 use Rattle.vd_models.specs.GuestStages.{BegunIs, ArmedIs, OpIs, IsStuck, is_done, idle_owes, hear_owes, collect_owes, owes, none_stage, woken_stage, waking_turn}
-use Rattle.vd_models.specs.Hands.{HandIs, IsNoOffer}
+use Rattle.vd_models.specs.Pending.{HandIs, IsNoOffer}
 use Rattle.vd_models.specs.Driving.{Driven, DriveOpens, IsDriveTurn, next_of}
-use Rattle.vd_models.specs.declared.hand.Hand.TheVariants as hand
+use Rattle.vd_models.specs.declared.pending.Pending.TheVariants as hand
 use Rattle.vd_models.proofs.GuestGoing.{at_collect, at_arm, at_hear, wakes_at, unarming, armed_none, idle_small, offering_small}
 use Rattle.vd_models.proofs.Drives.{to, same_turn, not_woken, no_sleep, free_at}
 

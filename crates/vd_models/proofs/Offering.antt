@@ -19,7 +19,7 @@ use Rattle.vd_models.specs.declared.driving.GuestStage.{GuestStage}
 use Rattle.vd_models.specs.declared.driving.GuestStage.TheVariants as stage
 use Rattle.vd_models.specs.Cursors.{left_at, left_of, next_at, IsSettled, HasFirst}
 use Rattle.vd_models.specs.GuestStages.{BegunIs, ArmedIs, OpIs, is_done, idle_owes}
-use Rattle.vd_models.specs.Hands.{HandIs, IsTurnToOffer}
+use Rattle.vd_models.specs.Pending.{HandIs, IsTurnToOffer}
 use Rattle.vd_models.specs.Driving.{Driven, Drives, DriveOpens, BeginsDrive, by_commands, command_next, next_of, owes_at, scripted}
 use Rattle.vd_models.proofs.Scripts.{next_left, chains_count}
 use Rattle.vd_models.proofs.Drives.{to}

@@ -33,10 +33,10 @@ use Rattle.vd_layout.specs.Layout.{LayoutModel, IsLawfulLayout}
 use Rattle.vd_commands.specs.Words.{command_word}
 use Rattle.vd_bus.specs.GuestCommands.{commands, control_chain, command_chain, HasCommands, CannotSend, CanSend, IsCommandLength}
 use Rattle.vd_models.specs.declared.counts.Turn.TheVariants.{Worked}
-use Rattle.vd_models.specs.declared.hand.Hand.{Hand}
-use Rattle.vd_models.specs.declared.hand.Hand.TheVariants as hand
+use Rattle.vd_models.specs.declared.pending.Pending.{Pending}
+use Rattle.vd_models.specs.declared.pending.Pending.TheVariants as hand
 use Rattle.vd_models.specs.GuestStages.{collected_stage}
-use Rattle.vd_models.specs.Hands.{HandIs, IsInHand}
+use Rattle.vd_models.specs.Pending.{HandIs, IsInHand}
 use Rattle.vd_models.specs.Sent.{HasPlaces, IsReady, chain_is, next_store}
 use Rattle.vd_models.specs.declared.driving.GuestStage.TheVariants as stage
 use Rattle.vd_models.specs.Driving.{Driven, Drives, DriveOpens, IsDriveTurn, IsSent, command_next, next_of, scripted}
@@ -133,8 +133,8 @@ module _ {D E : Type 0} (d : DriverModel D) (e : DeviceModel E) (l : LayoutModel
         some = free_by n h;
       }
 
-  held_as : (h : Hand) → x.hand ≡ h → HandIs d.words x.script x.returned v.frame v.done x.stage (d.begun x.end) h
-  held_as h is = subst (λ (z : Hand). HandIs d.words x.script x.returned v.frame v.done x.stage (d.begun x.end) z) is opens.drives.held
+  held_as : (h : Pending) → x.hand ≡ h → HandIs d.words x.script x.returned v.frame v.done x.stage (d.begun x.end) h
+  held_as h is = subst (λ (z : Pending). HandIs d.words x.script x.returned v.frame v.done x.stage (d.begun x.end) z) is opens.drives.held
 
   some_place : l.lawful_size v.frame.size ≡ true → 0 < v.frame.size
   some_place sized = omega (arith, (lay.sizes v.frame.size sized).0)
@@ -152,15 +152,18 @@ module _ {D E : Type 0} (d : DriverModel D) (e : DeviceModel E) (l : LayoutModel
       }
 
   -- the access is next
-  pub due_next : (h : Hand) (a : Access) → x.hand ≡ h → DueIs d x v h (Some a) → d.side.next v op.Control a
+  pub due_next : (h : Pending) (a : Access) → x.hand ≡ h → DueIs d x v h (Some a) → d.side.next v op.Control a
   due_next hand.Free a is due = subst (λ z. d.side.next v op.Control z) (sym due.is) ((law.controls.stores v
-      (d.words.command v.frame (next_head v.frame v.done)) (command_word due.held.bytes 0)).1
-      (law.at_rest x.end v opens.drives.stands due.idle, stores_at 0 0 (d.words.command v.frame (next_head v.frame v.done)) due.held
-      (omega arith) (omega arith)))
+      (d.words.command v.frame (next_head v.frame v.done)) (command_word due.held.bytes 0)).1 (
+        law.at_rest x.end v opens.drives.stands due.idle,
+        stores_at 0 0 (d.words.command v.frame (next_head v.frame v.done)) due.held
+            (omega arith) (omega arith),
+      ))
   due_next hand.First a is due = subst (λ z. d.side.next v op.Control z) (sym due.is) ((law.controls.stores v
-      (d.words.command v.frame (next_head v.frame v.done) + 1) (command_word due.held.bytes 1)).1
-      (law.at_rest x.end v opens.drives.stands (held_as hand.First is).1,
-      stores_at 1 1 (d.words.command v.frame (next_head v.frame v.done) + 1) due.held (omega arith) refl))
+      (d.words.command v.frame (next_head v.frame v.done) + 1) (command_word due.held.bytes 1)).1 (
+        law.at_rest x.end v opens.drives.stands (held_as hand.First is).1,
+        stores_at 1 1 (d.words.command v.frame (next_head v.frame v.done) + 1) due.held (omega arith) refl,
+      ))
   due_next hand.Both a is due = absurd due
   due_next (hand.Ack n k h) a is due =
       let y = held_as (hand.Ack n k h) is in

@@ -29,10 +29,10 @@ use Rattle.vd_bus.specs.GuestCommands.{command_chain, HasCommands, HasSent, AreA
 use Rattle.vd_models.specs.declared.counts.Turn.TheVariants.{Worked, Slept}
 use Rattle.vd_models.specs.declared.driving.GuestStage.{GuestStage}
 use Rattle.vd_models.specs.declared.driving.GuestStage.TheVariants as stage
-use Rattle.vd_models.specs.declared.hand.Hand.{Hand}
-use Rattle.vd_models.specs.declared.hand.Hand.TheVariants as hand
+use Rattle.vd_models.specs.declared.pending.Pending.{Pending}
+use Rattle.vd_models.specs.declared.pending.Pending.TheVariants as hand
 use Rattle.vd_models.specs.GuestStages.{BegunIs, ArmedIs, OpIs, is_done, idle_owes, collect_owes, owes, offered_stage, collected_stage}
-use Rattle.vd_models.specs.Hands.{HandIs, IsInHand, IsNoOffer, IsOffering, IsTurnToCollect, hand_owes, offer_owes}
+use Rattle.vd_models.specs.Pending.{HandIs, IsInHand, IsNoOffer, IsOffering, IsTurnToCollect, hand_owes, offer_owes}
 use Rattle.vd_models.specs.Driving.{Driven, Drives, DriveOpens, IsDriveTurn, IsSent, command_next, next_of, owes_at, scripted}
 use Rattle.vd_models.proofs.GuestGoing.{at_offer, at_collect, unarming, armed_none, idle_small, collect_small, published_owes, published_op, published_not}
 use Rattle.vd_models.proofs.Lists.{prefix_same, prefix_push}
@@ -84,7 +84,7 @@ module _ {P D : Type 0} {port : PortModel P} {d : DriverModel D} {l : LayoutMode
     -- a control access that left the view z, by which one more act is known
     control_turn : (z : DriverView) (b : DriverDone) → d.side.after v op.Control a r ≡ z → z.done ≡ b ∷ v.done
         → offers z.done ≡ offers v.done → collects z.done ≡ collects v.done
-        → (st' : GuestStage) (rs' : List Return) (h' : Hand)
+        → (st' : GuestStage) (rs' : List Return) (h' : Pending)
         → (d.stands from.end z → Drives d l (put from.end from.script from.at from.offered rs' st' h') z)
         → owes_at d (put from.end from.script from.at from.offered rs' st' h') z + 1 + 64 * length from.returned
         ≤ owes_at d from v + 64 * length rs'
@@ -119,7 +119,7 @@ module _ {P D : Type 0} {port : PortModel P} {d : DriverModel D} {l : LayoutMode
   -- a store of a word of the next command
   stored : (opens : DriveOpens d l from v) (n : ℕ) (x r place : ℕ) → d.begun from.end ≡ DriverOp.idle → from.stage ≡ stage.Offering
       → HasCommands from.script → length from.returned ≡ length (collects v.done)
-      → (s : StoresCommand v.frame (d.words.command v.frame) v.done place) → port.moves p op.Control (Store place x) r q → (h' : Hand)
+      → (s : StoresCommand v.frame (d.words.command v.frame) v.done place) → port.moves p op.Control (Store place x) r q → (h' : Pending)
       → HandIs d.words from.script from.returned v.frame (StoreCommand (next_head v.frame v.done) s.half x ∷ v.done) from.stage
       (d.begun from.end) h'
       → ((b : DriverOp) → b ≡ DriverOp.idle → (k m : ℕ) → hand_owes h' b k m ≡ n) → n + 1 ≤ owes_at d from v
@@ -172,14 +172,16 @@ module _ {P D : Type 0} {port : PortModel P} {d : DriverModel D} {l : LayoutMode
       → IsDriveTurn port d l p q v from (put from.end from.script from.at from.offered from.returned from.stage hand.First) Worked
   first_at opens x r place idle offering free some h word s zero moved =
       let back = all_back d.words from.script from.returned v.frame v.done from.stage (d.begun from.end) from.hand free opens.drives.held in
-      stored opens 39 x r place idle offering some back s moved hand.First
-      (record {
-        some = some;
-        back = back;
-        stage = offering;
-        held = subst (λ i. IsInHand d.words from.script v.frame (StoreCommand (next_head v.frame v.done) i x ∷ v.done) 1) (sym zero)
-            (hand_first d.words from.script v.frame v.done x h word);
-      }, idle)
+      stored opens 39 x r place idle offering some back s moved hand.First (
+        record {
+          some = some;
+          back = back;
+          stage = offering;
+          held = subst (λ i. IsInHand d.words from.script v.frame (StoreCommand (next_head v.frame v.done) i x ∷ v.done) 1) (sym zero)
+              (hand_first d.words from.script v.frame v.done x h word);
+        },
+        idle,
+      )
       (λ b e k m. refl) (owed_free d from v free idle offering)
 
   -- and of the second
@@ -189,20 +191,22 @@ module _ {P D : Type 0} {port : PortModel P} {d : DriverModel D} {l : LayoutMode
       → port.moves p op.Control (Store place x) r q
       → IsDriveTurn port d l p q v from (put from.end from.script from.at from.offered from.returned from.stage hand.Both) Worked
   second_at opens x r place first h word s one moved =
-      let held = subst (λ (z : Hand). HandIs d.words from.script from.returned v.frame v.done from.stage (d.begun from.end) z) first
+      let held = subst (λ (z : Pending). HandIs d.words from.script from.returned v.frame v.done from.stage (d.begun from.end) z) first
       opens.drives.held in
-      stored opens 38 x r place held.1 held.0.stage held.0.some held.0.back s moved hand.Both
-      (record {
-        some = held.0.some;
-        back = held.0.back;
-        stage = held.0.stage;
-        held = subst (λ i. IsInHand d.words from.script v.frame (StoreCommand (next_head v.frame v.done) i x ∷ v.done) 2) (sym one)
-            (hand_both d.words from.script v.frame v.done x h word);
-      }, subst (λ b. IsOffering b) (sym held.1) tt)
+      stored opens 38 x r place held.1 held.0.stage held.0.some held.0.back s moved hand.Both (
+        record {
+          some = held.0.some;
+          back = held.0.back;
+          stage = held.0.stage;
+          held = subst (λ i. IsInHand d.words from.script v.frame (StoreCommand (next_head v.frame v.done) i x ∷ v.done) 2) (sym one)
+              (hand_both d.words from.script v.frame v.done x h word);
+        },
+        subst (λ b. IsOffering b) (sym held.1) tt,
+      )
       (λ b e k m. ap (λ z. offer_owes z k) e)
       (omega (
         arith,
-        ap (λ (z : Hand). hand_owes z (d.begun from.end) (d.left from.end)
+        ap (λ (z : Pending). hand_owes z (d.begun from.end) (d.left from.end)
             (owes from.stage (d.begun from.end) v.doing v.shown (d.left from.end))) first,
       ))
 
@@ -214,7 +218,7 @@ module _ {P D : Type 0} {port : PortModel P} {d : DriverModel D} {l : LayoutMode
       → IsDriveTurn port d l p q v from (put from.end from.script from.at from.offered rs' (collected_stage t from.stage) hand.Free) Worked
   acked_at opens n k h r place t ack at rs' back all moved =
       let y = opens.drives in
-      let held = subst (λ (z : Hand). HandIs d.words from.script from.returned v.frame v.done from.stage (d.begun from.end) z) ack y.held in
+      let held = subst (λ (z : Pending). HandIs d.words from.script from.returned v.frame v.done from.stage (d.begun from.end) z) ack y.held in
       let x = held.0 in
       let idle = held.1 in
       let rests : v.doing ≡ now.Idle = law.at_rest from.end v y.stands idle in
@@ -264,7 +268,7 @@ module _ {P D : Type 0} {port : PortModel P} {d : DriverModel D} {l : LayoutMode
         more,
         idle_small st v.shown,
         ap (λ b. owes st b v.doing v.shown (d.left from.end)) idle,
-        ap (λ (z : Hand). hand_owes z (d.begun from.end) (d.left from.end)
+        ap (λ (z : Pending). hand_owes z (d.begun from.end) (d.left from.end)
             (owes from.stage (d.begun from.end) v.doing v.shown (d.left from.end))) ack,
       ))
 
@@ -279,7 +283,7 @@ module _ {P D : Type 0} {port : PortModel P} {d : DriverModel D} {l : LayoutMode
         let v' : DriverView = d.side.after v h.op h.access h.got in
         let framed : v'.frame ≡ v.frame = law.framed v h.op h.access h.got in
         let done : v'.done ≡ Offer c ∷ v.done = h.says.4 in
-        let held = subst (λ (z : Hand). HandIs d.words from.script from.returned v.frame v.done from.stage (d.begun from.end) z) both
+        let held = subst (λ (z : Pending). HandIs d.words from.script from.returned v.frame v.done from.stage (d.begun from.end) z) both
         x.held in
         let some = held.0.some in
         let s : IsSent d.words l from.script from.offered from.returned v.frame v.done = x.sent some in
@@ -335,7 +339,7 @@ module _ {P D : Type 0} {port : PortModel P} {d : DriverModel D} {l : LayoutMode
             arith,
             h.left,
             published_owes (offered_stage turns) (d.begun y) v'.doing v'.shown (d.left y) h.says.2,
-            ap (λ (z : Hand). hand_owes z (d.begun from.end) (d.left from.end)
+            ap (λ (z : Pending). hand_owes z (d.begun from.end) (d.left from.end)
                 (owes from.stage (d.begun from.end) v.doing v.shown (d.left from.end))) both,
             ap (λ z. offer_owes z (d.left from.end)) h.says.1,
           );
@@ -384,14 +388,17 @@ module _ {P D : Type 0} {port : PortModel P} {d : DriverModel D} {l : LayoutMode
               ring = s.ring;
               plain = s.plain;
             });
-            held = on (λ f o. HandIs d.words from.script from.returned f o from.stage (d.begun y) (hand.Ack k len hd)) (record {
-              some = some;
-              stage = turn_of from.stage c;
-              last = refl;
-              is = used_last (collects v.done) (entry k len) (length from.returned) back;
-              more = omega (arith, length_push (collects v.done) (entry k len), back);
-              is_head = said.is_head;
-            }, said.idle);
+            held = on (λ f o. HandIs d.words from.script from.returned f o from.stage (d.begun y) (hand.Ack k len hd)) (
+              record {
+                some = some;
+                stage = turn_of from.stage c;
+                last = refl;
+                is = used_last (collects v.done) (entry k len) (length from.returned) back;
+                more = omega (arith, length_push (collects v.done) (entry k len), back);
+                is_head = said.is_head;
+              },
+              said.idle,
+            );
             count = (law.places y v' h.now_stands).count;
             begun = subst (λ z. BegunIs from.stage z (next_of d.words from.script from.at v'.frame v'.done) v'.frame v'.done)
                 (sym said.idle)

@@ -24,7 +24,7 @@ use Rattle.vd_layout.specs.Driver.{HasRoom}
 use Rattle.vd_commands.specs.Loads.{ack_load}
 use Rattle.vd_commands.specs.Words.{command_word}
 use Rattle.vd_bus.specs.GuestCommands.{commands, command_chain, Carries, HasSent, IsAcked, AreAcked}
-use Rattle.vd_models.specs.Hands.{IsInHand}
+use Rattle.vd_models.specs.Pending.{IsInHand}
 
 -- ---- lists
 

@@ -33,11 +33,11 @@ use Rattle.vd_models.specs.declared.driving.Loaded.{Loaded}
 use Rattle.vd_models.specs.declared.driving.GuestPhase.{GuestPhase}
 use Rattle.vd_models.specs.declared.driving.GuestPhase.TheVariants as phase
 use Rattle.vd_models.specs.declared.driving.GuestStage.{GuestStage}
-use Rattle.vd_models.specs.declared.hand.Hand.{Hand}
+use Rattle.vd_models.specs.declared.pending.Pending.{Pending}
 use Rattle.vd_models.specs.Counting.{counted, woke}
 use Rattle.vd_models.specs.Cursors.{left_at, next_at, IsSettled}
 use Rattle.vd_models.specs.GuestStages.{BegunIs, DoneIs, ArmedIs, OpIs, is_done, owes}
-use Rattle.vd_models.specs.Hands.{HandIs, hand_owes}
+use Rattle.vd_models.specs.Pending.{HandIs, hand_owes}
 
 -- the end; the script and the place in it; how many chains were offered; what came back; what comes next; and what is in hand
 pub record Driven (D : Type 0) : Type 0 where
@@ -47,7 +47,7 @@ pub record Driven (D : Type 0) : Type 0 where
   pub offered : ℕ
   pub returned : List Return
   pub stage : GuestStage
-  pub hand : Hand
+  pub hand : Pending
 
 abbrev pub drive : {D : Type 0} → D → Loaded → Driven D
 drive e x = record {

@@ -11,9 +11,9 @@ use Rattle.vd_layout.specs.Layout.{LayoutModel}
 use Rattle.vd_bus.specs.GuestCommands.{CannotSend}
 use Rattle.vd_models.specs.declared.counts.Turn.{Turn}
 use Rattle.vd_models.specs.declared.driving.GuestStage.TheVariants as stage
-use Rattle.vd_models.specs.declared.hand.Hand.{Hand}
-use Rattle.vd_models.specs.declared.hand.Hand.TheVariants as hand
-use Rattle.vd_models.specs.Hands.{IsInHand}
+use Rattle.vd_models.specs.declared.pending.Pending.{Pending}
+use Rattle.vd_models.specs.declared.pending.Pending.TheVariants as hand
+use Rattle.vd_models.specs.Pending.{IsInHand}
 use Rattle.vd_models.specs.Sent.{next_store}
 use Rattle.vd_models.specs.Driving.{Driven, DriveOpens, BeginsDrive, IsDriveTurn}
 
@@ -38,7 +38,7 @@ FirstIs d x v (Some a) = StoresFirst d x v a
 FirstIs d x v None = CannotStore d x v
 
 -- the control access that comes next, if one does
-abbrev pub DueIs : {D : Type 0} → DriverModel D → Driven D → DriverView → Hand → Option Access → Type 0
+abbrev pub DueIs : {D : Type 0} → DriverModel D → Driven D → DriverView → Pending → Option Access → Type 0
 DueIs d x v hand.Free a = FirstIs d x v a
 DueIs d x v hand.First (Some a) = StoresSecond d x v a
 DueIs d x v hand.First None = ⊥

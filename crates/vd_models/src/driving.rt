@@ -4,15 +4,15 @@ ghost use Rattle.std.specs.Option.{option_copied};
 ghost use Rattle.vd_model.specs.declared.record.Return.{Return};
 ghost use Rattle.vd_ring.specs.declared.driver.DriverView.{DriverView};
 ghost use Rattle.vd_layout.specs.Begun.{DriverOp};
-ghost use Rattle.vd_models.specs.declared.hand.Hand.TheVariants.{Both};
+ghost use Rattle.vd_models.specs.declared.pending.Pending.TheVariants.{Both};
 ghost use Rattle.vd_models.specs.GuestStages.{is_done, offered_stage, woken_stage, none_stage, waking_turn};
-ghost use Rattle.vd_models.specs.Hands.{IsTurnToOffer};
+ghost use Rattle.vd_models.specs.Pending.{IsTurnToOffer};
 ghost use Rattle.vd_models.specs.Driving.{DriveOpens, CanDrive, MakesDriveTurn, IsKept, IsPlan, drive, loaded_of};
 ghost use Rattle.vd_models.specs.Sending.{Begins, CanTurn, CanBegin, MakesTurn};
 
 use crate::counts::Turn;
 use crate::cursor::{Cursor, next_chain, settle};
-use crate::hand::Hand;
+use crate::pending::Pending;
 use crate::sending::{control, control_access, next_command};
 use crate::sent::command_chain;
 use vd_layout::{DriverAct, DriverEnd, Layout};
@@ -49,7 +49,7 @@ pub struct Loaded {
     pub offered: u32,
     pub returned: Vec<Return>,
     pub stage: GuestStage,
-    pub hand: Hand,
+    pub hand: Pending,
 }
 
 /// From its boot to its halt: the end that the guest holds, and its script.
@@ -158,7 +158,7 @@ fn begin_next<L: Layout>(end: &mut L::Driver, loaded: &Loaded)
     ensures next { Begins L.Driver.driver L.layout (drive end.old loaded.now) (drive end.new loaded.now) }
 {
     match loaded.hand {
-        Hand::Both => begin_command::<L>(end, loaded),
+        Pending::Both => begin_command::<L>(end, loaded),
         _ => match next_chain(loaded.script.runs.as_slice(), loaded.at) {
             Some(chain) if end.room(chain) => end.begin_offer(chain),
             _ => end.begin_collect(),
@@ -211,7 +211,7 @@ fn operate<L: Layout, P: Port>(
             loaded.offered += 1;
             loaded.stage = after_offer(turns);
             match loaded.hand {
-                Hand::Both => loaded.hand = Hand::Free,
+                Pending::Both => loaded.hand = Pending::Free,
                 _ => {
                     let next = Cursor {
                         run: loaded.at.run,
@@ -235,7 +235,7 @@ fn operate<L: Layout, P: Port>(
                     loaded.stage = GuestStage::Done;
                 }
             } else {
-                loaded.hand = Hand::Ack { number, len, head };
+                loaded.hand = Pending::Ack { number, len, head };
             }
         }
         DriverAct::Nothing => loaded.stage = after_nothing(loaded.stage),

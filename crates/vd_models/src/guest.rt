@@ -9,7 +9,7 @@ ghost use Rattle.vd_models.specs.laws.GuestLaws.{unloaded_law, held_law, offered
 use crate::counts::{Counts, move_of};
 use crate::cursor::{Cursor, settle};
 use crate::driving::{Booted, GuestPhase, GuestStage, Loaded, drive};
-use crate::hand::Hand;
+use crate::pending::Pending;
 use crate::script::{copy_script, total};
 use std::alloc::{AllocError, Global};
 use std::mem::replace;
@@ -112,7 +112,7 @@ impl<L: Layout> Guest<L> for ModelGuest<L> {
             offered: 0,
             returned,
             stage: first_stage(total),
-            hand: Hand::Free,
+            hand: Pending::Free,
         });
         Ok(())
     }
@@ -126,7 +126,7 @@ impl<L: Layout> Guest<L> for ModelGuest<L> {
         let loaded = Loaded {
             at,
             stage,
-            hand: Hand::Free,
+            hand: Pending::Free,
             ..loaded
         };
         self.phase = GuestPhase::Booted(Booted { end, loaded });

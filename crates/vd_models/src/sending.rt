@@ -4,13 +4,13 @@ ghost use Rattle.std.specs.Option.{option_copied};
 ghost use Rattle.vd_ring.specs.declared.driver.DriverView.{DriverView};
 ghost use Rattle.vd_layout.specs.Begun.{DriverOp};
 ghost use Rattle.vd_models.specs.declared.driving.GuestStage.TheVariants.{Offering};
-ghost use Rattle.vd_models.specs.declared.hand.Hand.TheVariants.{First};
+ghost use Rattle.vd_models.specs.declared.pending.Pending.TheVariants.{First};
 ghost use Rattle.vd_models.specs.Driving.{DriveOpens, IsKept, IsPlan, drive};
 ghost use Rattle.vd_models.specs.Sending.{CanControl, FirstIs, StoresSecond, IsDue, MakesControlTurn};
 
 use crate::counts::Turn;
 use crate::driving::{GuestStage, Loaded, keep};
-use crate::hand::Hand;
+use crate::pending::Pending;
 use crate::sent::{ack_place, command_store, control_chain};
 use arrayvec::ArrayVec;
 use vd_layout::{DriverEnd, Layout};
@@ -78,10 +78,10 @@ pub(crate) fn control_access<L: Layout>(end: &L::Driver, loaded: &Loaded) -> Opt
         → IsDue L.Driver.driver (drive end.now loaded.now) v result }
 {
     match loaded.hand {
-        Hand::Free => first_store::<L>(end, loaded),
-        Hand::First => Some(second_store::<L>(end, loaded)),
-        Hand::Both => None,
-        Hand::Ack { head, .. } => Some(Access::Load(ack_place::<L>(end, head))),
+        Pending::Free => first_store::<L>(end, loaded),
+        Pending::First => Some(second_store::<L>(end, loaded)),
+        Pending::Both => None,
+        Pending::Ack { head, .. } => Some(Access::Load(ack_place::<L>(end, head))),
     }
 }
 
@@ -108,13 +108,13 @@ pub(crate) fn control<L: Layout, P: Port>(
 {
     let word = port.access(Op::Control, access);
     match loaded.hand {
-        Hand::Free => loaded.hand = Hand::First,
-        Hand::First => loaded.hand = Hand::Both,
-        Hand::Both => unreachable!(),
-        Hand::Ack { number, len, .. } => {
+        Pending::Free => loaded.hand = Pending::First,
+        Pending::First => loaded.hand = Pending::Both,
+        Pending::Both => unreachable!(),
+        Pending::Ack { number, len, .. } => {
             let ack = (word % 256) as u8;
             keep(&mut loaded.returned, Return { number, len, ack });
-            loaded.hand = Hand::Free;
+            loaded.hand = Pending::Free;
             if loaded.returned.len() == loaded.total as usize {
                 loaded.stage = GuestStage::Done;
             }

@@ -27,10 +27,10 @@ use Rattle.vd_models.specs.declared.driving.GuestPhase.{GuestPhase}
 use Rattle.vd_models.specs.declared.driving.GuestPhase.TheVariants as phase
 use Rattle.vd_models.specs.declared.driving.GuestStage.{GuestStage}
 use Rattle.vd_models.specs.declared.driving.GuestStage.TheVariants as stage
-use Rattle.vd_models.specs.declared.hand.Hand.{Hand}
-use Rattle.vd_models.specs.declared.hand.Hand.TheVariants as hand
+use Rattle.vd_models.specs.declared.pending.Pending.{Pending}
+use Rattle.vd_models.specs.declared.pending.Pending.TheVariants as hand
 use Rattle.vd_models.specs.GuestStages.{BegunIs, DoneIs, ArmedIs, IsStuck, is_done}
-use Rattle.vd_models.specs.Hands.{HandIs}
+use Rattle.vd_models.specs.Pending.{HandIs}
 use Rattle.vd_models.specs.Driving.{GuestHolds, IsBooted, Paces, command_next, next_of, scripted, loaded_of, script_of, offered_of, returned_of, is_done_of}
 use Rattle.vd_models.specs.laws.Scripted.{commands_or, scripted_chains, scripted_commands, next_is_chain, next_is_command}
 
@@ -102,7 +102,7 @@ get_drop (suc n) (x ∷ xs) = get_drop n xs
 
 -- with an ack to be loaded it isn't done
 done_held : (words : ControlWords) (s : Script) (rs : List Return) (f : Frame) (o : List DriverDone) (st : GuestStage) (b : DriverOp)
-    (h : Hand) → is_done st ≡ true → HandIs words s rs f o st b h → length rs ≡ length (collects o)
+    (h : Pending) → is_done st ≡ true → HandIs words s rs f o st b h → length rs ≡ length (collects o)
 done_held words s rs f o st b hand.Free e h = h.0
 done_held words s rs f o st b hand.First e h = h.0.back
 done_held words s rs f o st b hand.Both e h = h.0.back
@@ -226,7 +226,7 @@ module _ {D : Type 0} (d : DriverModel D) (l : LayoutModel) where
       let stuck : IsStuck (command_next d.words y.script v.frame v.done) v.frame v.done =
       subst (λ z. IsStuck z v.frame v.done) (next_is_command d.words y.script y.at v.frame v.done full) (stuck_at b c v t h armed) in
       subst (λ (z : Script). CannotSend d.words z v.frame v.done) is (λ bytes get room.
-          stuck_next d.words v.frame v.done (slice_get (commands y.script) (length (offers v.done))) bytes get stuck room)
+      stuck_next d.words v.frame v.done (slice_get (commands y.script) (length (offers v.done))) bytes get stuck room)
 
   -- ---- what the laws say of a guest that was booted they say of each that holds a view
 
@@ -288,8 +288,10 @@ module _ {D : Type 0} (d : DriverModel D) (l : LayoutModel) where
       → (is_done_of (loaded_of p) ≡ true) ↔ HasSentAll s v (returned_of (loaded_of p))
   sent_all_law law p c v s h is some = held p c v
       (λ z. script_of (loaded_of z) ≡ Some s → (is_done_of (loaded_of z) ≡ true) ↔ HasSentAll s v (returned_of (loaded_of z))) h
-      (λ b x is. ((λ e. sent_all_of law b c v s x (same_script b.loaded.script s is) some e),
-      λ all. sent_done b c v s x (same_script b.loaded.script s is) some all)) is
+      (λ b x is. (
+        (λ e. sent_all_of law b c v s x (same_script b.loaded.script s is) some e),
+        λ all. sent_done b c v s x (same_script b.loaded.script s is) some all,
+      )) is
 
   pub sleeps_law : (p : GuestPhase D) (c : Counts) (v : DriverView) (s : Script) (t : ℕ) → GuestHolds d l p c v
       → script_of (loaded_of p) ≡ Some s → HasCommands s → v.armed ≡ Some t → CannotSend d.words s v.frame v.done

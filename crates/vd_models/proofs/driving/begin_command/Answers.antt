@@ -7,9 +7,11 @@ use Rattle.vd_models.proofs.driving.begin_command.Goals as goal
 
 pub command_chain-chain-requires-clause-ready : goal.command_chain-chain-requires-clause-ready
 command_chain-chain-requires-clause-ready g c =
-    let r = c.requires.can in
-    (r.0, begun_both g.L.Driver.DriverEnd.driver g.L.Device.DeviceEnd.device g.L.Layout.layout g.met.L.Layout.lawful
-    (drive c.args.end.now c.args.loaded.now) r.0 r.1 c.requires.both c.requires.idle)
+    let r = c.requires.can in (
+      r.0,
+      begun_both g.L.Driver.DriverEnd.driver g.L.Device.DeviceEnd.device g.L.Layout.layout g.met.L.Layout.lawful
+          (drive c.args.end.now c.args.loaded.now) r.0 r.1 c.requires.both c.requires.idle,
+    )
 
 pub begin_offer-requires-clause-may : goal.begin_offer-requires-clause-may
 begin_offer-requires-clause-may g c =
@@ -22,9 +24,12 @@ begin_offer-requires-clause-may g c =
     let ready = begun_both d e l lay x r.0 r.1 c.requires.both c.requires.idle in
     let is : IsChain c.command_chain-chain.result = search rules in
     let same = chain_both d e l lay x r.0 r.1 c.requires.both c.in-Some.command.now c.len.result c.command_chain-chain.result
-    c.in-Some.ensures c.len.ensures.value (c.command_chain-chain.ensures r.0 ready) in
-    (r.0, r.1.drives.stands, may_send d e l lay x r.0 r.1 c.command_chain-chain.result (held_both d e l lay x r.0 r.1 c.requires.both)
-    is same)
+    c.in-Some.ensures c.len.ensures.value (c.command_chain-chain.ensures r.0 ready) in (
+      r.0,
+      r.1.drives.stands,
+      may_send d e l lay x r.0 r.1 c.command_chain-chain.result (held_both d e l lay x r.0 r.1 c.requires.both)
+          is same,
+    )
 
 pub returns-clause-next : goal.returns-clause-next
 returns-clause-next g c = λ v h due.

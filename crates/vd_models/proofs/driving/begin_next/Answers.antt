@@ -3,7 +3,7 @@ use Rattle.std.specs.Option.{option_copied}
 use Rattle.vd_model.specs.declared.chain.Piece.{Piece}
 use Rattle.vd_model.specs.declared.record.Run.{Run}
 use Rattle.vd_layout.specs.Driver.{HasRoom}
-use Rattle.vd_models.specs.declared.hand.Hand.{Hand}
+use Rattle.vd_models.specs.declared.pending.Pending.{Pending}
 use Rattle.vd_models.specs.Cursors.{next_at}
 use Rattle.vd_models.specs.GuestStages.{IsStuck}
 use Rattle.vd_models.specs.Driving.{drive, next_of}
@@ -24,9 +24,12 @@ begin_offer-requires-clause-may g c =
     let x = drive c.args.end.now c.args.loaded.now in
     let r = c.requires.can in
     let next : next_at x.script.runs x.at ≡ Some c.in-Some.chain.now = sym (c.in-Some.ensures ∙ ap
-    (λ (rs : List Run). next_at rs x.at) c.as_slice.ensures) in
-    (r.0, r.1.drives.stands, may_offer d l x r.0 c.in-Some.chain.now r.1.drives (chains_by d l x r.0 c.in-Some.chain.now r.1 next) next
-    ((c.room.ensures r.0 r.1.drives.stands).0 c.if-room.true))
+    (λ (rs : List Run). next_at rs x.at) c.as_slice.ensures) in (
+      r.0,
+      r.1.drives.stands,
+      may_offer d l x r.0 c.in-Some.chain.now r.1.drives (chains_by d l x r.0 c.in-Some.chain.now r.1 next) next
+          ((c.room.ensures r.0 r.1.drives.stands).0 c.if-room.true),
+    )
 
 pub returns-in-Some-clause-next : goal.returns-in-Some-clause-next
 returns-in-Some-clause-next g c = λ v h due.
@@ -67,6 +70,6 @@ returns-in_default-next_chain-clause-next g c = λ v h due.
     (λ none. subst (λ z. IsStuck z v.frame v.done) (sym (next_is_chain d.words x.script x.at v.frame v.done none))
     (stuck_chain (next_at x.script.runs x.at) v.frame v.done cannot))
     (λ some. subst (λ z. IsStuck z v.frame v.done) (sym (next_is_command d.words x.script x.at v.frame v.done some))
-    (stuck_command d.words x.script v.frame v.done (subst (λ (z : Hand). DueIs d x v z None) free due c.requires.idle offering))) in
+    (stuck_command d.words x.script v.frame v.done (subst (λ (z : Pending). DueIs d x v z None) free due c.requires.idle offering))) in
     begins_collect d l g.met.L.Layout.lawful.driver_end x c.begin_collect.new.self v h c.requires.idle offering free stuck
     c.begin_collect.ensures.begun (c.begin_collect.ensures.stands v h.drives.stands) c.begin_collect.ensures.left

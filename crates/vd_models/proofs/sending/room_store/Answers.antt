@@ -14,9 +14,11 @@ command_store-requires-clause-ready g c =
     let lay = g.met.L.Layout.lawful in
     let x = drive c.args.end.now c.args.loaded.now in
     let r = c.requires.opens in
-    let room = subst (λ (z : List Piece). HasRoom r.0.frame r.0.done z) c.control_chain.ensures ((c.room.ensures r.0 r.1.drives.stands).0 c.if-room.true) in
-    (r.0, ready_by d e l lay x r.0 r.1 0 (held_none d e l lay x r.0 r.1 c.in-Some.command.now c.in-Some.ensures c.len.result
-    c.len.ensures.value room) c.requires.idle)
+    let room = subst (λ (z : List Piece). HasRoom r.0.frame r.0.done z) c.control_chain.ensures ((c.room.ensures r.0 r.1.drives.stands).0 c.if-room.true) in (
+      r.0,
+      ready_by d e l lay x r.0 r.1 0 (held_none d e l lay x r.0 r.1 c.in-Some.command.now c.in-Some.ensures c.len.result
+          c.len.ensures.value room) c.requires.idle,
+    )
 
 pub returns-in-Some : goal.returns-in-Some
 returns-in-Some g c = λ v h.

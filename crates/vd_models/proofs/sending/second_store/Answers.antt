@@ -6,9 +6,11 @@ use Rattle.vd_models.proofs.sending.second_store.Goals as goal
 
 pub command_store-requires-clause-ready : goal.command_store-requires-clause-ready
 command_store-requires-clause-ready g c =
-    let r = c.requires.opens in
-    (r.0, begun_first g.L.Driver.DriverEnd.driver g.L.Device.DeviceEnd.device g.L.Layout.layout g.met.L.Layout.lawful
-    (drive c.args.end.now c.args.loaded.now) r.0 r.1 c.requires.first)
+    let r = c.requires.opens in (
+      r.0,
+      begun_first g.L.Driver.DriverEnd.driver g.L.Device.DeviceEnd.device g.L.Layout.layout g.met.L.Layout.lawful
+          (drive c.args.end.now c.args.loaded.now) r.0 r.1 c.requires.first,
+    )
 
 pub returns : goal.returns
 returns g c = λ v h.

@@ -12,8 +12,11 @@ overflow_add-result g c =
     let r = c.requires.ready in
     let at = c.next_head.ensures r.0 r.1.stands in
     let p = ready_places g.met.L.Layout.lawful c.next_head.result r.0 at r.1 in
-    omega (arith, second_fits g.met.L.Layout.lawful c.command_place-place.result r.0
-    (command_at g.L.Driver.DriverEnd.driver c.next_head.result c.command_place-place.result r.0 at (c.command_place-place.ensures r.0 p)) r.1)
+    omega (
+      arith,
+      second_fits g.met.L.Layout.lawful c.command_place-place.result r.0
+          (command_at g.L.Driver.DriverEnd.driver c.next_head.result c.command_place-place.result r.0 at (c.command_place-place.ensures r.0 p)) r.1,
+    )
 
 pub returns-then-second : goal.returns-then-second
 returns-then-second g c = λ v r.

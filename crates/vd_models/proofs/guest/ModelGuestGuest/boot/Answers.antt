@@ -3,7 +3,7 @@ use Rattle.vd_model.specs.declared.record.Run.{Run}
 use Rattle.vd_model.specs.declared.record.Script.{Script}
 use Rattle.vd_bus.specs.Guest.{CanBoot}
 use Rattle.vd_models.specs.declared.driving.Loaded.{Loaded}
-use Rattle.vd_models.specs.declared.hand.Hand.TheVariants as hand
+use Rattle.vd_models.specs.declared.pending.Pending.TheVariants as hand
 use Rattle.vd_models.specs.Cursors.{left_at, IsSettled}
 use Rattle.vd_models.specs.Driving.{drive, script_of, offered_of, returned_of, loaded_of}
 use Rattle.vd_models.proofs.GuestParties.{boots, first_paid, loaded_is, quiet, same_script}

@@ -13,8 +13,8 @@ use Rattle.vd_commands.specs.Words.{command_word}
 use Rattle.vd_bus.specs.GuestCommands.{commands, command_chain, HasCommands}
 use Rattle.vd_models.specs.declared.driving.GuestStage.{GuestStage}
 use Rattle.vd_models.specs.declared.driving.GuestStage.TheVariants as stage
-use Rattle.vd_models.specs.declared.hand.Hand.{Hand}
-use Rattle.vd_models.specs.declared.hand.Hand.TheVariants as hand
+use Rattle.vd_models.specs.declared.pending.Pending.{Pending}
+use Rattle.vd_models.specs.declared.pending.Pending.TheVariants as hand
 
 -- the next command has room, and the first so many of its two words are stored
 pub record IsInHand (words : ControlWords) (s : Script) (f : Frame) (o : List DriverDone) (n : ℕ) : Type 0 where
@@ -62,7 +62,7 @@ IsOffering (DriverOp.offer c) = Unit {0}
 IsOffering _ = ⊥
 
 -- what is in hand, by the stage and the operation that was begun: only with both words in hand a command is offered
-abbrev pub HandIs : ControlWords → Script → List Return → Frame → List DriverDone → GuestStage → DriverOp → Hand → Type 0
+abbrev pub HandIs : ControlWords → Script → List Return → Frame → List DriverDone → GuestStage → DriverOp → Pending → Type 0
 HandIs words s rs f o st b hand.Free = (length rs ≡ length (collects o)) × (HasCommands s → IsNoOffer b)
 HandIs words s rs f o st b hand.First = IsSending words s rs f o st 1 × (b ≡ DriverOp.idle)
 HandIs words s rs f o st b hand.Both = IsSending words s rs f o st 2 × IsOffering b
@@ -75,7 +75,7 @@ abbrev pub offer_owes : DriverOp → ℕ → ℕ
 offer_owes DriverOp.idle left = 38
 offer_owes _ left = left
 
-abbrev pub hand_owes : Hand → DriverOp → ℕ → ℕ → ℕ
+abbrev pub hand_owes : Pending → DriverOp → ℕ → ℕ → ℕ
 hand_owes hand.Free b left n = n
 hand_owes hand.First b left n = 39
 hand_owes hand.Both b left n = offer_owes b left

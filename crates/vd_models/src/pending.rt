@@ -2,7 +2,7 @@
 
 /// How far the next command is, or the last that was collected. A guest of chains has nothing in hand.
 #[derive(Copy, Clone)]
-pub enum Hand {
+pub enum Pending {
     /// No word of the next command is stored, and each entry collected has its ack.
     Free,
     /// The next command's first word is stored.
