@@ -16,3 +16,4 @@ pub mod Tree
 pub mod Setup
 pub mod Attaching
 pub mod Switching
+pub mod Renewing
