@@ -100,23 +100,25 @@ module _ {L D E G X C : Type 0} (s : Setting D E G X C) (law : IsLawful s) (plan
       → (words' ≡ words) × (relayed' ≡ relayed) → still' ≡ None → relaying' ≡ Some x → still ≡ Some end → x.words ≡ ring.words
       → Shadows s.device s.driver end ring.kit.driver ring.kit.table x.lane.relay.state x.lane.relay.counts
       → IsNew x.lane.relay.state x.lane.relay.counts
-      → IsAttach s.device s.party (shadow_order s.layout plan k q (to - length (s.party.begun device1))) None ring.kit.device device1 device'
+      → IsAttach s.device s.party (shadow_order s.layout plan k q (to - length (s.party.begun device1))) None ring.kit.device device1
+      device'
       → IsShadowRing s.driver s.device s.layout plan q k ring
       → StoppedWith s plan q k words still relaying relayed guest device → Renews s.party (resets plan q k) device device1
       → InEpochWith s plan q true k 0 words' still' relaying' relayed' guest device'
-  held_shadows to words words' None still' relaying relaying' relayed relayed' guest device device1 device' end ring x is more mode same none has
-      was own shadows fresh a kit p n = absurd p
-  held_shadows to words words' (Some old) still' (Some y) relaying' relayed relayed' guest device device1 device' end ring x is more mode same none
+  held_shadows to words words' None still' relaying relaying' relayed relayed' guest device device1 device' end ring x is more mode same none
       has was own shadows fresh a kit p n = absurd p
-  held_shadows to words words' (Some old) still' None relaying' relayed relayed' guest device device1 device' end ring x is more mode same none has
-      was own shadows fresh a kit p n =
+  held_shadows to words words' (Some old) still' (Some y) relaying' relayed relayed' guest device device1 device' end ring x is more mode
+      same none has was own shadows fresh a kit p n = absurd p
+  held_shadows to words words' (Some old) still' None relaying' relayed relayed' guest device device1 device' end ring x is more mode
+      same none has was own shadows fresh a kit p n =
       let r = x.lane.relay.state in
       let c = x.lane.relay.counts in
       let stopped : IsStopped s plan q k 0 words end relayed guest device = subst
       (λ (z : E). IsStopped s plan q k 0 words z relayed guest device) (some_same old end (Some old) refl was) p in
       let begun : IsShadowing s plan q k 0 words x.words.words r c relayed guest device' = subst
       (λ (z : RingWords). IsShadowing s plan q k 0 words z.words r c relayed guest device') (sym own)
-      (shadow_starts s law plan q k to words end relayed guest device device1 device' ring r c is more mode stopped n kit shadows fresh a) in
+      (shadow_starts s law plan q k to words end relayed guest device device1 device' ring r c is more mode stopped n kit shadows fresh
+      a) in
       rw (same.0, none, has, same.1)
       (subst (λ b. RelayingBy b s plan q k 0 words x.words.words r c relayed guest device') (sym fresh.winding) begun)
 
@@ -128,8 +130,8 @@ module _ {L D E G X C : Type 0} (s : Setting D E G X C) (law : IsLawful s) (plan
       → InEpoch s plan q true k 0 b guest device' × (s.party.accesses device' ≡ s.party.accesses device1)
   lane_shadows to a b guest device device1 device' is more less mode same none h p n = (
     record {
-      held = held_shadows to a.words b.words a.still b.still a.relaying b.relaying a.relayed b.relayed guest device device1 device' h.end h.ring
-          h.lane is more mode same.0 none h.is h.was h.words h.relays h.fresh h.attached
+      held = held_shadows to a.words b.words a.still b.still a.relaying b.relaying a.relayed b.relayed guest device device1 device' h.end
+          h.ring h.lane is more mode same.0 none h.is h.was h.words h.relays h.fresh h.attached
           (kit_is s.driver s.device s.layout plan q k a.kits.items p.kits less mode h.ring h.next) p.held n;
       kits = subst (HasKits s.driver s.device s.layout plan q (k + 1)) (sym same.1)
           (kits_shadow s.driver s.device s.layout plan q k a.kits.items p.kits less mode);

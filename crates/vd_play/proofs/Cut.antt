@@ -159,6 +159,18 @@ module _ {D E G X C : Type 0} (s : Setting D E G X C) (law : IsLawful s) (plan :
       cut_shadowing k n words shadow_words r c relayed guest device p
   cut_relaying true k n words shadow_words r c relayed guest device p = cut_winding k n words shadow_words r c relayed guest device p
 
+  -- a refused attach has changed nothing of it
+  pub cut_refused : (guest : G) (device device' : X) → IsRefused s.party device device' → IsCut s plan q guest device
+      → IsCut s plan q guest device'
+  cut_refused guest device device' r c =
+      record {
+        events = subst (λ zs. IsPrefix zs (journal_events s.device s.layout plan q)) (sym r.events) c.events;
+        chains = subst (λ (bs : List Begun). IsPrefix (chains_of bs) (journal_chains plan q)) (sym r.begun) c.chains;
+        each = subst (λ (bs : List Begun). All IsBegun bs) (sym r.begun) c.each;
+        once = c.once;
+        returned = subst (λ (bs : List Begun). All (HasLen (lens_of bs)) (s.guest.returned guest)) (sym r.begun) c.returned;
+      }
+
 -- ---- a lane
 
 module _ {L D E G X C : Type 0} (s : Setting D E G X C) (law : IsLawful s) (plan : Plan) (q : ℕ) where
@@ -198,18 +210,6 @@ module _ {L D E G X C : Type 0} (s : Setting D E G X C) (law : IsLawful s) (plan
         returned = subst (λ (bs : List Begun). All (HasLen (lens_of bs)) (s.guest.returned guest)) (sym n.begun) c.returned;
       }
 
-  -- a refused attach has changed nothing of it
-  pub cut_refused : (guest : G) (device device' : X) → IsRefused s.party device device' → IsCut s plan q guest device
-      → IsCut s plan q guest device'
-  cut_refused guest device device' r c =
-      record {
-        events = subst (λ zs. IsPrefix zs (journal_events s.device s.layout plan q)) (sym r.events) c.events;
-        chains = subst (λ (bs : List Begun). IsPrefix (chains_of bs) (journal_chains plan q)) (sym r.begun) c.chains;
-        each = subst (λ (bs : List Begun). All IsBegun bs) (sym r.begun) c.each;
-        once = c.once;
-        returned = subst (λ (bs : List Begun). All (HasLen (lens_of bs)) (s.guest.returned guest)) (sym r.begun) c.returned;
-      }
-
   pub cut_epoch : (on : Bool) (k r : ℕ) (words : RingWords) (still : Option E) (relaying : Option (Relaying L D E)) (relayed : ℕ)
       (guest : G) (device : X) → InEpochWith s plan q on k r words still relaying relayed guest device → IsCut s plan q guest device
   cut_epoch true k r words None None relayed guest device p = cut_passing s law plan q k r words relayed guest device p
@@ -233,7 +233,7 @@ cut_bench s law plan k i lanes bench lane lane' device device' less there each h
     lanes bench.guests.items bench.devices.items lane' g.0 device' g.1 each
     (λ q a b x p. cut_epoch s law plan q true k 0 a.words a.still a.relaying a.relayed b x p.held)
     (λ q a b x p. cut_renewed s law plan q k a b x less p)
-    (cut_refused {L} s law plan i g.0 device device' refused (cut_renewed s law plan i k lane g.0 device less
+    (cut_refused s law plan i g.0 device device' refused (cut_renewed s law plan i k lane g.0 device less
     (stage_read (λ q a b x. InEpoch s plan q true k 0 a b x) (λ q a b x. Renewed s plan q k a b x) i lanes bench.guests.items
     bench.devices.items lane g.0 device each hl g.1 hx)))
 

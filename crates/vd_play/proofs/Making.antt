@@ -87,7 +87,8 @@ module _ {D E G X C : Type 0} (s : Setting D E G X C) (law : IsLawful s) (plan :
       → s.guest.script guest1 ≡ Some (queue_script plan q) → (s.guest.accesses guest1 ≡ s.guest.accesses guest)
       × (s.guest.heard guest1 ≡ s.guest.heard guest) → IsBoot s.driver s.guest driver guest1 guest2
       → IsEmptyDevice s.party device → IsUnchanged s.party device device' → s.party.window device' ≡ plan.window
-      → 2 * (length plan.switches + 2) + renewals plan.switches ≤ s.party.event_room device' → length (queue_chains plan q) ≤ s.party.chain_room device'
+      → 2 * (length plan.switches + 2) + renewals plan.switches ≤ s.party.event_room device'
+      → length (queue_chains plan q) ≤ s.party.chain_room device'
       → IsStopped s plan q 0 0 words end 0 guest2 device'
   made words driver end guest guest1 guest2 device device' queue can number is fresh idle script counts boot empty same window events room =
       let f : Frame = guest_frame s.layout plan q in

@@ -1,6 +1,7 @@
 -- A device that was reset where its epoch begins with a renewal.
 use Rattle.std.proofs.Common.{◌≡◌, ℕ, ◌+◌, ◌<◌, ◌≤◌, Bool, true, false, Option, Some, None, List, [], ◌∷◌, ◌++◌, if◌then◌else◌, length, length-append, slice_get, ◌∙◌, ap, sym, arith}
 use Rattle.std.specs.List.{sum_by}
+use Rattle.std.proofs.lemmas.Bool.{false≢true}
 use Rattle.std.proofs.lemmas.List.{append-nil, append_assoc}
 use Rattle.std.proofs.lemmas.Option.{slice_get_within}
 use Rattle.vd_bus.specs.declared.event.Event.{Event}
@@ -23,6 +24,7 @@ use Rattle.vd_play.specs.Renewing.{IsRenewed, CanReset, AreRenewed, Renewed, All
 use Rattle.vd_play.specs.Setting.{Setting}
 use Rattle.vd_play.proofs.Benches.{same_many}
 use Rattle.vd_play.proofs.Bounds.{at_index, bounded, many_epochs}
+use Rattle.vd_play.proofs.Lists.{some_same}
 use Rattle.vd_play.proofs.Pace.{attaches_more}
 use Rattle.vd_play.proofs.Rooms.{journal_long}
 
@@ -113,6 +115,11 @@ module _ {L D E G X C : Type 0} (s : Setting D E G X C) (plan : Plan) (q k : ℕ
       (p.rests.free, omega (arith, room_before s plan q k 0 words end relayed guest device p more))
 
 -- ---- a bench
+
+-- without a renewal each device is as it was
+pub are_same : {G X C : Type 0} (m : DeviceParty X C) (b : Bool) (n : ℕ) (bench : Bench G X) → b ≡ false → AreRenewed m b n bench bench
+are_same m false n bench is = λ q x y below hx hy. some_same y x (slice_get bench.devices.items q) hy hx
+are_same m true n bench is = absurd (false≢true (sym is))
 
 module _ {L D E G X C : Type 0} (s : Setting D E G X C) (plan : Plan) (k n : ℕ) (lanes : List (Lane L D E)) (old new : Bench G X)
     (many : length lanes ≡ n) (stopped : AllStopped s plan k lanes old) where

@@ -78,26 +78,28 @@ module _ {E : Type 0} (e : DeviceModel E) (l : LayoutModel) (plan : Plan) (q : �
   events_from i [] m renewed first n j =
       let f : Epoch → List Event = epoch_events e l plan q in
       let x : Epoch = record { number = i; mode = m; renewed = renewed; first = first; end = n } in
-      omega (
-        arith,
-        length-append (f x) (f (closing j n) ++ []),
-        length-append (f (closing j n)) [],
-        events_of x,
-        events_of (closing j n),
-      )
+      let c : Epoch = closing j n in
+      let here : length (f x) ≡ count renewed + 2 = events_of x in
+      let last : length (f c) ≡ 2 = events_of c in
+      let all : length (f x ++ (f c ++ [])) ≡ count renewed + 4 =
+      omega (arith, length-append (f x) (f c ++ []), length-append (f c) [], here, last) in
+      all
   events_from i (s ∷ ss) m renewed first n j =
       let f : Epoch → List Event = epoch_events e l plan q in
       let x : Epoch = record { number = i; mode = m; renewed = renewed; first = first; end = min s.after n } in
       let rest : List Epoch =
       epochs_from (i + 1) ss (mode_after m s.to) (is_renewal s.to) (min s.after n) n ++ closing j n ∷ [] in
+      let here : length (f x) ≡ count renewed + 2 = events_of x in
+      let all : length (f x ++ flat_map f rest) ≡ count renewed + 2 * (length (s ∷ ss) + 2) + renewals (s ∷ ss) =
       omega (
         arith,
         length-append (f x) (flat_map f rest),
-        events_of x,
+        here,
         events_from (i + 1) ss (mode_after m s.to) (is_renewal s.to) (min s.after n) n j,
         sum_by-cons (λ (z : Switch). renewal_count z.to) s ss,
         count_is s.to,
-      )
+      ) in
+      all
 
   pub journal_length : length (journal_events e l plan q) ≡ 2 * (length plan.switches + 2) + renewals plan.switches
   journal_length = events_from 0 plan.switches plan.start false 0 (length (queue_chains plan q)) (length plan.switches + 1)

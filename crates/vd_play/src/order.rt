@@ -1,5 +1,6 @@
 //! How many chains a device is attached to begin, in which mode, and whether it is reset before.
-ghost use Rattle.std.specs.Prelude.{◌≡◌, ◌≤◌, ◌+◌, ◌*◌, min, length};
+ghost use Rattle.std.specs.Prelude.{◌≡◌, ◌≤◌, ◌+◌, ◌*◌, false, min, length, slice_get};
+ghost use Rattle.std.specs.Option.{option_map_or};
 ghost use Rattle.vd_bus.specs.Scripts.{run_count};
 ghost use Rattle.vd_machine.specs.File.{view};
 ghost use Rattle.vd_play.specs.Epochs.{mode_at, renewed_at, is_renewal};
@@ -54,6 +55,16 @@ fn is_renewal(to: To) -> bool
     }
 }
 
+/// Whether the switch of this number is a renewal.
+fn is_renewal_at(switches: &[Switch], number: usize) -> bool
+    ensures { result ≡ option_map_or (λ s. is_renewal s.to) (slice_get switches.now number) false }
+{
+    match switches.get(number) {
+        Some(switch) => is_renewal(switch.to),
+        None => false,
+    }
+}
+
 /// Whether an epoch begins with a renewal: the switch before it is one.
 pub(crate) fn is_renewed(m: &Machine, epoch: usize) -> bool
     ensures { result ≡ renewed_at (view m.now) epoch }
@@ -61,10 +72,7 @@ pub(crate) fn is_renewed(m: &Machine, epoch: usize) -> bool
     if epoch == 0 {
         return false;
     }
-    match m.switches.as_slice().get(epoch - 1) {
-        Some(switch) => is_renewal(switch.to),
-        None => false,
-    }
+    is_renewal_at(m.switches.as_slice(), epoch - 1)
 }
 
 /// One for a renewal.

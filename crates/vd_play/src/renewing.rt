@@ -48,8 +48,9 @@ pub(crate) fn renew<L: Layout, G: Drop, V: Device<L>>(
     ensures counted { sum_by V.party.accesses bench.new.devices.items ≡ sum_by V.party.accesses bench.old.devices.items }
     ensures renewed { AreRenewed V.party (renewed_at (view m.now) epoch) (length m.now.queues) bench.old bench.new }
 {
-    if is_renewed(m, epoch) {
-        set_status(bus, 0);
-        reset_all::<L, G, V>(m.queues.len(), bench);
+    if !is_renewed(m, epoch) {
+        return;
     }
+    set_status(bus, 0);
+    reset_all::<L, G, V>(m.queues.len(), bench);
 }

@@ -113,7 +113,10 @@ fn names_the_rule_of_a_switch(rt: HostRuntime) -> Result<(), Fail> {
 fn reads_the_switches_in_their_order(rt: HostRuntime) -> Result<(), Fail> {
     let text = with(
         rt.alloc(),
-        "start = 'shadow'\nswitches = [{ after = 0x10, to = 'shadow' }, { after = 16, to = 'renew' }, { to = \"pass\", after = 4294967295 }]",
+        concat!(
+            "start = 'shadow'\nswitches = [{ after = 0x10, to = 'shadow' }, { after = 16, to = 'renew' }, ",
+            "{ to = \"pass\", after = 4294967295 }]",
+        ),
     )?;
     let machine = Machine::read(rt.alloc(), text.as_bytes())?;
     let switches = [

@@ -64,7 +64,8 @@ returns-clause-ok g c =
           (record { layout = g.met.L.Layout.lawful; guest = g.met.G.Guest.lawful; party = g.met.V.Device.lawful }) plan q _
           c.in_ok-driver.driver c.in_ok-driver.end _ _ _ _ _ queue can c.in_ok-words.ensures.0 words c.in_ok-driver.ensures
           c.requires.guest (c.in_ok-load.ensures.ok.1 ∙ ap Some (sym here)) c.load.ensures.counts c.boot.ensures c.requires.device
-          c.reserve.ensures.same c.in_ok-reserve.ensures.window (omega (arith, c.in_ok-reserve.ensures.room.0, c.event_count-events.ensures, c.as_slice-events.ensures))
+          c.reserve.ensures.same c.in_ok-reserve.ensures.window
+          (omega (arith, c.in_ok-reserve.ensures.room.0, c.event_count-events.ensures, c.as_slice-events.ensures))
           (omega (arith, c.in_ok-reserve.ensures.room.1, many));
       kits = c.in_ok-kits.ensures;
     }
