@@ -55,7 +55,7 @@ journal_long e l plan q k ep is renewed first =
 
 -- ---- how many events there are
 
-count : Bool → ℕ
+abbrev count : Bool → ℕ
 count true = 1
 count false = 0
 
@@ -80,8 +80,8 @@ module _ {E : Type 0} (e : DeviceModel E) (l : LayoutModel) (plan : Plan) (q : �
       let x : Epoch = record { number = i; mode = m; renewed = renewed; first = first; end = n } in
       let c : Epoch = closing j n in
       let here : length (f x) ≡ count renewed + 2 = events_of x in
-      let last : length (f c) ≡ 2 = events_of c in
-      let all : length (f x ++ (f c ++ [])) ≡ count renewed + 4 =
+      let last : length (f c) ≡ 0 + 2 = events_of c in
+      let all : length (f x ++ (f c ++ [])) ≡ count renewed + 2 * (0 + 2) + 0 =
       omega (arith, length-append (f x) (f c ++ []), length-append (f c) [], here, last) in
       all
   events_from i (s ∷ ss) m renewed first n j =
@@ -102,7 +102,10 @@ module _ {E : Type 0} (e : DeviceModel E) (l : LayoutModel) (plan : Plan) (q : �
       all
 
   pub journal_length : length (journal_events e l plan q) ≡ 2 * (length plan.switches + 2) + renewals plan.switches
-  journal_length = events_from 0 plan.switches plan.start false 0 (length (queue_chains plan q)) (length plan.switches + 1)
+  journal_length =
+      let all : length (journal_events e l plan q) ≡ 0 + 2 * (length plan.switches + 2) + renewals plan.switches =
+      events_from 0 plan.switches plan.start false 0 (length (queue_chains plan q)) (length plan.switches + 1) in
+      omega (arith, all)
 
 renewal_few : (t : To) → renewal_count t ≤ 1
 renewal_few to.Pass = omega arith
