@@ -90,6 +90,14 @@ epoch 0 1 shadow 2 4
 epoch 0 2 pass 4 6
 drained 6
 ' play --brief --seed 7
+cp examples/renewal.toml "$work/in"
+expect 'a renewal in the mode shadow' 0 '' 'queue 0 chains 8 bytes 80
+epoch 0 0 pass 0 2
+epoch 0 1 shadow 2 4
+epoch 0 2 shadow 4 6
+epoch 0 3 pass 6 8
+drained 8
+' play --brief
 cp examples/shadowed.toml "$work/in"
 expect 'a shadow epoch from the start' 0 '' 'queue 0 chains 1 bytes 10
 chain 0 0 10

@@ -1,7 +1,7 @@
 -- The mode at the start and the switches in the canonical text: their values, and that these mean them.
 use Rattle.std.proofs.Common.{◌≡◌, ℕ, ◌<◌, ◌≤◌, true, false, nat_le, List, ◌++◌, length, get_or, drop, map, codes, pos, decimal, Some, refl, ap, sym, ◌∙◌, ◌+◌, arith, append_assoc, FitsSigned}
 use Rattle.std.specs.Int.{w64}
-use Rattle.std.proofs.lemmas.Bool.{and_parts, leb-true, false≢true}
+use Rattle.std.proofs.lemmas.Bool.{leb-true}
 use Rattle.std.proofs.lemmas.Int.{fits_signed_from_abs}
 use Rattle.std.proofs.lemmas.List.{drop_more}
 use Rattle.toml_writer.specs.Text.{key_text}
@@ -10,7 +10,7 @@ use Rattle.toml.specs.Text.{IsValueText}
 use Rattle.vd_model.specs.declared.base.Mode.{Mode}
 use Rattle.vd_model.specs.declared.base.Mode.TheVariants as mode
 use Rattle.vd_machine.specs.Canon.{quoted, more_items, mode_name, to_name, switch_text}
-use Rattle.vd_machine.specs.Switches.{is_taken, is_switch, to_of, switch_of}
+use Rattle.vd_machine.specs.Switches.{is_switch, to_of, switch_of}
 use Rattle.vd_machine.specs.declared.machine.Switch.{Switch}
 use Rattle.vd_machine.specs.declared.machine.To.{To}
 use Rattle.vd_machine.specs.declared.machine.To.TheVariants as to
@@ -20,7 +20,7 @@ abbrev pub switch_data : Switch → Data
 switch_data s = table (member (codes "after") (integer (pos s.after)) (member (codes "to") (string (to_name s.to)) no_members))
 
 pub switch_after : (s : Switch) → is_switch s ≡ true → s.after ≤ 0xffff_ffff
-switch_after s h = leb-true s.after 0xffff_ffff (and_parts (is_taken s.to) (nat_le s.after 0xffff_ffff) h).1
+switch_after s h = leb-true s.after 0xffff_ffff h
 
 pub mode_value : (m : Mode) → IsValueText false (string (mode_name m)) (quoted (mode_name m))
 mode_value mode.Pass = string_value (codes "pass") refl
@@ -47,15 +47,13 @@ shallow_switch s = record { depth = omega arith; dates = refl }
 
 -- the switch that the value writes
 
-to_back : (t : To) → is_taken t ≡ true → to_of (to_name t) ≡ Some t
-to_back to.Pass h = refl
-to_back to.Shadow h = refl
-to_back to.Renew h = absurd (false≢true h)
+to_back : (t : To) → to_of (to_name t) ≡ Some t
+to_back to.Pass = refl
+to_back to.Shadow = refl
+to_back to.Renew = refl
 
 pub switch_back : (s : Switch) → is_switch s ≡ true → switch_of (switch_data s) ≡ Some s
-switch_back s h =
-    let parts = and_parts (is_taken s.to) (nat_le s.after 0xffff_ffff) h in
-    rw (parts.1, to_back s.to parts.0) refl
+switch_back s h = rw (h, to_back s.to) refl
 
 -- one switch more is appended
 pub more_switch : (out mid new : List ℕ) (ss : List Switch) (i : ℕ) (d : Switch) → i < length ss → mid ≡ out ++ codes ", "

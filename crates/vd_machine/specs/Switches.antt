@@ -23,13 +23,11 @@ start_of ms = if has (codes "start") ms then option_and_then mode_of (text_at (c
 
 -- to what a switch of this name leads
 abbrev pub to_of : List ℕ → Option To
-to_of name = if bytes_eq name (codes "pass") then Some to.Pass else if bytes_eq name (codes "shadow") then Some to.Shadow else None
-
--- a switch to this can be named
-abbrev pub is_taken : To → Bool
-is_taken to.Pass = true
-is_taken to.Shadow = true
-is_taken to.Renew = false
+to_of name =
+    if bytes_eq name (codes "pass") then Some to.Pass
+    else if bytes_eq name (codes "shadow") then Some to.Shadow
+    else if bytes_eq name (codes "renew") then Some to.Renew
+    else None
 
 -- a number of 32 bits
 abbrev pub if_small : ℕ → Option ℕ
@@ -64,7 +62,7 @@ are_in_order ss = nat_le (length ss) MOST_SWITCHES && are_ascending 0 ss
 
 -- a switch that a file may order
 abbrev pub is_switch : Switch → Bool
-is_switch s = is_taken s.to && nat_le s.after 0xffff_ffff
+is_switch s = nat_le s.after 0xffff_ffff
 
 -- the switches of a machine
 abbrev pub are_switches : List Switch → Bool

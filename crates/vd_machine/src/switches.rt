@@ -3,7 +3,7 @@ ghost use Rattle.std.specs.Prelude.{◌≡◌, map, option_map, IfOk, IfSome, tr
 ghost use Rattle.std.specs.List.{list_all};
 ghost use Rattle.toml.specs.View.{view, table_view};
 ghost use Rattle.vd_text.specs.Grammar.{all_some};
-ghost use Rattle.vd_machine.specs.Switches.{mode_of, start_of, to_of, is_taken, after_in, to_in, switch_of, are_ascending, are_in_order, is_switch, are_switches, switches_of};
+ghost use Rattle.vd_machine.specs.Switches.{mode_of, start_of, to_of, after_in, to_in, switch_of, are_ascending, are_in_order, is_switch, are_switches, switches_of};
 
 use crate::lookup::{has, items_at, natural_at, text_at};
 use crate::{Switch, To};
@@ -40,19 +40,18 @@ pub fn start_of(file: &Table) -> Option<Mode>
 }
 
 fn to_of(name: &str) -> Option<To>
-    ensures value { result ≡ to_of name.now }
-    ensures lawful { IfSome result (λ t. is_taken t ≡ true) }
+    ensures { result ≡ to_of name.now }
 {
     match name {
         "pass" => Some(To::Pass),
         "shadow" => Some(To::Shadow),
+        "renew" => Some(To::Renew),
         _ => None,
     }
 }
 
 fn to_in(table: &Table) -> Option<To>
-    ensures value { result ≡ to_in (table_view table.now) }
-    ensures lawful { IfSome result (λ t. is_taken t ≡ true) }
+    ensures { result ≡ to_in (table_view table.now) }
 {
     match text_at(table, "to") {
         None => None,

@@ -11,7 +11,7 @@ use Rattle.vd_play.specs.declared.floor.Lane.{Lane}
 use Rattle.vd_play.specs.declared.floor.Relaying.{Relaying}
 use Rattle.vd_play.specs.declared.floor.ShadowRing.{ShadowRing}
 use Rattle.vd_play.specs.Attaching.{IsSameLane, CanShadow, HasShadowed, removed_last}
-use Rattle.vd_play.specs.Before.{begun_at}
+use Rattle.vd_play.specs.Before.{begun_at, resets}
 use Rattle.vd_play.specs.Epochs.{mode_at}
 use Rattle.vd_play.specs.Journal.{queue_epochs, guest_frame}
 use Rattle.vd_play.specs.Kits.{IsShadowRing, HasKits}
@@ -21,6 +21,7 @@ use Rattle.vd_play.specs.Setting.{Setting, IsLawful}
 use Rattle.vd_play.proofs.Begin.{pass_begins}
 use Rattle.vd_play.proofs.KitsTaken.{kits_pass, some_kit, kit_is, next_kit, kits_shadow}
 use Rattle.vd_play.proofs.Lists.{some_same}
+use Rattle.vd_play.proofs.Renewals.{Renews}
 use Rattle.vd_play.proofs.ShadowBegin.{shadow_starts}
 
 guest_framed : {D E G X C : Type 0} (s : Setting D E G X C) (law : IsLawful s) (plan : Plan) (q k : ℕ) (words : RingWords) (end : E)
@@ -31,16 +32,16 @@ guest_framed s law plan q k words end relayed guest device p =
 
 module _ {L D E G X C : Type 0} (s : Setting D E G X C) (law : IsLawful s) (plan : Plan) (q k : ℕ) where
   -- in the mode pass
-  pub lane_passes : (to : ℕ) (a b : Lane L D E) (guest : G) (device device' : X) → to ≡ begun_at plan q (k + 1)
+  pub lane_passes : (to : ℕ) (a b : Lane L D E) (guest : G) (device device1 device' : X) → to ≡ begun_at plan q (k + 1)
       → k < length (queue_epochs plan q) → mode_at plan k ≡ Pass
       → IsSameLane a b × (b.relaying ≡ a.relaying) × (b.kits ≡ a.kits) → b.still ≡ None
       → ((end : E) → a.still ≡ Some end
-      → IsAttach s.device s.party (pass_order s.device plan q (to - length (s.party.begun device)) end) None end device device')
-      → Stopped s plan q k a guest device
-      → InEpoch s plan q true k 0 b guest device' × (s.party.accesses device' ≡ s.party.accesses device)
-  lane_passes to a b guest device device' is more mode same none at p =
+      → IsAttach s.device s.party (pass_order s.device plan q (to - length (s.party.begun device1)) end) None end device1 device')
+      → Stopped s plan q k a guest device → Renews s.party (resets plan q k) device device1
+      → InEpoch s plan q true k 0 b guest device' × (s.party.accesses device' ≡ s.party.accesses device1)
+  lane_passes to a b guest device device1 device' is more mode same none at p n =
       let began = pass_begins s law plan q k to a.words b.words a.still b.still a.relaying b.relaying a.relayed b.relayed guest device
-      device' is more mode same.0 none same.1 at p.held in (
+      device1 device' is more mode same.0 none same.1 at p.held n in (
         record {
           held = began.0;
           kits = subst (λ z. HasKits s.driver s.device s.layout plan q (k + 1) z.items) (sym same.2)
@@ -94,42 +95,44 @@ module _ {L D E G X C : Type 0} (s : Setting D E G X C) (law : IsLawful s) (plan
       }
 
   held_shadows : (to : ℕ) (words words' : RingWords) (still still' : Option E) (relaying relaying' : Option (Relaying L D E))
-      (relayed relayed' : ℕ) (guest : G) (device device' : X) (end : E) (ring : ShadowRing L D E) (x : Relaying L D E)
+      (relayed relayed' : ℕ) (guest : G) (device device1 device' : X) (end : E) (ring : ShadowRing L D E) (x : Relaying L D E)
       → to ≡ begun_at plan q (k + 1) → k < length (queue_epochs plan q) → mode_at plan k ≡ Shadow
       → (words' ≡ words) × (relayed' ≡ relayed) → still' ≡ None → relaying' ≡ Some x → still ≡ Some end → x.words ≡ ring.words
       → Shadows s.device s.driver end ring.kit.driver ring.kit.table x.lane.relay.state x.lane.relay.counts
       → IsNew x.lane.relay.state x.lane.relay.counts
-      → IsAttach s.device s.party (shadow_order s.layout plan k q (to - length (s.party.begun device))) None ring.kit.device device device'
+      → IsAttach s.device s.party (shadow_order s.layout plan k q (to - length (s.party.begun device1))) None ring.kit.device device1
+      device'
       → IsShadowRing s.driver s.device s.layout plan q k ring
-      → StoppedWith s plan q k words still relaying relayed guest device
+      → StoppedWith s plan q k words still relaying relayed guest device → Renews s.party (resets plan q k) device device1
       → InEpochWith s plan q true k 0 words' still' relaying' relayed' guest device'
-  held_shadows to words words' None still' relaying relaying' relayed relayed' guest device device' end ring x is more mode same none has
-      was own shadows fresh a kit p = absurd p
-  held_shadows to words words' (Some old) still' (Some y) relaying' relayed relayed' guest device device' end ring x is more mode same none
-      has was own shadows fresh a kit p = absurd p
-  held_shadows to words words' (Some old) still' None relaying' relayed relayed' guest device device' end ring x is more mode same none has
-      was own shadows fresh a kit p =
+  held_shadows to words words' None still' relaying relaying' relayed relayed' guest device device1 device' end ring x is more mode same none
+      has was own shadows fresh a kit p n = absurd p
+  held_shadows to words words' (Some old) still' (Some y) relaying' relayed relayed' guest device device1 device' end ring x is more mode
+      same none has was own shadows fresh a kit p n = absurd p
+  held_shadows to words words' (Some old) still' None relaying' relayed relayed' guest device device1 device' end ring x is more mode
+      same none has was own shadows fresh a kit p n =
       let r = x.lane.relay.state in
       let c = x.lane.relay.counts in
       let stopped : IsStopped s plan q k 0 words end relayed guest device = subst
       (λ (z : E). IsStopped s plan q k 0 words z relayed guest device) (some_same old end (Some old) refl was) p in
       let begun : IsShadowing s plan q k 0 words x.words.words r c relayed guest device' = subst
       (λ (z : RingWords). IsShadowing s plan q k 0 words z.words r c relayed guest device') (sym own)
-      (shadow_starts s law plan q k to words end relayed guest device device' ring r c is more mode stopped kit shadows fresh a) in
+      (shadow_starts s law plan q k to words end relayed guest device device1 device' ring r c is more mode stopped n kit shadows fresh
+      a) in
       rw (same.0, none, has, same.1)
       (subst (λ b. RelayingBy b s plan q k 0 words x.words.words r c relayed guest device') (sym fresh.winding) begun)
 
-  pub lane_shadows : (to : ℕ) (a b : Lane L D E) (guest : G) (device device' : X) → to ≡ begun_at plan q (k + 1)
+  pub lane_shadows : (to : ℕ) (a b : Lane L D E) (guest : G) (device device1 device' : X) → to ≡ begun_at plan q (k + 1)
       → k < length (queue_epochs plan q) → k < length plan.switches + 2 → mode_at plan k ≡ Shadow
       → IsSameLane a b × (b.kits.items ≡ removed_last a.kits.items) → b.still ≡ None
-      → HasShadowed s.driver s.device s.party (shadow_order s.layout plan k q (to - length (s.party.begun device))) a b device device'
-      → Stopped s plan q k a guest device
-      → InEpoch s plan q true k 0 b guest device' × (s.party.accesses device' ≡ s.party.accesses device)
-  lane_shadows to a b guest device device' is more less mode same none h p = (
+      → HasShadowed s.driver s.device s.party (shadow_order s.layout plan k q (to - length (s.party.begun device1))) a b device1 device'
+      → Stopped s plan q k a guest device → Renews s.party (resets plan q k) device device1
+      → InEpoch s plan q true k 0 b guest device' × (s.party.accesses device' ≡ s.party.accesses device1)
+  lane_shadows to a b guest device device1 device' is more less mode same none h p n = (
     record {
-      held = held_shadows to a.words b.words a.still b.still a.relaying b.relaying a.relayed b.relayed guest device device' h.end h.ring
-          h.lane is more mode same.0 none h.is h.was h.words h.relays h.fresh h.attached
-          (kit_is s.driver s.device s.layout plan q k a.kits.items p.kits less mode h.ring h.next) p.held;
+      held = held_shadows to a.words b.words a.still b.still a.relaying b.relaying a.relayed b.relayed guest device device1 device' h.end
+          h.ring h.lane is more mode same.0 none h.is h.was h.words h.relays h.fresh h.attached
+          (kit_is s.driver s.device s.layout plan q k a.kits.items p.kits less mode h.ring h.next) p.held n;
       kits = subst (HasKits s.driver s.device s.layout plan q (k + 1)) (sym same.1)
           (kits_shadow s.driver s.device s.layout plan q k a.kits.items p.kits less mode);
     },

@@ -1,19 +1,16 @@
 -- The epochs of a machine that is switched: each begins where the one before it ends. What the machine's facts say of its switches.
-use Rattle.std.proofs.Common.{◌≡◌, ◌≢◌, ℕ, zero, suc, ◌+◌, ◌<◌, ◌≤◌, min, nat_le, Bool, true, false, Option, Some, List, [], ◌∷◌, ◌++◌, length, slice_get, refl, sym, ◌∙◌, ap, subst, arith}
-use Rattle.std.specs.List.{All, list_all}
+use Rattle.std.proofs.Common.{◌≡◌, ℕ, zero, suc, ◌+◌, ◌<◌, ◌≤◌, min, nat_le, Bool, true, false, Option, Some, List, [], ◌∷◌, ◌++◌, length, slice_get, refl, sym, ◌∙◌, ap, subst, arith}
+use Rattle.std.specs.List.{list_all}
 use Rattle.std.specs.Option.{option_map_or}
-use Rattle.std.proofs.lemmas.Bool.{and_parts, leb-true, false≢true}
-use Rattle.std.proofs.lemmas.List.Elements.{All-nil, All-cons, All-head, All-tail}
+use Rattle.std.proofs.lemmas.Bool.{and_parts, leb-true}
 use Rattle.std.proofs.lemmas.Option.{slice_get_past}
 use Rattle.vd_model.specs.declared.base.Mode.{Mode}
 use Rattle.vd_model.specs.declared.base.Mode.TheVariants as mode
 use Rattle.vd_machine.specs.File.{Plan}
-use Rattle.vd_machine.specs.Switches.{is_taken, is_switch, are_ascending, are_in_order, are_switches}
+use Rattle.vd_machine.specs.Switches.{is_switch, are_ascending, are_in_order, are_switches}
 use Rattle.vd_machine.specs.declared.switches.TheConstants.{MOST_SWITCHES}
 use Rattle.vd_machine.specs.declared.machine.Switch.{Switch}
-use Rattle.vd_machine.specs.declared.machine.To.{To}
-use Rattle.vd_machine.specs.declared.machine.To.TheVariants as to
-use Rattle.vd_play.specs.Epochs.{Epoch, AreChained, AreNumbered, begun_before, epochs, epochs_from, closing, mode_after, is_renewal, mode_from, mode_at}
+use Rattle.vd_play.specs.Epochs.{Epoch, AreChained, AreNumbered, begun_before, epochs, epochs_from, closing, mode_after, is_renewal, renewed_at, mode_from, mode_at}
 use Rattle.vd_play.specs.Orders.{stop_of}
 use Rattle.vd_play.specs.Switching.{ascend, IsSwitched}
 use Rattle.vd_play.proofs.Bounds.{stops_at, many_epochs}
@@ -74,38 +71,44 @@ few_epochs plan n s = omega (arith, many_epochs plan n, s.few)
 
 -- ---- which epoch is the k-th
 
--- the number, the mode, and that it doesn't begin with a renewal
-abbrev Is : ℕ → Mode → Epoch → Type 0
-Is k m ep = (ep.number ≡ k) × (ep.mode ≡ m) × (ep.renewed ≡ false)
+-- whether epoch k begins with a renewal, where the first of these does or doesn't
+abbrev renewed_from : Bool → List Switch → ℕ → Bool
+renewed_from r ss zero = r
+renewed_from r ss (suc k) = option_map_or (λ (s : Switch). is_renewal s.to) (slice_get ss k) false
 
-not_renewed : (t : To) → t ≢ to.Renew → is_renewal t ≡ false
-not_renewed to.Pass h = refl
-not_renewed to.Shadow h = refl
-not_renewed to.Renew h = absurd (h refl)
+renewed_next : (r : Bool) (s : Switch) (ss : List Switch) (k : ℕ)
+    → renewed_from (is_renewal s.to) ss k ≡ renewed_from r (s ∷ ss) (suc k)
+renewed_next r s ss zero = refl
+renewed_next r s ss (suc k) = refl
 
-epoch_from : (e : ℕ) (ss : List Switch) (m : Mode) (renewed : Bool) (first n j : ℕ) → All (λ s. s.to ≢ to.Renew) ss → renewed ≡ false
-    → j ≡ e + length ss + 1 → (k : ℕ) (ep : Epoch) → slice_get (all_from e ss m renewed first n j) k ≡ Some ep
-    → Is (e + k) (mode_from ss m k) ep
-epoch_from e [] m renewed first n j kept fresh last zero ep h =
+renewed_same : (plan : Plan) (k : ℕ) → renewed_from false plan.switches k ≡ renewed_at plan k
+renewed_same plan zero = refl
+renewed_same plan (suc k) = refl
+
+-- the number, the mode, and whether it begins with a renewal
+abbrev Is : ℕ → Mode → Bool → Epoch → Type 0
+Is k m r ep = (ep.number ≡ k) × (ep.mode ≡ m) × (ep.renewed ≡ r)
+
+epoch_from : (e : ℕ) (ss : List Switch) (m : Mode) (renewed : Bool) (first n j : ℕ) → j ≡ e + length ss + 1 → (k : ℕ) (ep : Epoch)
+    → slice_get (all_from e ss m renewed first n j) k ≡ Some ep → Is (e + k) (mode_from ss m k) (renewed_from renewed ss k) ep
+epoch_from e [] m renewed first n j last zero ep h =
     let x : Epoch = record { number = e; mode = m; renewed = renewed; first = first; end = n } in
-    subst (Is (e + 0) m) (some_same x ep (Some x) refl h) (omega arith, refl, fresh)
-epoch_from e [] m renewed first n j kept fresh last (suc zero) ep h =
-    subst (Is (e + 1) mode.Pass) (some_same (closing j n) ep (Some (closing j n)) refl h) (omega (arith, last), refl, refl)
-epoch_from e [] m renewed first n j kept fresh last (suc (suc k)) ep h = absurd (cc)
-epoch_from e (s ∷ ss) m renewed first n j kept fresh last zero ep h =
+    subst (Is (e + 0) m renewed) (some_same x ep (Some x) refl h) (omega arith, refl, refl)
+epoch_from e [] m renewed first n j last (suc zero) ep h =
+    subst (Is (e + 1) mode.Pass false) (some_same (closing j n) ep (Some (closing j n)) refl h) (omega (arith, last), refl, refl)
+epoch_from e [] m renewed first n j last (suc (suc k)) ep h = absurd (cc)
+epoch_from e (s ∷ ss) m renewed first n j last zero ep h =
     let x : Epoch = record { number = e; mode = m; renewed = renewed; first = first; end = min s.after n } in
-    subst (Is (e + 0) m) (some_same x ep (Some x) refl h) (omega arith, refl, fresh)
-epoch_from e (s ∷ ss) m renewed first n j kept fresh last (suc k) ep h =
-    let P : Switch → Type 0 = λ (z : Switch). z.to ≢ to.Renew in
-    let rest = epoch_from (e + 1) ss (mode_after m s.to) (is_renewal s.to) (min s.after n) n j (All-tail P s ss kept)
-    (not_renewed s.to (All-head P s ss kept)) (omega (arith, last)) k ep h in
-    (omega (arith, rest.0), rest.1, rest.2)
+    subst (Is (e + 0) m renewed) (some_same x ep (Some x) refl h) (omega arith, refl, refl)
+epoch_from e (s ∷ ss) m renewed first n j last (suc k) ep h =
+    let rest = epoch_from (e + 1) ss (mode_after m s.to) (is_renewal s.to) (min s.after n) n j (omega (arith, last)) k ep h in
+    (omega (arith, rest.0), rest.1, rest.2 ∙ renewed_next renewed s ss k)
 
-pub epoch_is : (plan : Plan) (n k : ℕ) (ep : Epoch) → IsSwitched plan → slice_get (epochs plan n) k ≡ Some ep
-    → (ep.number ≡ k) × (ep.mode ≡ mode_at plan k) × (ep.renewed ≡ false)
-epoch_is plan n k ep s h =
-    let x = epoch_from 0 plan.switches plan.start false 0 n (length plan.switches + 1) s.kept refl (omega arith) k ep h in
-    (omega (arith, x.0), x.1, x.2)
+epoch_is : (plan : Plan) (n k : ℕ) (ep : Epoch) → slice_get (epochs plan n) k ≡ Some ep
+    → (ep.number ≡ k) × (ep.mode ≡ mode_at plan k) × (ep.renewed ≡ renewed_at plan k)
+epoch_is plan n k ep h =
+    let x = epoch_from 0 plan.switches plan.start false 0 n (length plan.switches + 1) (omega arith) k ep h in
+    (omega (arith, x.0), x.1, x.2 ∙ renewed_same plan k)
 
 last_from : (e : ℕ) (ss : List Switch) (m : Mode) (renewed : Bool) (first n j k : ℕ) → k ≡ length ss + 1
     → slice_get (all_from e ss m renewed first n j) k ≡ Some (closing j n)
@@ -128,8 +131,8 @@ mode_last (s ∷ ss) m (suc k) h = mode_last ss (mode_after m s.to) k (omega ari
 pub mode_at_end : (plan : Plan) (k : ℕ) → length plan.switches < k → mode_at plan k ≡ mode.Pass
 mode_at_end plan k h = mode_last plan.switches plan.start k h
 
-pub numbered : (plan : Plan) (n : ℕ) → IsSwitched plan → AreNumbered plan (epochs plan n)
-numbered plan n s = record { at = λ k ep h. epoch_is plan n k ep s h }
+pub numbered : (plan : Plan) (n : ℕ) → AreNumbered plan (epochs plan n)
+numbered plan n = record { at = epoch_is plan n }
 
 -- ---- the switches of a machine
 
@@ -138,18 +141,6 @@ ascend_of least [] h = tt
 ascend_of least (s ∷ ss) h =
     let parts = and_parts (nat_le least s.after) (are_ascending s.after ss) h in
     (leb-true least s.after parts.0, ascend_of s.after ss parts.1)
-
-taken_kept : (t : To) → is_taken t ≡ true → t ≢ to.Renew
-taken_kept to.Pass h e = absurd (cc)
-taken_kept to.Shadow h e = absurd (cc)
-taken_kept to.Renew h e = absurd (false≢true h)
-
-kept_of : (ss : List Switch) → list_all is_switch ss ≡ true → All (λ s. s.to ≢ to.Renew) ss
-kept_of [] h = All-nil (λ (s : Switch). s.to ≢ to.Renew)
-kept_of (s ∷ ss) h =
-    let parts = and_parts (is_switch s) (list_all is_switch ss) h in
-    let taken = and_parts (is_taken s.to) (nat_le s.after 0xffff_ffff) parts.0 in
-    All-cons (λ (x : Switch). x.to ≢ to.Renew) s ss (taken_kept s.to taken.0) (kept_of ss parts.1)
 
 pub few_switches : (ss : List Switch) → are_switches ss ≡ true → length ss ≤ 16
 few_switches ss h =
@@ -163,5 +154,4 @@ switched_is plan h =
     record {
       few = few_switches ss h;
       ascending = ascend_of 0 ss (and_parts (nat_le (length ss) MOST_SWITCHES) (are_ascending 0 ss) parts.0).1;
-      kept = kept_of ss parts.1;
     }

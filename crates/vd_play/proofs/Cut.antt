@@ -1,8 +1,7 @@
 -- A lane in the course of a play has the beginning of its journal.
 use Rattle.std.proofs.Common.{◌≡◌, ℕ, ◌+◌, ◌-◌, ◌<◌, ◌≤◌, Option, Some, None, Result, Ok, Err, IfErr, IsErrAnd, List, [], ◌∷◌, ◌++◌, length, slice_get, set, true, false, Bool, take, drop, flat_map, sym, ◌∙◌, ap, subst, arith}
 use Rattle.std.specs.List.{All}
-use Rattle.std.proofs.lemmas.Grind.{flat_map-append}
-use Rattle.std.proofs.lemmas.List.{append_assoc, length-drop, length-map, take-append-drop, take_all}
+use Rattle.std.proofs.lemmas.List.{append_assoc, length-drop, length-map, take_all}
 use mathlib.Core.List.{IsPrefix}
 use Rattle.vd_model.specs.declared.chain.Piece.{Piece}
 use Rattle.vd_model.specs.declared.record.Begun.{Begun}
@@ -22,41 +21,39 @@ use Rattle.vd_play.specs.declared.bench.Bench.{Bench}
 use Rattle.vd_play.specs.declared.floor.Lane.{Lane}
 use Rattle.vd_play.specs.declared.floor.Relaying.{Relaying}
 use Rattle.vd_play.specs.Journal.{queue_script, queue_chains, queue_epochs, epoch_chains, epoch_events, attach_event, suspend_event, journal_events, journal_chains, HasLen}
-use Rattle.vd_play.specs.Before.{events_before, begun_at, chains_before}
+use Rattle.vd_play.specs.Before.{events_before, begun_at, chains_before, resets}
 use Rattle.vd_play.specs.Each.{EachLane, Stage}
 use Rattle.vd_play.specs.Epochs.{Epoch}
 use Rattle.vd_play.specs.Lane.{HasGiven, IsDriven, Serves, IsKept}
 use Rattle.vd_play.specs.Orders.{shadow_attach}
 use Rattle.vd_play.specs.Played.{IsCut}
-use Rattle.vd_play.specs.Progress.{IsStopped, IsPassing, IsShadowing, IsWinding, RelayingBy, StoppedWith, InEpochWith, Stopped, InEpoch}
+use Rattle.vd_play.specs.Progress.{IsStopped, IsPassing, IsShadowing, IsWinding, RelayingBy, StoppedWith, InEpochWith, InEpoch}
+use Rattle.vd_play.specs.Renewing.{Renewed}
 use Rattle.vd_play.specs.Setting.{Setting, IsLawful}
 use Rattle.vd_play.specs.Shadowed.{IsRelayed}
-use Rattle.vd_play.proofs.Bounds.{at_index, bounded, flat_more}
+use Rattle.vd_play.proofs.Bounds.{at_index, bounded, flat_more, many_epochs}
 use Rattle.vd_play.proofs.Each.{stage_read, all_but_one}
 use Rattle.vd_play.proofs.Keep.{prefix_of}
 use Rattle.vd_play.proofs.Lists.{prefix_through}
 use Rattle.vd_play.proofs.Moves.{before_prefix, within_prefix}
 use Rattle.vd_play.proofs.Parts.{drop_prefix, own_part, begun_within}
-use Rattle.vd_play.proofs.Passed.{pass_events, pass_chains}
+use Rattle.vd_play.proofs.Passed.{events_split, pass_events, pass_chains}
+use Rattle.vd_play.proofs.Renewals.{renews_stopped}
 use Rattle.vd_play.proofs.Returns.{some_returned}
+use Rattle.vd_play.proofs.Rooms.{front_of}
 use Rattle.vd_play.proofs.ShadowChains.{shadow_events, shadow_suspend}
 use Rattle.vd_play.proofs.ShadowCut.{given_shadowing, shadow_prefix}
 
-front_of : {A B : Type 0} (f : A → List B) (xs : List A) (k : ℕ) → IsPrefix (flat_map f (take k xs)) (flat_map f xs)
-front_of f xs k = (flat_map f (drop k xs), sym (flat_map-append f (take k xs) (drop k xs)) ∙ ap (flat_map f) (take-append-drop k xs))
-
-attach_front : {A : Type 0} (xs : List A) (a b : A) → IsPrefix (xs ++ a ∷ []) (xs ++ a ∷ b ∷ [])
-attach_front xs a b = (b ∷ [], append_assoc xs (a ∷ []) (b ∷ []))
-
--- the events of the epochs before, and the first of the epoch's two
-begun_front : {E : Type 0} (e : DeviceModel E) (l : LayoutModel) (plan : Plan) (q k : ℕ) (ep : Epoch) (a b : Event)
-    → slice_get (queue_epochs plan q) k ≡ Some ep → epoch_events e l plan q ep ≡ a ∷ b ∷ []
-    → IsPrefix (events_before e l plan q k ++ a ∷ []) (journal_events e l plan q)
-begun_front e l plan q k ep a b is two =
-    let more : events_before e l plan q (k + 1) ≡ events_before e l plan q k ++ a ∷ b ∷ [] =
-    flat_more (epoch_events e l plan q) (queue_epochs plan q) k ep is ∙ ap (λ zs. events_before e l plan q k ++ zs) two in
-    prefix_through (events_before e l plan q k ++ a ∷ []) (events_before e l plan q (k + 1)) (journal_events e l plan q)
-    (subst (λ zs. IsPrefix (events_before e l plan q k ++ a ∷ []) zs) (sym more) (attach_front (events_before e l plan q k) a b))
+-- the events of the epochs before, and the first ones of the epoch's
+begun_front : {E : Type 0} (e : DeviceModel E) (l : LayoutModel) (plan : Plan) (q k : ℕ) (ep : Epoch) (front back : List Event)
+    → slice_get (queue_epochs plan q) k ≡ Some ep → epoch_events e l plan q ep ≡ front ++ back
+    → IsPrefix (events_before e l plan q k ++ front) (journal_events e l plan q)
+begun_front e l plan q k ep front back is parts =
+    let old : List Event = events_before e l plan q k in
+    let more : events_before e l plan q (k + 1) ≡ old ++ (front ++ back) =
+    flat_more (epoch_events e l plan q) (queue_epochs plan q) k ep is ∙ ap (λ zs. old ++ zs) parts in
+    prefix_through (old ++ front) (events_before e l plan q (k + 1)) (journal_events e l plan q)
+    (back, append_assoc old front back ∙ sym more)
     (front_of (epoch_events e l plan q) (queue_epochs plan q) (k + 1))
 
 module _ {D E G X C : Type 0} (s : Setting D E G X C) (law : IsLawful s) (plan : Plan) (q : ℕ) where
@@ -113,12 +110,14 @@ module _ {D E G X C : Type 0} (s : Setting D E G X C) (law : IsLawful s) (plan :
       let l = s.layout in
       let b = bounded (length (queue_chains plan q)) (queue_epochs plan q) k p.kept.driven.queue.chained p.serves.epoch in
       let at = p.kept.driven.queue.numbered.at k b.epoch b.is in
-      let two : epoch_events e l plan q b.epoch ≡ attach_event e l plan q (begun_at plan q k) ∷ suspend_event e l plan q b.epoch.end ∷ [] =
-      pass_events e l plan q b.epoch (at.1 ∙ p.serves.mode) at.2
-      ∙ ap (λ n. attach_event e l plan q n ∷ suspend_event e l plan q b.epoch.end ∷ []) b.first in
+      let attach : Event = attach_event e l plan q (begun_at plan q k) in
+      let suspend : Event = suspend_event e l plan q (begun_at plan q (k + 1)) in
+      let parts : epoch_events e l plan q b.epoch ≡ (resets plan q k ++ attach ∷ []) ++ suspend ∷ [] =
+      pass_events e l plan q k b.epoch at.2 b.first (at.1 ∙ p.serves.mode) b.end
+      ∙ sym (append_assoc (resets plan q k) (attach ∷ []) (suspend ∷ [])) in
       cut_driven words guest device p.view p.device_view p.kept.driven p.kept.given p.kept.account.each
       (subst (λ zs. IsPrefix zs (journal_events e l plan q)) (sym p.serves.events)
-      (begun_front e l plan q k b.epoch (attach_event e l plan q (begun_at plan q k)) (suspend_event e l plan q b.epoch.end) b.is two))
+      (begun_front e l plan q k b.epoch (resets plan q k ++ attach ∷ []) (suspend ∷ []) b.is parts))
       (pass_prefix k words guest device p.view p.device_view p.kept p.serves)
 
   -- ---- with a relay
@@ -138,12 +137,14 @@ module _ {D E G X C : Type 0} (s : Setting D E G X C) (law : IsLawful s) (plan :
       let l = s.layout in
       let b = bounded (length (queue_chains plan q)) (queue_epochs plan q) k p.kept.driven.queue.chained p.kept.epoch in
       let at = p.kept.driven.queue.numbered.at k b.epoch b.is in
-      let two : epoch_events e l plan q b.epoch ≡ shadow_attach l plan q k (begun_at plan q k) ∷ shadow_suspend e l plan q k b.epoch ∷ [] =
-      shadow_events e l plan q k b.epoch (at.1 ∙ p.kept.mode) at.2 at.0
-      ∙ ap (λ j. shadow_attach l plan q k j ∷ shadow_suspend e l plan q k b.epoch ∷ []) b.first in
+      let attach : Event = shadow_attach l plan q k (begun_at plan q k) in
+      let suspend : Event = shadow_suspend e l plan q k b.epoch in
+      let parts : epoch_events e l plan q b.epoch ≡ (resets plan q k ++ attach ∷ []) ++ suspend ∷ [] =
+      shadow_events e l plan q k b.epoch (at.1 ∙ p.kept.mode) at.2 at.0 b.first
+      ∙ sym (append_assoc (resets plan q k) (attach ∷ []) (suspend ∷ [])) in
       cut_relayed k words shadow_words r c guest device p.by p.view p.device_view p.shadow_view p.shadow_device_view p.kept
       (subst (λ zs. IsPrefix zs (journal_events e l plan q)) (sym p.serves.events)
-      (begun_front e l plan q k b.epoch (shadow_attach l plan q k (begun_at plan q k)) (shadow_suspend e l plan q k b.epoch) b.is two))
+      (begun_front e l plan q k b.epoch (resets plan q k ++ attach ∷ []) (suspend ∷ []) b.is parts))
 
   cut_winding : (k n : ℕ) (words : RingWords) (shadow_words : List ℕ) (r : State E D) (c : Counts) (relayed : ℕ) (guest : G) (device : X)
       → IsWinding s plan q k n words shadow_words r c relayed guest device → IsCut s plan q guest device
@@ -158,6 +159,18 @@ module _ {D E G X C : Type 0} (s : Setting D E G X C) (law : IsLawful s) (plan :
       cut_shadowing k n words shadow_words r c relayed guest device p
   cut_relaying true k n words shadow_words r c relayed guest device p = cut_winding k n words shadow_words r c relayed guest device p
 
+  -- a refused attach has changed nothing of it
+  pub cut_refused : (guest : G) (device device' : X) → IsRefused s.party device device' → IsCut s plan q guest device
+      → IsCut s plan q guest device'
+  cut_refused guest device device' r c =
+      record {
+        events = subst (λ zs. IsPrefix zs (journal_events s.device s.layout plan q)) (sym r.events) c.events;
+        chains = subst (λ (bs : List Begun). IsPrefix (chains_of bs) (journal_chains plan q)) (sym r.begun) c.chains;
+        each = subst (λ (bs : List Begun). All IsBegun bs) (sym r.begun) c.each;
+        once = c.once;
+        returned = subst (λ (bs : List Begun). All (HasLen (lens_of bs)) (s.guest.returned guest)) (sym r.begun) c.returned;
+      }
+
 -- ---- a lane
 
 module _ {L D E G X C : Type 0} (s : Setting D E G X C) (law : IsLawful s) (plan : Plan) (q : ℕ) where
@@ -167,18 +180,34 @@ module _ {L D E G X C : Type 0} (s : Setting D E G X C) (law : IsLawful s) (plan
   cut_still k words (Some end) (Some x) relayed guest device p = absurd p
   cut_still k words (Some end) None relayed guest device p = cut_stopped s law plan q k 0 words end relayed guest device p
 
-  -- a refused attach has changed nothing of it
-  pub cut_refused : (k : ℕ) (words : RingWords) (still : Option E) (relaying : Option (Relaying L D E)) (relayed : ℕ) (guest : G)
-      (device device' : X) → IsRefused s.party device device' → StoppedWith s plan q k words still relaying relayed guest device
-      → IsCut s plan q guest device'
-  cut_refused k words still relaying relayed guest device device' r p =
-      let c : IsCut s plan q guest device = cut_still k words still relaying relayed guest device p in
+  -- the events of the epochs before, and the reset
+  reset_front : (k : ℕ) (words : RingWords) (still : Option E) (relaying : Option (Relaying L D E)) (relayed : ℕ) (guest : G) (device : X)
+      → k < length plan.switches + 2 → StoppedWith s plan q k words still relaying relayed guest device
+      → IsPrefix (s.party.events device ++ resets plan q k) (journal_events s.device s.layout plan q)
+  reset_front k words None relaying relayed guest device less p = absurd p
+  reset_front k words (Some end) (Some x) relayed guest device less p = absurd p
+  reset_front k words (Some end) None relayed guest device less p =
+      let n : ℕ = length (queue_chains plan q) in
+      let b = bounded n (queue_epochs plan q) k p.kept.driven.queue.chained (omega (arith, less, many_epochs plan n)) in
+      let at = p.kept.driven.queue.numbered.at k b.epoch b.is in
+      subst (λ zs. IsPrefix (zs ++ resets plan q k) (journal_events s.device s.layout plan q)) (sym p.rests.events)
+      (begun_front s.device s.layout plan q k b.epoch (resets plan q k) _ b.is
+      (events_split s.device s.layout plan q k b.epoch at.2 b.first))
+
+  -- its device was reset where its epoch begins with a renewal
+  pub cut_renewed : (k : ℕ) (a : Lane L D E) (guest : G) (device : X) → k < length plan.switches + 2 → Renewed s plan q k a guest device
+      → IsCut s plan q guest device
+  cut_renewed k a guest device less p =
+      let n = renews_stopped s plan q k a guest device p in
+      let c : IsCut s plan q guest p.before =
+      cut_still k a.words a.still a.relaying a.relayed guest p.before p.stopped.held in
       record {
-        events = subst (λ zs. IsPrefix zs (journal_events s.device s.layout plan q)) (sym r.events) c.events;
-        chains = subst (λ (bs : List Begun). IsPrefix (chains_of bs) (journal_chains plan q)) (sym r.begun) c.chains;
-        each = subst (λ (bs : List Begun). All IsBegun bs) (sym r.begun) c.each;
+        events = subst (λ zs. IsPrefix zs (journal_events s.device s.layout plan q)) (sym n.events)
+            (reset_front k a.words a.still a.relaying a.relayed guest p.before less p.stopped.held);
+        chains = subst (λ (bs : List Begun). IsPrefix (chains_of bs) (journal_chains plan q)) (sym n.begun) c.chains;
+        each = subst (λ (bs : List Begun). All IsBegun bs) (sym n.begun) c.each;
         once = c.once;
-        returned = subst (λ (bs : List Begun). All (HasLen (lens_of bs)) (s.guest.returned guest)) (sym r.begun) c.returned;
+        returned = subst (λ (bs : List Begun). All (HasLen (lens_of bs)) (s.guest.returned guest)) (sym n.begun) c.returned;
       }
 
   pub cut_epoch : (on : Bool) (k r : ℕ) (words : RingWords) (still : Option E) (relaying : Option (Relaying L D E)) (relayed : ℕ)
@@ -194,19 +223,19 @@ module _ {L D E G X C : Type 0} (s : Setting D E G X C) (law : IsLawful s) (plan
 
 -- the attach of lane i was refused, behind those that have begun the epoch
 pub cut_bench : {L D E G X C : Type 0} (s : Setting D E G X C) (law : IsLawful s) (plan : Plan) (k i : ℕ) (lanes : List (Lane L D E))
-    (bench : Bench G X) (lane lane' : Lane L D E) (device device' : X) → i < length bench.guests.items
-    → EachLane (Stage i (λ q a b x. InEpoch s plan q true k 0 a b x) (λ q a b x. Stopped s plan q k a b x)) lanes bench.guests.items
+    (bench : Bench G X) (lane lane' : Lane L D E) (device device' : X) → k < length plan.switches + 2 → i < length bench.guests.items
+    → EachLane (Stage i (λ q a b x. InEpoch s plan q true k 0 a b x) (λ q a b x. Renewed s plan q k a b x)) lanes bench.guests.items
     bench.devices.items → slice_get lanes i ≡ Some lane → slice_get bench.devices.items i ≡ Some device → IsRefused s.party device device'
     → EachLane (λ q a b x. IsCut s plan q b x) (set lanes i lane') bench.guests.items (set bench.devices.items i device')
-cut_bench s law plan k i lanes bench lane lane' device device' there each hl hx refused =
+cut_bench s law plan k i lanes bench lane lane' device device' less there each hl hx refused =
     let g = at_index bench.guests.items i there in
-    all_but_one (λ q a b x. InEpoch s plan q true k 0 a b x) (λ q a b x. Stopped s plan q k a b x) (λ q a b x. IsCut s plan q b x) i
+    all_but_one (λ q a b x. InEpoch s plan q true k 0 a b x) (λ q a b x. Renewed s plan q k a b x) (λ q a b x. IsCut s plan q b x) i
     lanes bench.guests.items bench.devices.items lane' g.0 device' g.1 each
     (λ q a b x p. cut_epoch s law plan q true k 0 a.words a.still a.relaying a.relayed b x p.held)
-    (λ q a b x p. cut_still s law plan q k a.words a.still a.relaying a.relayed b x p.held)
-    (cut_refused s law plan i k lane.words lane.still lane.relaying lane.relayed g.0 device device' refused
-    (stage_read (λ q a b x. InEpoch s plan q true k 0 a b x) (λ q a b x. Stopped s plan q k a b x) i lanes bench.guests.items
-    bench.devices.items lane g.0 device each hl g.1 hx).held)
+    (λ q a b x p. cut_renewed s law plan q k a b x less p)
+    (cut_refused s law plan i g.0 device device' refused (cut_renewed s law plan i k lane g.0 device less
+    (stage_read (λ q a b x. InEpoch s plan q true k 0 a b x) (λ q a b x. Renewed s plan q k a b x) i lanes bench.guests.items
+    bench.devices.items lane g.0 device each hl g.1 hx)))
 
 pub if_err_by : {T F : Type 0} (r : Result T F) (P Q : F → Type 0) → IsErrAnd r P → ((f : F) → P f → Q f) → IfErr r Q
 if_err_by (Ok x) P Q is h = tt

@@ -1,7 +1,7 @@
 -- A round of a lane that is still, or passing.
 use Rattle.std.proofs.Common.{◌≡◌, ◌⊎◌, inl, inr, ℕ, ◌+◌, ◌-◌, ◌*◌, ◌≤◌, List, [], ◌∷◌, ◌++◌, length, take, drop, sym, ◌∙◌, ap, subst, arith}
 use Rattle.std.proofs.lemmas.Bool.{cases_lt}
-use Rattle.std.proofs.lemmas.List.{append_assoc, drop-take, drop-map, take-map, take-append-drop}
+use Rattle.std.proofs.lemmas.List.{drop-take, drop-map, take-map, take-append-drop}
 use Rattle.vd_model.specs.declared.base.Mode.TheVariants.{Pass}
 use Rattle.vd_model.specs.declared.chain.Piece.{Piece}
 use Rattle.vd_model.specs.declared.record.Begun.{Begun}
@@ -10,12 +10,11 @@ use Rattle.vd_ring.specs.declared.driver.DriverView.{DriverView}
 use Rattle.vd_ring.specs.declared.device.DeviceView.{DeviceView}
 use Rattle.vd_ring.specs.History.{takes}
 use Rattle.vd_ring.specs.Sleep.{DriverWaits, device_owed}
-use Rattle.vd_bus.specs.declared.event.Event.{Event}
 use Rattle.vd_bus.specs.declared.event.Event.TheVariants.{Suspend}
 use Rattle.vd_bus.specs.Device.{IsServing, IsSuspend, chains_of}
 use Rattle.vd_bus.specs.Pace.{attaches}
 use Rattle.vd_machine.specs.File.{Plan}
-use Rattle.vd_play.specs.Before.{events_before, chains_before, begun_at}
+use Rattle.vd_play.specs.Before.{events_before, chains_before, begun_at, resets}
 use Rattle.vd_play.specs.Epochs.{mode_at}
 use Rattle.vd_play.specs.Journal.{queue_chains, queue_epochs, own_chains, epoch_chains, epoch_events, attach_event, suspend_event}
 use Rattle.vd_play.specs.Lane.{IsKept, Account}
@@ -27,13 +26,10 @@ use Rattle.vd_play.proofs.Bounds.{Bounded, bounded, flat_more}
 use Rattle.vd_play.proofs.Keep.{kept_guest, kept_device, kept_still, begun_of, taken_of, base_of}
 use Rattle.vd_play.proofs.Moves.{before_more}
 use Rattle.vd_play.proofs.Pace.{guest_paced, device_paced, device_bells, hears_low, attaches_more}
-use Rattle.vd_play.proofs.Passed.{pass_events, pass_chains}
+use Rattle.vd_play.proofs.Passed.{two_events, pass_events, pass_chains}
 use Rattle.vd_play.proofs.Quiet.{offers_le, no_quiet, all_back}
 use Rattle.vd_play.proofs.Rings.{shadows_before_pass}
-
-two_more : (es es' old : List Event) (a b b' : Event) → es ≡ old ++ a ∷ [] → es' ≡ es ++ b ∷ [] → b ≡ b' → es' ≡ old ++ (a ∷ b' ∷ [])
-two_more es es' old a b b' first second same = second ∙ ap (λ zs. zs ++ b ∷ []) first ∙ append_assoc old (a ∷ []) (b ∷ [])
-    ∙ ap (λ z. old ++ (a ∷ z ∷ [])) same
+use Rattle.vd_play.proofs.Rooms.{room_noted, room_same}
 
 -- the chains of an epoch stand behind those of the epochs before it
 pub chains_two : (begun : List Begun) (first end : ℕ) (old new : List (List Piece)) → length begun ≡ end
@@ -145,7 +141,7 @@ module _ {D E G X C : Type 0} (s : Setting D E G X C) (law : IsLawful s) (plan :
             from = m.from;
             to = m.to;
             events = u.run.served.events ∙ m.events;
-            room = omega (arith, m.room, u.run.served.room.0);
+            room = room_same s plan q device device2 u.run.served.events u.run.served.room.0 m.room;
             live = live;
           };
           paced = x.paced;
@@ -211,13 +207,12 @@ module _ {D E G X C : Type 0} (s : Setting D E G X C) (law : IsLawful s) (plan :
       (begun_at plan q (k + 1)) = ap (λ j. Suspend j (record { 0 = s.device.base end })) many
       ∙ ap (λ y. Suspend (begun_at plan q (k + 1)) y) base in
       let mode = p.kept.driven.queue.numbered.at k bound.epoch bound.is in
-      let whole : epoch_events s.device s.layout plan q bound.epoch ≡ attach_event s.device s.layout plan q (begun_at plan q k)
+      let whole : epoch_events s.device s.layout plan q bound.epoch ≡ resets plan q k
+      ++ attach_event s.device s.layout plan q (begun_at plan q k)
       ∷ suspend_event s.device s.layout plan q (begun_at plan q (k + 1)) ∷ [] =
-      pass_events s.device s.layout plan q bound.epoch (mode.1 ∙ m.mode) mode.2
-      ∙ ap (λ j. attach_event s.device s.layout plan q j ∷ suspend_event s.device s.layout plan q bound.epoch.end ∷ []) bound.first
-      ∙ ap (λ j. attach_event s.device s.layout plan q (begun_at plan q k) ∷ suspend_event s.device s.layout plan q j ∷ []) bound.end in
-      let events = two_more (s.party.events device2) (s.party.events device3) (events_before s.device s.layout plan q k) _ _ _
-      (u.run.served.events ∙ m.events) z.noted.events last in
+      pass_events s.device s.layout plan q k bound.epoch mode.2 bound.first (mode.1 ∙ m.mode) bound.end in
+      let events = two_events (s.party.events device2) (s.party.events device3) (events_before s.device s.layout plan q k)
+      (resets plan q k) _ _ _ (u.run.served.events ∙ m.events) z.noted.events last in
       let counted : attaches (s.party.events device3) ≡ attaches (s.party.events device2) =
       ap attaches z.noted.events ∙ attaches_more (s.party.events device2) _
       ∙ (let e : attaches (s.party.events device2) + 0 ≡ attaches (s.party.events device2) = omega arith in e) in
@@ -244,7 +239,8 @@ module _ {D E G X C : Type 0} (s : Setting D E G X C) (law : IsLawful s) (plan :
             begun = ap length z.noted.begun ∙ many;
             events = events ∙ ap (λ zs. events_before s.device s.layout plan q k ++ zs) (sym whole)
                 ∙ sym (flat_more (epoch_events s.device s.layout plan q) (queue_epochs plan q) k bound.epoch bound.is);
-            room = omega (arith, m.room, u.run.served.room.0, z.noted.room.0);
+            room = room_noted s plan q device2 device3 _ z.noted.events z.noted.room.0
+                (room_same s plan q device device2 u.run.served.events u.run.served.room.0 m.room);
           };
           paced = record {
             guest_heard = x.paced.guest_heard;

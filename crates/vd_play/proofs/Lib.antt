@@ -21,6 +21,8 @@ pub mod Untouched
 pub mod Making
 pub mod KitsMade
 pub mod Passed
+pub mod Rooms
+pub mod Renewals
 pub mod Modes
 pub mod Buses
 pub mod RingsSet

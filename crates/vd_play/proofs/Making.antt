@@ -25,12 +25,14 @@ use Rattle.vd_play.specs.Journal.{queue_script, queue_chains, guest_frame, tree_
 use Rattle.vd_play.specs.Lane.{IsQueue, Account, HasGiven}
 use Rattle.vd_play.specs.Prepared.{IsEmptyGuest, IsEmptyDevice}
 use Rattle.vd_play.specs.Progress.{IsStopped}
+use Rattle.vd_play.specs.Renewing.{renewals}
 use Rattle.vd_play.specs.Setting.{Setting, IsLawful}
 use Rattle.vd_play.specs.Switching.{IsSwitched}
 use Rattle.vd_play.specs.Tree.{IsTreeOf}
 use Rattle.vd_bus.specs.Pace.{attaches}
-use Rattle.vd_play.proofs.Bounds.{chains_count, many_epochs}
+use Rattle.vd_play.proofs.Bounds.{chains_count}
 use Rattle.vd_play.proofs.Chained.{chained, few_epochs, numbered, switched_is}
+use Rattle.vd_play.proofs.Rooms.{journal_length}
 
 -- the rules that a machine keeps, as far as a queue needs them
 pub record Keeps (plan : Plan) : Type 0 where
@@ -67,7 +69,7 @@ queue_is l plan q k can laid below are =
       epochs = few_epochs plan n switched;
       few = omega (arith, chains_count (queue_script plan q).runs, queue_is_short plan.queues d q k.counted below);
       chained = chained plan n switched;
-      numbered = numbered plan n switched;
+      numbered = numbered plan n;
       tree = laid;
       fits = runs_fit f (queue_script plan q).runs (λ j e within.
           let r = run_at (most_pieces plan.features plan.size) plan.regions plan.queues d e q j k.fitted k.inside below within in record {
@@ -85,7 +87,8 @@ module _ {D E G X C : Type 0} (s : Setting D E G X C) (law : IsLawful s) (plan :
       → s.guest.script guest1 ≡ Some (queue_script plan q) → (s.guest.accesses guest1 ≡ s.guest.accesses guest)
       × (s.guest.heard guest1 ≡ s.guest.heard guest) → IsBoot s.driver s.layout s.guest driver guest1 guest2
       → IsEmptyDevice s.party device → IsUnchanged s.party device device' → s.party.window device' ≡ plan.window
-      → 2 * (length plan.switches + 2) ≤ s.party.event_room device' → length (queue_chains plan q) ≤ s.party.chain_room device'
+      → 2 * (length plan.switches + 2) + renewals plan.switches ≤ s.party.event_room device'
+      → length (queue_chains plan q) ≤ s.party.chain_room device'
       → IsStopped s plan q 0 0 words end 0 guest2 device'
   made words driver end guest guest1 guest2 device device' queue can number is fresh idle script counts boot empty same window events room =
       let f : Frame = guest_frame s.layout plan q in
@@ -129,7 +132,7 @@ module _ {D E G X C : Type 0} (s : Setting D E G X C) (law : IsLawful s) (plan :
           taken = refl;
           begun = ap length none;
           events = same.events ∙ empty.events;
-          room = omega (arith, events, many_epochs plan (length (queue_chains plan q)));
+          room = omega (arith, events, journal_length s.device s.layout plan q);
         };
         paced = record {
           guest_heard = omega (arith, boot.counts.1, counts.1, idle.idle.1);

@@ -1,13 +1,14 @@
 -- The modes of epochs.
-use Rattle.std.proofs.Common.{◌≡◌, ℕ, zero, suc, ◌+◌, ◌*◌, ◌<◌, Bool, false, Some, List, [], ◌∷◌, ◌++◌, length, slice_get, min, refl, sym, ◌∙◌, ap, arith}
+use Rattle.std.proofs.Common.{◌≡◌, ℕ, zero, suc, ◌+◌, ◌*◌, ◌-◌, ◌<◌, Bool, false, Some, List, [], ◌∷◌, ◌++◌, length, slice_get, min, refl, sym, ◌∙◌, ap, arith}
 use Rattle.vd_model.specs.declared.base.Mode.{Mode}
 use Rattle.vd_model.specs.declared.base.Mode.TheVariants.{Pass, Shadow}
+use Rattle.std.specs.Option.{option_map_or}
 use Rattle.std.proofs.lemmas.Bool.{lt-ltb, le-ltb}
 use Rattle.vd_bus.specs.Orders.{mode_of}
 use Rattle.vd_play.specs.Journal.{ring_in}
 use Rattle.vd_machine.specs.File.{Plan}
 use Rattle.vd_machine.specs.declared.machine.Switch.{Switch}
-use Rattle.vd_play.specs.Epochs.{Epoch, epochs, epochs_from, closing, mode_after, mode_from, mode_at, is_renewal}
+use Rattle.vd_play.specs.Epochs.{Epoch, epochs, epochs_from, closing, mode_after, mode_from, mode_at, is_renewal, renewed_at}
 use Rattle.vd_play.proofs.Lists.{some_same}
 
 pub mode_first : (ss : List Switch) (m : Mode) → mode_from ss m 0 ≡ m
@@ -49,3 +50,16 @@ from_mode e (s ∷ ss) m renewed first n j (suc k) ep at =
 
 pub epoch_mode : (plan : Plan) (n k : ℕ) (ep : Epoch) → slice_get (epochs plan n) k ≡ Some ep → ep.mode ≡ mode_at plan k
 epoch_mode plan n k ep at = from_mode 0 plan.switches plan.start false 0 n (length plan.switches + 1) k ep at
+
+-- ---- renewals
+
+pub renewed_first : (plan : Plan) (k : ℕ) → k ≡ 0 → renewed_at plan k ≡ false
+renewed_first plan zero is = refl
+renewed_first plan (suc k) is = absurd (omega (arith, is))
+
+pub renewed_later : (plan : Plan) (k : ℕ) → (k ≡ 0 → ⊥)
+    → renewed_at plan k ≡ option_map_or (λ (s : Switch). is_renewal s.to) (slice_get plan.switches (k - 1)) false
+renewed_later plan zero other = absurd (other refl)
+renewed_later plan (suc k) other =
+    let e : k ≡ suc k - 1 = omega arith in
+    ap (λ j. option_map_or (λ (s : Switch). is_renewal s.to) (slice_get plan.switches j) false) e

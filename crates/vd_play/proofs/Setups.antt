@@ -1,8 +1,8 @@
 -- The bus of a machine is set up for an epoch.
-use Rattle.std.proofs.Common.{◌≡◌, ℕ, suc, ◌<◌, ◌≤◌, true, false, List, [], ◌∷◌, length, slice_get, slice_index_or, slice_set, set, take, ◌*◌, ◌/◌, ◌^◌, Option, Some, None, refl, sym, ◌∙◌, ap, subst, arith}
+use Rattle.std.proofs.Common.{◌≡◌, ℕ, zero, suc, ◌+◌, ◌<◌, ◌≤◌, true, false, List, [], ◌∷◌, length, slice_get, slice_index_or, slice_set, set, take, ◌*◌, ◌/◌, ◌^◌, Option, Some, None, refl, sym, ◌∙◌, ap, subst, arith}
 use Rattle.std.specs.List.{list_all}
 use Rattle.std.specs.Option.{option_map}
-use Rattle.std.proofs.lemmas.Bool.{ne_eqb}
+use Rattle.std.proofs.lemmas.Bool.{ne_eqb, false≢true}
 use Rattle.std.proofs.lemmas.Option.{slice_get_within}
 use Rattle.std.proofs.lemmas.List.{length-set, get_or-set_same, get_or-set_other}
 use Rattle.vd_model.specs.declared.base.Base.{Base}
@@ -25,11 +25,12 @@ use Rattle.vd_play.specs.declared.bench.Bench.{Bench}
 use Rattle.vd_play.specs.Each.{HasLanes}
 use Rattle.vd_play.specs.Journal.{map_in, ring_in, guest_frame, queue_chains}
 use Rattle.vd_play.specs.Before.{begun_at}
+use Rattle.vd_play.specs.Epochs.{renewed_at}
 use Rattle.vd_play.specs.Orders.{pass_order, shadow_order}
 use Rattle.vd_play.specs.Prepared.{IsOfLayout}
 use Rattle.vd_play.specs.Progress.{AllStopped, IsStopped, StoppedWith}
 use Rattle.vd_play.specs.Setting.{Setting, IsLawful}
-use Rattle.vd_play.specs.Setup.{set_up, on, serving, with_vrings, with_map, IsBrought, IsRing, HasRings, HasSizes, vring_at, base_in, AllServe, HasBase, HasBases, IsReady}
+use Rattle.vd_play.specs.Setup.{set_up, on, serving, with_vrings, with_map, IsBrought, IsBefore, CanSetUp, IsRing, HasRings, HasSizes, vring_at, base_in, AllServe, HasBase, HasBases, IsReady}
 use Rattle.vd_play.proofs.Bounds.{at_index}
 use Rattle.vd_play.proofs.Buses.{ring_got, ring_new, serving_is, no_enable_fault, no_order_fault, offer_back, each_put, own}
 use Rattle.vd_play.proofs.Each.{get_set}
@@ -72,6 +73,23 @@ ready_first e base plan m k lanes b c is rings bases set = subst (λ (z : BusSta
   rings = record { many = rings.many; each = rings.each };
   bases = bases;
 })
+
+-- ---- a renewal
+
+-- the bus is at status 0
+pub set_anew : (plan : Plan) (k : ℕ) (b c : BusState) → IsBefore plan k b → renewed_at plan k ≡ true → c ≡ after_status b 0
+    → CanSetUp plan k c
+set_anew plan zero b c before is set = absurd (false≢true is)
+set_anew plan (suc j) b c before is set = record {
+  first = λ e. absurd (omega (arith, e));
+  renewed = λ yes. set ∙ ap (λ (z : BusState). after_status z 0) (before.later j (omega arith)).0;
+  later = λ i e no. absurd (false≢true (sym no ∙ is));
+}
+
+-- the bus stands where there is none
+pub set_on : (plan : Plan) (k : ℕ) (b : BusState) → IsBefore plan k b → renewed_at plan k ≡ false → CanSetUp plan k b
+set_on plan k b before is =
+    record { first = before.first; renewed = λ yes. absurd (false≢true (sym is ∙ yes)); later = λ j e no. before.later j e }
 
 -- ---- an order
 

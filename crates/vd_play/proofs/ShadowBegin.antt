@@ -35,7 +35,7 @@ use Rattle.vd_switch.proofs.Wound as switched
 use Rattle.vd_machine.specs.File.{Plan}
 use Rattle.vd_turns.specs.RelayTurns.{reached}
 use Rattle.vd_play.specs.declared.floor.ShadowRing.{ShadowRing}
-use Rattle.vd_play.specs.Before.{begun_at, events_before}
+use Rattle.vd_play.specs.Before.{begun_at, events_before, resets}
 use Rattle.vd_play.specs.Epochs.{mode_at}
 use Rattle.vd_play.specs.Journal.{queue_chains, queue_epochs, guest_frame, shadow_frame, pass_map, shadow_map, tree_map}
 use Rattle.vd_play.specs.Kits.{IsShadowRing}
@@ -47,6 +47,8 @@ use Rattle.vd_play.proofs.Begin.{fits, paced_attached}
 use Rattle.vd_play.proofs.Bounds.{bounded}
 use Rattle.vd_play.proofs.Keep.{kept_still}
 use Rattle.vd_play.proofs.Pace.{attaches_more}
+use Rattle.vd_play.proofs.Renewals.{Renews, events_attached, room_renewed}
+use Rattle.vd_play.proofs.Rooms.{room_noted}
 
 -- ---- chains with their lengths
 
@@ -89,12 +91,13 @@ reached_live r v w live = rw live refl
 -- ---- the attach
 
 module _ {L D E G X C : Type 0} (s : Setting D E G X C) (law : IsLawful s) (plan : Plan) (q k to : ℕ) (words : RingWords) (end : E)
-    (relayed : ℕ) (guest : G) (device device' : X) (ring : ShadowRing L D E) (r : State E D) (c : Counts)
+    (relayed : ℕ) (guest : G) (device device1 device' : X) (ring : ShadowRing L D E) (r : State E D) (c : Counts)
     (is : to ≡ begun_at plan q (k + 1))
     (more : k < length (queue_epochs plan q)) (mode : mode_at plan k ≡ Shadow)
-    (p : IsStopped s plan q k 0 words end relayed guest device) (kit : IsShadowRing s.driver s.device s.layout plan q k ring)
+    (p : IsStopped s plan q k 0 words end relayed guest device) (n : Renews s.party (resets plan q k) device device1)
+    (kit : IsShadowRing s.driver s.device s.layout plan q k ring)
     (shadows : Shadows s.device s.driver end ring.kit.driver ring.kit.table r c) (fresh : IsNew r c)
-    (a : IsAttach s.device s.party (shadow_order s.layout plan k q (to - length (s.party.begun device))) None ring.kit.device device
+    (a : IsAttach s.device s.party (shadow_order s.layout plan k q (to - length (s.party.begun device1))) None ring.kit.device device1
     device')
   where
     abbrev number : ℕ
@@ -116,7 +119,7 @@ module _ {L D E G X C : Type 0} (s : Setting D E G X C) (law : IsLawful s) (plan
     sw = fresh_device frame (s.layout.width frame)
 
     abbrev by : Attached
-    by = record { queue = q; count = to - length (s.party.begun device); at = length (s.party.begun device); from = a.from }
+    by = record { queue = q; count = to - length (s.party.begun device1); at = length (s.party.begun device1); from = a.from }
 
     abbrev z : Start
     z = start (tree_map plan) w
@@ -163,6 +166,9 @@ module _ {L D E G X C : Type 0} (s : Setting D E G X C) (law : IsLawful s) (plan
     many : length (s.party.begun device) ≡ begun_at plan q k
     many = p.rests.begun
 
+    many_still : length (s.party.begun device1) ≡ begun_at plan q k
+    many_still = ap length n.begun ∙ many
+
     -- all that was taken was given
     even : length (takes w.done) ≡ length (gives w.done)
     even = (law.layout.device_end.whole end w p.rests.stands p.rests.still).1
@@ -174,7 +180,8 @@ module _ {L D E G X C : Type 0} (s : Setting D E G X C) (law : IsLawful s) (plan
     as_many = p.rests.taken ∙ sym lens_many
 
     kept : IsKept s plan q k words guest device' v w
-    kept = kept_still s law plan q k words guest device device' v w a.noted.begun a.noted.window a.noted.room.1 p.kept
+    kept = kept_still s law plan q k words guest device device' v w (a.noted.begun ∙ n.begun) (a.noted.window ∙ n.window)
+        (omega (arith, n.chain_room, a.noted.room.1)) p.kept
 
     lane : switch.IsShadowing s.device s.driver s.layout z old r (s.party.begun device') by words.words ring.words.words v w sv sw
     lane = switched.starts s.device s.driver s.layout law.layout z old r (s.party.begun device') by words.words ring.words.words v w sv sw
@@ -184,24 +191,24 @@ module _ {L D E G X C : Type 0} (s : Setting D E G X C) (law : IsLawful s) (plan
     lens : map (λ (x : List Piece × ℕ). x.1) old ≡ take (begun_at plan q k) (lens_of (s.party.begun device'))
     lens = zip_lens (takes w.done) (lens_of (s.party.begun device)) as_many
         ∙ sym (take_all (begun_at plan q k) (lens_of (s.party.begun device)) (omega (arith, lens_many)))
-        ∙ ap (λ (bs : List Begun). take (begun_at plan q k) (lens_of bs)) (sym a.noted.begun)
+        ∙ ap (λ (bs : List Begun). take (begun_at plan q k) (lens_of bs)) (sym (a.noted.begun ∙ n.begun))
 
     to_end : by.at + by.count ≡ begun_at plan q (k + 1)
     to_end = omega (
       arith,
-      many,
+      many_still,
       is,
       (bounded (length (queue_chains plan q)) (queue_epochs plan q) k queue.chained more).rises,
     )
 
-    last : Attach (length (s.party.begun device)) number (record { 0 = s.layout.fresh_base }) (mode_of number) default (shadow_map plan)
+    last : Attach (length (s.party.begun device1)) number (record { 0 = s.layout.fresh_base }) (mode_of number) default (shadow_map plan)
         ≡ shadow_attach s.layout plan q k (begun_at plan q k)
-    last = ap (λ n. Attach n number (record { 0 = s.layout.fresh_base }) (mode_of number) default (shadow_map plan)) many
+    last = ap (λ j. Attach j number (record { 0 = s.layout.fresh_base }) (mode_of number) default (shadow_map plan)) many_still
         ∙ ap (λ m. Attach (begun_at plan q k) number (record { 0 = s.layout.fresh_base }) m default (shadow_map plan))
         (shadow_mode number (omega arith))
 
     counted : attaches (s.party.events device') ≡ attaches (s.party.events device) + 1
-    counted = ap attaches a.noted.events ∙ attaches_more (s.party.events device) _
+    counted = ap attaches a.noted.events ∙ attaches_more (s.party.events device1) _ ∙ ap (λ j. j + 1) n.attaches_same
 
     other : q ≡ 15 → ⊥
     other h = omega (arith, h, queue.low)
@@ -225,27 +232,28 @@ module _ {L D E G X C : Type 0} (s : Setting D E G X C) (law : IsLawful s) (plan
         lane = lane;
         holds = holds;
         moves = refl;
-        took_over = (sym even ∙ p.rests.taken, p.rests.taken, many);
+        took_over = (sym even ∙ p.rests.taken, p.rests.taken, many_still);
         lens = lens;
         to = to_end;
       };
       serves = record {
         holds = a.holds sw (kit.kit.ends.serves frame made)
-            (fits (shadow_order s.layout plan k q (to - length (s.party.begun device))) frame frame refl refl other);
+            (fits (shadow_order s.layout plan k q (to - length (s.party.begun device1))) frame frame refl refl other);
         attached = a.attached;
         for_data = other;
-        events = a.noted.events ∙ ap (λ (es : List Event). es ++ Attach (length (s.party.begun device)) number
-            (record { 0 = s.layout.fresh_base }) (mode_of number) default (shadow_map plan) ∷ []) p.rests.events
-            ∙ ap (λ (e : Event). events_before s.device s.layout plan q k ++ e ∷ []) last;
-        room = omega (arith, p.rests.room, a.noted.room.0);
+        events = events_attached (s.party.events device) (s.party.events device1) (s.party.events device')
+            (events_before s.device s.layout plan q k) (resets plan q k) _ _ p.rests.events n.events a.noted.events last;
+        room = room_noted s plan q device1 device' _ a.noted.events a.noted.room.0
+            (room_renewed s plan q (resets plan q k) device device1 n p.rests.room);
         live = a.live;
       };
       awake = (fresh.winding, fresh.live);
-      paced = paced_attached s plan q k guest device device' v p.paced a.noted.counts counted;
+      paced = paced_attached s plan q k guest device device' v p.paced
+          (a.noted.counts.0 ∙ n.counts.0, a.noted.counts.1 ∙ n.counts.1) counted;
       heard = record {
         relays = p.heard.relays;
         before = relayed;
-        heard = omega (arith, p.heard.heard, a.noted.counts.1, ap (λ (x : Counts). x.heard) fresh.counts);
+        heard = omega (arith, p.heard.heard, a.noted.counts.1, n.counts.1, ap (λ (x : Counts). x.heard) fresh.counts);
         low = p.heard.low;
         counted = omega (arith, ap (λ (x : Counts). x.accesses) fresh.counts);
         handled = omega (

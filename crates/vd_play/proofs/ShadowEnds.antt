@@ -141,7 +141,7 @@ module _ {D E G X C : Type 0} (s : Setting D E G X C) (law : IsLawful s) (plan :
             taken = taken;
             begun = every;
             events = p.served.events;
-            room = omega (arith, p.served.room);
+            room = p.served.room;
           };
           paced = x.paced;
           heard = record {

@@ -20,6 +20,7 @@ use Rattle.vd_turns.specs.Turns.{GuestTurn, DeviceTurn}
 use Rattle.vd_play.proofs.ShadowKeep.{keeps_guest, keeps_relay, keeps_device}
 use Rattle.vd_play.proofs.ShadowPace.{bounds_of, paces_guest, paces_relay, paces_device}
 use Rattle.vd_play.proofs.ShadowQuiet.{both_ends, no_sleep}
+use Rattle.vd_play.proofs.Rooms.{room_same}
 
 module _ {D E G X C : Type 0} (s : Setting D E G X C) (plan : Plan) (q k n : ℕ) where
   -- whether its relay winds up or not
@@ -241,7 +242,7 @@ module _ {D E G X C : Type 0} (s : Setting D E G X C) (law : IsLawful s) (plan :
               attached = x.run.served.attached ∙ p.serves.attached;
               for_data = p.serves.for_data;
               events = x.run.served.events ∙ p.serves.events;
-              room = omega (arith, p.serves.room, x.run.served.room.0);
+              room = room_same s plan q device device1 x.run.served.events x.run.served.room.0 p.serves.room;
               live = live;
             };
             awake = y.awake;

@@ -1,7 +1,6 @@
 -- The end of a shadow epoch: its device is done and suspended, and its relay begins to wind up.
 use Rattle.std.proofs.Common.{◌≡◌, inl, inr, ℕ, ◌+◌, ◌*◌, ◌≤◌, Bool, true, false, if◌then◌else◌, List, [], ◌∷◌, ◌++◌, length, map, take, drop, sym, ◌∙◌, ap, subst, arith}
 use Rattle.std.proofs.lemmas.Bool.{false≢true}
-use Rattle.std.proofs.lemmas.List.{append_assoc}
 use Rattle.vd_model.specs.declared.base.Mode.TheVariants.{Shadow}
 use Rattle.vd_model.specs.declared.chain.Piece.{Piece}
 use Rattle.vd_model.specs.declared.record.Begun.{Begun}
@@ -11,7 +10,6 @@ use Rattle.vd_ring.specs.declared.driver.DriverView.{DriverView}
 use Rattle.vd_ring.specs.declared.device.DeviceView.{DeviceView}
 use Rattle.vd_ring.specs.History.{takes, gives}
 use Rattle.vd_bus.specs.declared.device.Attached.{Attached}
-use Rattle.vd_bus.specs.declared.event.Event.{Event}
 use Rattle.vd_bus.specs.declared.event.Event.TheVariants.{Suspend}
 use Rattle.vd_bus.specs.Device.{IsSuspend, lens_of}
 use Rattle.vd_bus.specs.Pace.{attaches}
@@ -23,10 +21,10 @@ use Rattle.vd_relay.specs.Tie.{Start}
 use Rattle.vd_switch.specs.ShadowingLanes as switch
 use Rattle.vd_switch.proofs.Wound.{winds_up}
 use Rattle.vd_machine.specs.File.{Plan}
-use Rattle.vd_play.specs.Before.{events_before, begun_at}
+use Rattle.vd_play.specs.Before.{events_before, begun_at, resets}
 use Rattle.vd_play.specs.Epochs.{Epoch}
 use Rattle.vd_play.specs.Journal.{queue_chains, queue_epochs, epoch_events, own_chains, shadow_map, shadow_frame}
-use Rattle.vd_play.specs.Lane.{Account}
+use Rattle.vd_play.specs.Lane.{Account, HasRoom}
 use Rattle.vd_play.specs.Orders.{shadow_attach}
 use Rattle.vd_play.specs.Progress.{steps, IsShadowing, IsWinding, HasRelayHeard}
 use Rattle.vd_play.specs.Setting.{Setting, IsLawful}
@@ -36,12 +34,10 @@ use Rattle.vd_turns.specs.Turns.{GuestTurn, DeviceTurn}
 use Rattle.vd_play.proofs.Bounds.{bounded, flat_more}
 use Rattle.vd_play.proofs.Pace.{attaches_more}
 use Rattle.vd_play.proofs.Parts.{by_shadow}
+use Rattle.vd_play.proofs.Passed.{two_events}
+use Rattle.vd_play.proofs.Rooms.{room_noted, room_same}
 use Rattle.vd_play.proofs.ShadowChains.{shadow_events, begun_chains}
 use Rattle.vd_play.proofs.ShadowRounds.{all_turned}
-
-two_events : (es es' old : List Event) (a b b' : Event) → es ≡ old ++ a ∷ [] → es' ≡ es ++ b ∷ [] → b ≡ b' → es' ≡ old ++ (a ∷ b' ∷ [])
-two_events es es' old a b b' first second same = second ∙ ap (λ zs. zs ++ b ∷ []) first ∙ append_assoc old (a ∷ []) (b ∷ [])
-    ∙ ap (λ z. old ++ (a ∷ z ∷ [])) same
 
 chosen : (b : Bool) (x y : ℕ) → b ≡ false → (if b then x else y) ≡ y
 chosen false x y is = Rattle.std.proofs.Common.refl
@@ -53,9 +49,9 @@ module _ {D E G X C : Type 0} (s : Setting D E G X C) (law : IsLawful s) (plan :
       (v : DriverView) (w : DeviceView) (sv : DriverView) (sw : DeviceView) (end : E)
       → IsRelayed s plan q k words shadow_words r c guest device by v w sv sw → s.party.holds device sw
       → length (s.party.begun device) ≡ begun_at plan q (k + 1)
-      → s.party.events device ≡ events_before s.device s.layout plan q k ++ shadow_attach s.layout plan q k (begun_at plan q k) ∷ []
-      → length (queue_epochs plan q) + length (queue_epochs plan q) ≤ s.party.event_room device + k + k + 1
-      → IsSuspend s.device s.party device device' end → HasServedShadow s plan q k device'
+      → s.party.events device ≡ events_before s.device s.layout plan q k
+      ++ (resets plan q k ++ shadow_attach s.layout plan q k (begun_at plan q k) ∷ [])
+      → HasRoom s plan q device → IsSuspend s.device s.party device device' end → HasServedShadow s plan q k device'
   served_shadow words shadow_words r c guest device device' by v w sv sw end p holds every events room z =
       let b = bounded (length (queue_chains plan q)) (queue_epochs plan q) k p.driven.queue.chained p.epoch in
       let ep : Epoch = b.epoch in
@@ -75,21 +71,20 @@ module _ {D E G X C : Type 0} (s : Setting D E G X C) (law : IsLawful s) (plan :
       let last : Suspend (length (s.party.begun device)) (record { 0 = s.device.base end })
       ≡ Suspend next (record { 0 = s.device.base_of (shadow_frame s.layout plan ring) moved_chains }) =
       ap (λ j. Suspend j (record { 0 = s.device.base end })) every ∙ ap (λ j. Suspend next (record { 0 = j })) based in
-      let whole : epoch_events s.device s.layout plan q ep ≡ shadow_attach s.layout plan q k (begun_at plan q k)
+      let whole : epoch_events s.device s.layout plan q ep ≡ resets plan q k
+      ++ shadow_attach s.layout plan q k (begun_at plan q k)
       ∷ Suspend next (record { 0 = s.device.base_of (shadow_frame s.layout plan ring) moved_chains }) ∷ [] =
-      shadow_events s.device s.layout plan q k ep mode numbered.2 numbered.0
-      ∙ ap (λ j. shadow_attach s.layout plan q k j
-      ∷ Suspend ep.end (record { 0 = s.device.base_of (shadow_frame s.layout plan ring) moved_chains }) ∷ []) b.first
-      ∙ ap (λ j. shadow_attach s.layout plan q k (begun_at plan q k)
+      shadow_events s.device s.layout plan q k ep mode numbered.2 numbered.0 b.first
+      ∙ ap (λ j. resets plan q k ++ shadow_attach s.layout plan q k (begun_at plan q k)
       ∷ Suspend j (record { 0 = s.device.base_of (shadow_frame s.layout plan ring) moved_chains }) ∷ []) b.end in
       record {
         free = z.attached;
         begun = ap length z.noted.begun ∙ every;
-        events = two_events (s.party.events device) (s.party.events device') (events_before s.device s.layout plan q k) _ _ _ events
-            z.noted.events last
+        events = two_events (s.party.events device) (s.party.events device') (events_before s.device s.layout plan q k)
+            (resets plan q k) _ _ _ events z.noted.events last
             ∙ ap (λ zs. events_before s.device s.layout plan q k ++ zs) (sym whole)
             ∙ sym (flat_more (epoch_events s.device s.layout plan q) (queue_epochs plan q) k ep b.is);
-        room = omega (arith, room, z.noted.room.0);
+        room = room_noted s plan q device device' _ z.noted.events z.noted.room.0 room;
       }
 
   -- the lane after the device's suspension, as its relay begins to wind up
@@ -167,7 +162,7 @@ module _ {D E G X C : Type 0} (s : Setting D E G X C) (law : IsLawful s) (plan :
                 x.run.view end y.kept z held winds;
             served = served_shadow words2 shadow_words2 r1 c1 guest1 device1 device2 p.by t.run.view u.run.view u.run.shadow_view
                 x.run.view end y.kept x.run.holds every (x.run.served.events ∙ p.serves.events)
-                (omega (arith, p.serves.room, x.run.served.room.0)) z;
+                (room_same s plan q device device1 x.run.served.events x.run.served.room.0 p.serves.room) z;
             winds = (winding, live);
             paced = record {
               guest_heard = y.paced.guest_heard;

@@ -1,11 +1,12 @@
 -- What a machine orders of a queue before an epoch.
-use Rattle.std.specs.Prelude.{ℕ, ◌++◌, List, take, flat_map}
+use Rattle.std.specs.Prelude.{ℕ, ◌++◌, List, [], ◌∷◌, take, flat_map, if◌then◌else◌}
 use Rattle.vd_model.specs.declared.chain.Piece.{Piece}
 use Rattle.vd_layout.specs.Device.{DeviceModel}
 use Rattle.vd_layout.specs.Layout.{LayoutModel}
 use Rattle.vd_bus.specs.declared.event.Event.{Event}
+use Rattle.vd_bus.specs.declared.event.Event.TheVariants.{Reset}
 use Rattle.vd_machine.specs.File.{Plan}
-use Rattle.vd_play.specs.Epochs.{Epoch, begun_before}
+use Rattle.vd_play.specs.Epochs.{Epoch, begun_before, renewed_at}
 use Rattle.vd_play.specs.Journal.{queue_epochs, epoch_chains, epoch_events}
 
 -- the events of the first k epochs
@@ -23,3 +24,7 @@ chains_within plan q k ep m = chains_before plan q k ++ take m (epoch_chains pla
 -- how many are begun before epoch k
 abbrev pub begun_at : Plan → ℕ → ℕ → ℕ
 begun_at plan q k = begun_before (queue_epochs plan q) k
+
+-- before it is attached for epoch k the device is reset, where the epoch begins with a renewal
+abbrev pub resets : Plan → ℕ → ℕ → List Event
+resets plan q k = if renewed_at plan k then Reset (begun_at plan q k) ∷ [] else []

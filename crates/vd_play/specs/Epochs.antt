@@ -56,6 +56,11 @@ mode_from (s ∷ ss) m (suc k) = mode_from ss (mode_after m s.to) k
 abbrev pub mode_at : Plan → ℕ → Mode
 mode_at plan k = mode_from plan.switches plan.start k
 
+-- whether epoch k begins with a renewal
+abbrev pub renewed_at : Plan → ℕ → Bool
+renewed_at plan zero = false
+renewed_at plan (suc k) = option_map_or (λ (s : Switch). is_renewal s.to) (slice_get plan.switches k) false
+
 -- how many chains are begun before epoch k
 abbrev pub begun_before : List Epoch → ℕ → ℕ
 begun_before es zero = 0
@@ -66,6 +71,7 @@ pub record AreChained (n : ℕ) (es : List Epoch) : Type 0 where
   pub at : (k : ℕ) (ep : Epoch) → slice_get es k ≡ Some ep → (ep.first ≡ begun_before es k) × (ep.first ≤ ep.end) × (ep.end ≤ n)
   pub whole : begun_before es (length es) ≡ n
 
--- each has its number and its mode, and none begins with a renewal
+-- each has its number and its mode, and begins with a renewal where the switch before it is one
 pub record AreNumbered (plan : Plan) (es : List Epoch) : Type 0 where
-  pub at : (k : ℕ) (ep : Epoch) → slice_get es k ≡ Some ep → (ep.number ≡ k) × (ep.mode ≡ mode_at plan k) × (ep.renewed ≡ false)
+  pub at : (k : ℕ) (ep : Epoch) → slice_get es k ≡ Some ep
+      → (ep.number ≡ k) × (ep.mode ≡ mode_at plan k) × (ep.renewed ≡ renewed_at plan k)

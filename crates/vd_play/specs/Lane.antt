@@ -17,9 +17,9 @@ use Rattle.vd_bus.specs.Device.{IsBegun, chains_of, lens_of}
 use Rattle.vd_bus.specs.Orders.{IsData}
 use Rattle.vd_machine.specs.File.{Plan}
 use Rattle.vd_machine.specs.declared.limits.TheConstants.{MOST_CHAINS}
-use Rattle.vd_play.specs.Before.{events_before, chains_before, begun_at}
+use Rattle.vd_play.specs.Before.{events_before, chains_before, begun_at, resets}
 use Rattle.vd_play.specs.Epochs.{AreChained, AreNumbered, mode_at}
-use Rattle.vd_play.specs.Journal.{queue_script, queue_chains, queue_epochs, guest_frame, attach_event, tree_map}
+use Rattle.vd_play.specs.Journal.{queue_script, queue_chains, queue_epochs, guest_frame, attach_event, journal_events, tree_map}
 use Rattle.vd_play.specs.Setting.{Setting}
 use Rattle.vd_play.specs.Tree.{IsTreeOf}
 
@@ -74,6 +74,11 @@ pub record IsKept {D E G X C : Type 0} (s : Setting D E G X C) (plan : Plan) (q 
   pub given : All (HasGiven (lens_of (s.party.begun device))) (gives w.done)
   pub reserved : IsReserved s plan q device
 
+-- the journal has room for all that the machine orders still
+abbrev pub HasRoom : {D E G X C : Type 0} → Setting D E G X C → Plan → ℕ → X → Type 0
+HasRoom s plan q device =
+    length (journal_events s.device s.layout plan q) ≤ s.party.event_room device + length (s.party.events device)
+
 -- the device's part before epoch k: it isn't attached, and the lane keeps the ring's end
 pub record Rests {D E G X C : Type 0} (s : Setting D E G X C) (plan : Plan) (q k : ℕ) (end : E) (device : X) (w : DeviceView) : Type 0 where
   pub stands : s.device.stands end w
@@ -82,7 +87,7 @@ pub record Rests {D E G X C : Type 0} (s : Setting D E G X C) (plan : Plan) (q k
   pub taken : length (takes w.done) ≡ begun_at plan q k
   pub begun : length (s.party.begun device) ≡ begun_at plan q k
   pub events : s.party.events device ≡ events_before s.device s.layout plan q k
-  pub room : length (queue_epochs plan q) + length (queue_epochs plan q) ≤ s.party.event_room device + k + k
+  pub room : HasRoom s plan q device
 
 -- the device's part in epoch k of the mode pass: it is attached to the guest's ring, to begin the epoch's chains, and not yet done
 pub record Serves {D E G X C : Type 0} (s : Setting D E G X C) (plan : Plan) (q k : ℕ) (device : X) (w : DeviceView) : Type 0 where
@@ -95,6 +100,6 @@ pub record Serves {D E G X C : Type 0} (s : Setting D E G X C) (plan : Plan) (q 
   pub from : (by.at ≡ begun_at plan q k) × (by.from ≡ begun_at plan q k)
   pub to : by.at + by.count ≡ begun_at plan q (k + 1)
   pub events : s.party.events device ≡ events_before s.device s.layout plan q k
-      ++ attach_event s.device s.layout plan q (begun_at plan q k) ∷ []
-  pub room : length (queue_epochs plan q) + length (queue_epochs plan q) ≤ s.party.event_room device + k + k + 1
+      ++ (resets plan q k ++ attach_event s.device s.layout plan q (begun_at plan q k) ∷ [])
+  pub room : HasRoom s plan q device
   pub live : s.party.is_done device → ⊥

@@ -17,3 +17,4 @@ pub mod Tree
 pub mod Setup
 pub mod Attaching
 pub mod Switching
+pub mod Renewing

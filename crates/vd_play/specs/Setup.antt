@@ -7,12 +7,12 @@ use Rattle.vd_uapi.specs.declared.vring_state.VringState.{VringState}
 use Rattle.vd_uapi.specs.declared.message.Msg.{Msg}
 use Rattle.vd_layout.specs.Device.{DeviceModel, IsStill}
 use Rattle.vd_bus.specs.declared.bus.vring.Vring.{Vring}
-use Rattle.vd_bus.specs.Bus.{BusState, fresh_vring, is_lawful_base}
+use Rattle.vd_bus.specs.Bus.{BusState, new_bus, fresh_vring, is_lawful_base}
 use Rattle.vd_bus.specs.BusRings.{after_enable}
 use Rattle.vd_bus.specs.BusStatus.{feature_bits, is_running}
 use Rattle.vd_machine.specs.File.{Plan}
 use Rattle.vd_play.specs.declared.floor.Lane.{Lane}
-use Rattle.vd_play.specs.Epochs.{mode_at}
+use Rattle.vd_play.specs.Epochs.{mode_at, renewed_at}
 use Rattle.vd_play.specs.Journal.{by_mode, map_in, ring_in}
 
 -- ---- where a ring lies
@@ -67,6 +67,10 @@ pub record Stands (plan : Plan) (b : BusState) : Type 0 where
   pub is : b ≡ set_up plan b.status b.suspended b.vrings b.map
   pub still : is_running b ≡ false
 
+-- as it is made, at status 0
+abbrev pub fresh_bus : Plan → BusState
+fresh_bus plan = new_bus plan.packed plan.size plan.features (length plan.queues) false 0 last_iova
+
 -- at FEATURES_OK, before the messages
 abbrev pub IsBrought : Plan → BusState → Type 0
 IsBrought plan b = b ≡ set_up plan 11 false b.vrings []
@@ -99,10 +103,16 @@ pub record KeepsRings (plan : Plan) (b c : BusState) : Type 0 where
   pub num : (q : ℕ) → q < length plan.queues → (vring_at plan c q).num ≡ (vring_at plan b q).num
   pub addr : (q : ℕ) → q < length plan.queues → (vring_at plan c q).addr ≡ (vring_at plan b q).addr
 
--- the bus as it is before epoch k, and before it is set up for it
+-- the bus as it is before epoch k
 pub record IsBefore (plan : Plan) (k : ℕ) (b : BusState) : Type 0 where
-  pub first : k ≡ 0 → IsBrought plan b × HasRings plan (mode_at plan 0) 0 b
+  pub first : k ≡ 0 → b ≡ fresh_bus plan
   pub later : (j : ℕ) → k ≡ j + 1 → IsUp plan (mode_at plan j) b × HasSizes plan b
+
+-- and before it is set up for it: at status 0 also where the epoch begins with a renewal
+pub record CanSetUp (plan : Plan) (k : ℕ) (b : BusState) : Type 0 where
+  pub first : k ≡ 0 → b ≡ fresh_bus plan
+  pub renewed : renewed_at plan k ≡ true → b ≡ fresh_bus plan
+  pub later : (j : ℕ) → k ≡ j + 1 → renewed_at plan k ≡ false → IsUp plan (mode_at plan j) b × HasSizes plan b
 
 -- queue q is enabled
 abbrev pub on : ℕ → VringState

@@ -16,10 +16,10 @@ use Rattle.vd_relay.specs.Stages.{is_rested}
 use Rattle.vd_relay.specs.Tie.{Start, since}
 use Rattle.vd_switch.specs.ShadowingLanes as switch
 use Rattle.vd_machine.specs.File.{Plan}
-use Rattle.vd_play.specs.Before.{events_before, begun_at}
+use Rattle.vd_play.specs.Before.{events_before, begun_at, resets}
 use Rattle.vd_play.specs.Epochs.{Epoch, mode_at}
 use Rattle.vd_play.specs.Journal.{queue_epochs, tree_map, shadow_map, shadow_frame}
-use Rattle.vd_play.specs.Lane.{IsDriven, Account, IsReserved}
+use Rattle.vd_play.specs.Lane.{IsDriven, Account, IsReserved, HasRoom}
 use Rattle.vd_play.specs.Orders.{shadow_attach}
 use Rattle.vd_play.specs.Setting.{Setting}
 
@@ -50,8 +50,8 @@ pub record ServesShadow {D E G X C : Type 0} (s : Setting D E G X C) (plan : Pla
   pub attached : s.party.attached device ≡ Some by
   pub for_data : IsData by.queue
   pub events : s.party.events device ≡ events_before s.device s.layout plan q k
-      ++ shadow_attach s.layout plan q k (begun_at plan q k) ∷ []
-  pub room : length (queue_epochs plan q) + length (queue_epochs plan q) ≤ s.party.event_room device + k + k + 1
+      ++ (resets plan q k ++ shadow_attach s.layout plan q k (begun_at plan q k) ∷ [])
+  pub room : HasRoom s plan q device
   pub live : s.party.is_done device → ⊥
 
 -- the device was suspended, once it had begun the epoch's chains
@@ -59,4 +59,4 @@ pub record HasServedShadow {D E G X C : Type 0} (s : Setting D E G X C) (plan : 
   pub free : s.party.attached device ≡ None
   pub begun : length (s.party.begun device) ≡ begun_at plan q (k + 1)
   pub events : s.party.events device ≡ events_before s.device s.layout plan q (k + 1)
-  pub room : length (queue_epochs plan q) + length (queue_epochs plan q) ≤ s.party.event_room device + (k + 1) + (k + 1)
+  pub room : HasRoom s plan q device

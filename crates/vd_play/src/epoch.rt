@@ -9,7 +9,8 @@ ghost use Rattle.vd_play.specs.Epochs.{mode_at};
 ghost use Rattle.vd_play.specs.Orders.{CanAttach};
 ghost use Rattle.vd_play.specs.Attaching.{IsSameLane, CanShadow, HasShadowed, removed_last};
 ghost use Rattle.vd_play.specs.Played.{IsCut, KeepsBench, HasNoFault, IsFaultOf, faulty};
-ghost use Rattle.vd_play.specs.Progress.{AllStopped, AllInEpoch, all_made};
+ghost use Rattle.vd_play.specs.Progress.{AllInEpoch, all_made};
+ghost use Rattle.vd_play.specs.Renewing.{AllRenewed};
 ghost use Rattle.vd_play.specs.Setting.{setting_of};
 ghost use Rattle.vd_play.specs.Setup.{on, serving, HasBase, IsReady, IsUp, HasSizes};
 
@@ -141,7 +142,7 @@ pub(crate) fn attach_all<L: Layout, G: Guest<L>, V: Device<L>>(
     requires epoch { epoch < length m.now.switches + 2 }
     requires ready { IsReady L.Device.device L.layout.fresh_base (view m.now) (mode_at (view m.now) epoch) epoch
         floor.old.lanes.items bus.old }
-    requires lanes { AllStopped (setting_of L.Driver.driver L.Device.device L.layout G.party V.party) (view m.now) epoch
+    requires lanes { AllRenewed (setting_of L.Driver.driver L.Device.device L.layout G.party V.party) (view m.now) epoch
         floor.old.lanes.items bench.old }
     ensures many { length floor.new.lanes.items ≡ length floor.old.lanes.items }
     ensures tree { floor.new.tree ≡ floor.old.tree }

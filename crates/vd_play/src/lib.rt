@@ -12,6 +12,7 @@ mod order;
 mod playing;
 mod preparing;
 mod relaying;
+mod renewing;
 mod ring_addr;
 mod rounds;
 mod setup;

@@ -12,8 +12,9 @@ ghost use Rattle.vd_play.specs.Tree.{IsLaid};
 use crate::bench::Bench;
 use crate::epoch::{PlayFault, attach_all};
 use crate::floor::Floor;
+use crate::renewing::renew;
 use crate::rounds::{drain, run_epoch};
-use crate::setup::{bring_up, set_up};
+use crate::setup::{new_bus, set_up};
 use vd_bus::{Device, Guest};
 use vd_layout::Layout;
 use vd_machine::Machine;
@@ -58,9 +59,10 @@ pub fn play_machine<L: Layout, G: Guest<L>, V: Device<L>>(
 {
     let mut floor = floor;
     let mut draws = Draws::new(seed);
-    let mut bus = bring_up(m);
+    let mut bus = new_bus(m);
     let mut made = 0;
     for epoch in 0..m.switches.len() + 2 {
+        renew::<L, G, V>(m, epoch, &mut bus, bench);
         set_up::<L>(m, &floor.tree, epoch, &mut bus, floor.lanes.as_slice());
         attach_all::<L, G, V>(m, epoch, &mut bus, &mut floor, bench)?;
         made += run_epoch::<L, G, V>(&mut floor, bench, &mut draws);

@@ -15,7 +15,7 @@ ghost use Rattle.vd_play.specs.Tree.{IsLaid, IsTreeOf};
 
 use crate::bench::Bench;
 use crate::floor::{Floor, Lane, ShadowRing};
-use crate::order::{chain_count, mode_of};
+use crate::order::{chain_count, event_count, mode_of};
 use crate::tree::lay;
 use std::alloc::{AllocError, Global};
 use vd_bus::{Device, Guest};
@@ -97,7 +97,7 @@ fn make_lane<L: Layout, G: Guest<L>, V: Device<L>>(
     let words = L::words(m.size, m.features, false);
     let words = PlainWords::new(alloc, queue as u32, words)?;
     let (driver, end) = L::make(alloc, m.size, m.features, false)?;
-    let events = 2 * (m.switches.len() as u32 + 2);
+    let events = event_count(m.switches.as_slice());
     device.reserve(alloc, m.window, events, chain_count(script.runs.as_slice()))?;
     guest.load(alloc, script)?;
     let kits = make_kits::<L>(alloc, m, queue as u32)?;

@@ -5,13 +5,13 @@ ghost use Rattle.vd_layout.specs.Device.{IsStill};
 ghost use Rattle.vd_machine.specs.File.{view};
 ghost use Rattle.vd_play.specs.Epochs.{mode_at};
 ghost use Rattle.vd_play.specs.Prepared.{IsOfLayout};
-ghost use Rattle.vd_play.specs.Setup.{with_vrings, base_in, Stands, IsBrought, IsUp, HasSizes, HasRings, KeepsRings, IsBefore, AllServe, HasBases, IsReady};
+ghost use Rattle.vd_play.specs.Setup.{with_vrings, base_in, Stands, fresh_bus, IsBrought, IsUp, HasSizes, HasRings, KeepsRings, CanSetUp, AllServe, HasBases, IsReady};
 ghost use Rattle.vd_play.specs.Tree.{IsTreeOf};
 
 use crate::calls::{resume, set_addr, set_base, set_features, set_num, set_status, suspend};
 use crate::floor::Lane;
 use crate::messages::{map_regions, unmap_regions};
-use crate::order::mode_of;
+use crate::order::{is_renewed, mode_of};
 use crate::ring_addr::{ring_addr, ring_in};
 use vd_bus::Bus;
 use vd_iova::IovaTree;
@@ -23,40 +23,47 @@ use vd_uapi::VringState;
 /// The last iova: a region that lies outside the machine's own range of iovas is passed too.
 const LAST: u64 = (1 << 63) - 1;
 
-/// The bus at FEATURES_OK.
-fn new_bus(m: &Machine) -> Bus
-    ensures brought { IsBrought (view m.now) result }
-    ensures many { length result.vrings ≡ length m.now.queues }
+/// The machine's bus at status 0.
+pub(crate) fn new_bus(m: &Machine) -> Bus
+    ensures { result ≡ fresh_bus (view m.now) }
 {
     let queues = m.queues.len() as u32;
-    let mut bus = Bus::new(m.packed, m.size, m.features, queues, false, 0, LAST);
-    set_status(&mut bus, 1);
-    set_status(&mut bus, 3);
-    let bits = bus.get_features();
-    set_features(&mut bus, bits);
-    set_status(&mut bus, 11);
-    bus
+    Bus::new(m.packed, m.size, m.features, queues, false, 0, LAST)
 }
 
-/// The bus with all features accepted, and with the number and the address of each queue's ring in the first epoch.
-pub(crate) fn bring_up(m: &Machine) -> Bus
-    ensures brought { IsBrought (view m.now) result }
-    ensures rings { HasRings (view m.now) m.now.start 0 result }
+/// From status 0 to FEATURES_OK, with all features accepted.
+fn accept_features(m: &Machine, bus: &mut Bus)
+    requires fresh { bus.old ≡ fresh_bus (view m.now) }
+    ensures brought { IsBrought (view m.now) bus.new }
+    ensures many { length bus.new.vrings ≡ length m.now.queues }
 {
-    let mut bus = new_bus(m);
+    set_status(bus, 1);
+    set_status(bus, 3);
+    let bits = bus.get_features();
+    set_features(bus, bits);
+    set_status(bus, 11);
+}
+
+/// The bus with all features accepted, and with the number and the address of each queue's ring in an epoch of this mode.
+fn bring_up(m: &Machine, mode: Mode, epoch: usize, bus: &mut Bus)
+    requires epoch { epoch < length m.now.switches + 2 }
+    requires fresh { bus.old ≡ fresh_bus (view m.now) }
+    ensures brought { IsBrought (view m.now) bus.new }
+    ensures rings { HasRings (view m.now) mode epoch bus.new }
+{
+    accept_features(m, bus);
     for q in 0..m.queues.len() as u32 {
         let v = VringState {
             index: q,
             num: m.size,
         };
-        set_num(&mut bus, &v);
-        let ring = ring_in(m.start, 0, q);
-        set_addr(&mut bus, &ring_addr(m.packed, m.size, q, ring));
+        set_num(bus, &v);
+        let ring = ring_in(mode, epoch as u32, q);
+        set_addr(bus, &ring_addr(m.packed, m.size, q, ring));
     }
-    bus
 }
 
-/// Sets up the bus for an epoch: the first begins it, and before a later one the device is suspended.
+/// Sets up the bus for an epoch: the first one and a renewal bring it up, and before another one the device is suspended.
 pub(crate) fn set_up<L: Layout>(
     m: &Machine,
     tree: &IovaTree,
@@ -67,31 +74,40 @@ pub(crate) fn set_up<L: Layout>(
     requires layout { IsOfLayout L.layout (view m.now) }
     requires tree { IsTreeOf (view m.now) tree.now.mappings }
     requires epoch { epoch < length m.now.switches + 2 }
-    requires before { IsBefore (view m.now) epoch bus.old }
+    requires before { CanSetUp (view m.now) epoch bus.old }
     requires many { length lanes.now ≡ length m.now.queues }
     requires ends { AllServe L.Device.device (view m.now) lanes.now }
     ensures { IsReady L.Device.device L.layout.fresh_base (view m.now) (mode_at (view m.now) epoch) epoch lanes.now bus.new }
 {
-    if epoch == 0 {
-        begin::<L>(m, tree, bus, lanes);
+    let mode = mode_of(m, epoch);
+    if epoch == 0 || is_renewed(m, epoch) {
+        begin::<L>(m, tree, mode, epoch, bus, lanes);
     } else {
         let before = mode_of(m, epoch - 1);
-        switch::<L>(m, tree, before, mode_of(m, epoch), epoch, bus, lanes);
+        switch::<L>(m, tree, before, mode, epoch, bus, lanes);
     }
 }
 
-/// Messages for the map, bases, DRIVER_OK.
-fn begin<L: Layout>(m: &Machine, tree: &IovaTree, bus: &mut Bus, lanes: &[Lane<L>])
+/// From status 0: bring-up, messages for the map, bases, DRIVER_OK.
+fn begin<L: Layout>(
+    m: &Machine,
+    tree: &IovaTree,
+    mode: Mode,
+    epoch: usize,
+    bus: &mut Bus,
+    lanes: &[Lane<L>],
+)
     requires layout { IsOfLayout L.layout (view m.now) }
     requires tree { IsTreeOf (view m.now) tree.now.mappings }
-    requires brought { IsBrought (view m.now) bus.old }
-    requires rings { HasRings (view m.now) m.now.start 0 bus.old }
+    requires epoch { epoch < length m.now.switches + 2 }
+    requires fresh { bus.old ≡ fresh_bus (view m.now) }
     requires many { length lanes.now ≡ length m.now.queues }
     requires ends { AllServe L.Device.device (view m.now) lanes.now }
-    ensures { IsReady L.Device.device L.layout.fresh_base (view m.now) m.now.start 0 lanes.now bus.new }
+    ensures { IsReady L.Device.device L.layout.fresh_base (view m.now) mode epoch lanes.now bus.new }
 {
-    map_regions(m, tree, m.start, bus);
-    set_bases::<L>(m, m.start, bus, lanes);
+    bring_up(m, mode, epoch, bus);
+    map_regions(m, tree, mode, bus);
+    set_bases::<L>(m, mode, bus, lanes);
     set_status(bus, 15);
 }
 

@@ -18,6 +18,8 @@ mod recording_tests;
 #[cfg(test)]
 mod refusals_tests;
 #[cfg(test)]
+mod renewing_tests;
+#[cfg(test)]
 mod switching_tests;
 #[cfg(test)]
 mod told;

@@ -6,7 +6,7 @@ ghost use Rattle.vd_model.specs.declared.features.Features.{Features};
 ghost use Rattle.vd_layout.specs.Begun.{DeviceOp};
 ghost use Rattle.vd_layout.specs.Device.{IsStill};
 ghost use Rattle.vd_ring.specs.declared.device.DeviceView.{DeviceView};
-ghost use Rattle.vd_bus.specs.Device.{IsAttach, IsRefused};
+ghost use Rattle.vd_bus.specs.Device.{IsAttach, IsRefused, IsReset};
 ghost use Rattle.vd_bus.specs.Orders.{IsData};
 ghost use Rattle.vd_switch.specs.Kits.{IsKit};
 ghost use Rattle.vd_switch.specs.Stills.{is_still, Shadows, IsNew};
@@ -177,6 +177,19 @@ impl<L: Layout> Still<L> {
                 }),
             }),
         }
+    }
+
+    /// Resets the device, which has the default settings then. The lane keeps its end and its own settings.
+    pub fn renew<V: Device<L>>(self, device: &mut V) -> Still<L>
+        requires free { V.party.attached device.old ≡ None }
+        requires room { 1 ≤ V.party.event_room device.old }
+        ensures end { result.end ≡ self.end }
+        ensures control { result.control ≡ self.control }
+        ensures settings { result.settings ≡ self.settings }
+        ensures device { IsReset V.party device.old device.new }
+    {
+        device.reset();
+        self
     }
 
     /// Hands out the end of the guest's ring: the lane is at its end.

@@ -12,7 +12,7 @@ const WHOLE: &str = concat!(
     "iova_last = 9223372036854775807\n",
     "regions = [{ addr = 9223372036854775807, size = 1 }, { addr = 0, size = 8192 }]\n",
     "queues = [[\"3*r4096+10 w4096+64\", \"w9223372036854775807+1\"], [], [\"r0+1\"]]\n",
-    "switches = [{ after = 5, to = \"pass\" }, { after = 4294967295, to = \"shadow\" }]\n",
+    "switches = [{ after = 5, to = \"pass\" }, { after = 5, to = \"renew\" }, { after = 4294967295, to = \"shadow\" }]\n",
 );
 
 const SHUFFLED: &str = concat!(
@@ -35,6 +35,9 @@ const SHUFFLED: &str = concat!(
     "[[switches]]\n",
     "to = 'pass'\n",
     "after = 0x5\n",
+    "[[switches]]\n",
+    "to = 'renew'\n",
+    "after = 5\n",
     "[[switches]]\n",
     "after = 4_294_967_295\n",
     "to = \"shadow\"\n",

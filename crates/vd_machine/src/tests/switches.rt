@@ -44,7 +44,23 @@ fn names_the_rule_of_a_switch(rt: HostRuntime) -> Result<(), Fail> {
             Some(MachineFault::M14),
         ),
         (
-            "switches = [{ after = 5, to = 'renew' }]",
+            "switches = [{ after = 5, to = 'Renew' }]",
+            Some(MachineFault::M14),
+        ),
+        (
+            "switches = [{ after = 5, to = 'renewal' }]",
+            Some(MachineFault::M14),
+        ),
+        (
+            "switches = [{ after = 5, to = 'renew' }, { after = 4, to = 'renew' }]",
+            Some(MachineFault::M14),
+        ),
+        (
+            "switches = [{ after = -1, to = 'renew' }]",
+            Some(MachineFault::M14),
+        ),
+        (
+            "switches = [{ after = 4294967296, to = 'renew' }]",
             Some(MachineFault::M14),
         ),
         (
@@ -73,6 +89,11 @@ fn names_the_rule_of_a_switch(rt: HostRuntime) -> Result<(), Fail> {
         ),
         ("switches = []", None),
         ("switches = [{ after = 5, to = 'shadow' }]", None),
+        ("switches = [{ after = 5, to = 'renew' }]", None),
+        (
+            "start = 'shadow'\nswitches = [{ after = 5, to = 'renew' }, { after = 5, to = 'renew' }]",
+            None,
+        ),
         ("switches = [{ to = 'pass', after = 0 }]", None),
         (
             "switches = [{ after = 5, to = 'pass' }, { after = 5, to = 'pass' }]",
@@ -92,13 +113,20 @@ fn names_the_rule_of_a_switch(rt: HostRuntime) -> Result<(), Fail> {
 fn reads_the_switches_in_their_order(rt: HostRuntime) -> Result<(), Fail> {
     let text = with(
         rt.alloc(),
-        "start = 'shadow'\nswitches = [{ after = 0x10, to = 'shadow' }, { to = \"pass\", after = 4294967295 }]",
+        concat!(
+            "start = 'shadow'\nswitches = [{ after = 0x10, to = 'shadow' }, { after = 16, to = 'renew' }, ",
+            "{ to = \"pass\", after = 4294967295 }]",
+        ),
     )?;
     let machine = Machine::read(rt.alloc(), text.as_bytes())?;
     let switches = [
         Switch {
             after: 16,
             to: To::Shadow,
+        },
+        Switch {
+            after: 16,
+            to: To::Renew,
         },
         Switch {
             after: 4294967295,

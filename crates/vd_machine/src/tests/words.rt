@@ -80,6 +80,8 @@ fn takes_4194304_words_and_no_more(rt: HostRuntime) -> Result<(), Fail> {
         (most, 16, "shadow", Some(MachineFault::M17)),
         (most, 13, "shadow", Some(MachineFault::M17)),
         (most, 12, "shadow", None),
+        (most, 13, "renew", Some(MachineFault::M17)),
+        (most, 12, "renew", None),
         (most, 16, "pass", None),
         (packed, 14, "shadow", Some(MachineFault::M17)),
         (packed, 13, "shadow", None),

@@ -9,8 +9,7 @@ use Rattle.vd_play.specs.Progress.{AllStopped, all_made, most_steps}
 use Rattle.vd_play.specs.Rounds.{AllDone}
 use Rattle.vd_play.specs.declared.floor.Lane.{Lane}
 use Rattle.vd_play.specs.Setting.{setting_of, IsLawful}
-use Rattle.vd_play.specs.Setup.{AllServe, HasRings, HasSizes, IsUp}
-use Rattle.vd_play.proofs.Modes.{mode_first}
+use Rattle.vd_play.specs.Setup.{AllServe, HasSizes, IsUp}
 use Rattle.vd_play.specs.Tree.{IsLaid}
 use Rattle.vd_play.proofs.Setups.{still_serve}
 use Rattle.vd_play.proofs.Benches.{keeps_none, keeps_through, lanes_kept, fault_later, same_many}
@@ -18,6 +17,7 @@ use Rattle.vd_play.proofs.Chained.{few_switches}
 use Rattle.vd_play.proofs.Cut.{if_err_by, if_err_any}
 use Rattle.vd_play.proofs.Each.{each_queue}
 use Rattle.vd_play.proofs.Lasting.{all_closed, all_low, last_epoch}
+use Rattle.vd_play.proofs.Renewals.{all_can_reset, all_renewed, made_renewed}
 use Rattle.vd_play.proofs.Sums.{sum_none}
 use Rattle.vd_play.proofs.playing.play_machine.Goals as goal
 
@@ -36,15 +36,30 @@ loop-epoch-init g c = record {
     sum_none (λ (l : Lane _ _ _). l.relayed) c.args.floor.lanes.items c.requires.prepared.none,
   );
   before = record {
-    first = λ e. (
-      c.bring_up-bus.ensures.brought,
-      subst (λ z. HasRings (view c.args.m.now) z 0 c.bring_up-bus.result)
-          (sym (mode_first c.args.m.now.switches c.args.m.now.start)) c.bring_up-bus.ensures.rings,
-    );
+    first = λ e. c.new_bus-bus.ensures;
     later = λ j is. absurd (omega (arith, is));
   };
   each = c.requires.prepared.each;
 }
+
+pub renew-requires-clause-devices : goal.renew-requires-clause-devices
+renew-requires-clause-devices g c = λ is.
+    all_can_reset (setting_of g.L.Driver.DriverEnd.driver g.L.Device.DeviceEnd.device g.L.Layout.layout g.G.Guest.party g.V.Device.party)
+    (view c.args.m.now) c.loop-epoch.epoch (length c.args.m.now.queues) c.loop-epoch.floor.lanes.items c.loop-epoch.bench
+    c.loop-epoch.bench c.loop-epoch.invariant.many c.loop-epoch.invariant.each c.loop-epoch.invariant.parties
+    (omega (arith, c.loop-epoch-test.true, c.len-epoch-end.ensures)) is
+
+pub attach_all-requires-clause-parties : goal.attach_all-requires-clause-parties
+attach_all-requires-clause-parties g c =
+    let n : ℕ = length c.args.m.now.queues in
+    lanes_kept g.V.Device.party n c.loop-epoch.bench c.renew.new.bench n c.renew.ensures.keeps c.loop-epoch.invariant.parties
+
+pub attach_all-requires-clause-lanes : goal.attach_all-requires-clause-lanes
+attach_all-requires-clause-lanes g c =
+    all_renewed (setting_of g.L.Driver.DriverEnd.driver g.L.Device.DeviceEnd.device g.L.Layout.layout g.G.Guest.party g.V.Device.party)
+    (view c.args.m.now) c.loop-epoch.epoch (length c.args.m.now.queues) c.loop-epoch.floor.lanes.items c.loop-epoch.bench
+    c.renew.new.bench c.loop-epoch.invariant.many c.loop-epoch.invariant.each c.renew.ensures.guests c.renew.ensures.keeps
+    c.renew.ensures.renewed
 
 pub set_up-requires-clause-ends : goal.set_up-requires-clause-ends
 set_up-requires-clause-ends g c =
@@ -56,17 +71,22 @@ set_up-requires-clause-ends g c =
 
 pub returns-in_err-attach_all-clause-keeps : goal.returns-in_err-attach_all-clause-keeps
 returns-in_err-attach_all-clause-keeps g c =
-    keeps_through g.V.Device.party (length c.args.m.now.queues) c.args.bench.now c.loop-epoch.bench c.attach_all.new.bench
-    c.loop-epoch.invariant.keeps c.attach_all.ensures.keeps
+    let m = g.V.Device.party in
+    let n : ℕ = length c.args.m.now.queues in
+    let renewed = keeps_through m n c.args.bench.now c.loop-epoch.bench c.renew.new.bench c.loop-epoch.invariant.keeps
+    c.renew.ensures.keeps in
+    keeps_through m n c.args.bench.now c.renew.new.bench c.attach_all.new.bench renewed c.attach_all.ensures.keeps
 
 pub returns-in_err-attach_all-clause-fault : goal.returns-in_err-attach_all-clause-fault
 returns-in_err-attach_all-clause-fault g c =
     let m = g.V.Device.party in
     let n : ℕ = length c.args.m.now.queues in
     let new = c.attach_all.new.bench in
-    let many = same_many m n c.args.bench.now c.loop-epoch.bench c.loop-epoch.invariant.keeps in
-    let fault = fault_later m n (faulty c.in_err-attach_all.field-0.0) c.args.bench.now c.loop-epoch.bench new many
-    c.loop-epoch.invariant.faults c.in_err-attach_all.ensures.fault in
+    let renewed = keeps_through m n c.args.bench.now c.loop-epoch.bench c.renew.new.bench c.loop-epoch.invariant.keeps
+    c.renew.ensures.keeps in
+    let many = same_many m n c.args.bench.now c.renew.new.bench renewed in
+    let fault = fault_later m n (faulty c.in_err-attach_all.field-0.0) c.args.bench.now c.renew.new.bench new many
+    (c.renew.ensures.faults ∙ c.loop-epoch.invariant.faults) c.in_err-attach_all.ensures.fault in
     if_err_by c.from_residual.result (λ (z : PlayFault). z ≡ c.in_err-attach_all.field-0.0)
     (λ (z : PlayFault). IsFaultOf m n (faulty z) c.args.bench.now new) c.from_residual.ensures.1
     (λ (z : PlayFault) is. subst (λ (x : PlayFault). IsFaultOf m n (faulty x) c.args.bench.now new) (sym is) fault)
@@ -83,8 +103,9 @@ run_epoch-made-requires-clause-parties g c =
     let n : ℕ = length c.args.m.now.queues in
     let many : length c.attach_all.new.floor.lanes.items ≡ n = c.attach_all.ensures.many ∙ c.loop-epoch.invariant.many in
     subst (λ j. HasLanes j c.attach_all.new.bench) (sym many)
-    (lanes_kept g.V.Device.party n c.loop-epoch.bench c.attach_all.new.bench n c.attach_all.ensures.keeps
-    c.loop-epoch.invariant.parties)
+    (lanes_kept g.V.Device.party n c.loop-epoch.bench c.attach_all.new.bench n
+    (keeps_through g.V.Device.party n c.loop-epoch.bench c.renew.new.bench c.attach_all.new.bench c.renew.ensures.keeps
+    c.attach_all.ensures.keeps) c.loop-epoch.invariant.parties)
 
 pub run_epoch-made-requires-clause-few : goal.run_epoch-made-requires-clause-few
 run_epoch-made-requires-clause-few g c =
@@ -107,7 +128,13 @@ loop-epoch-preserved g c =
     let many : length c.attach_all.new.floor.lanes.items ≡ n = c.attach_all.ensures.many ∙ c.loop-epoch.invariant.many in
     let later : KeepsBench m n c.attach_all.new.bench c.run_epoch-made.new.bench =
     subst (λ j. KeepsBench m j c.attach_all.new.bench c.run_epoch-made.new.bench) many c.run_epoch-made.ensures.keeps in
-    let both = keeps_through m n c.loop-epoch.bench c.attach_all.new.bench c.run_epoch-made.new.bench c.attach_all.ensures.keeps later in
+    let attached = keeps_through m n c.loop-epoch.bench c.renew.new.bench c.attach_all.new.bench c.renew.ensures.keeps
+    c.attach_all.ensures.keeps in
+    let both = keeps_through m n c.loop-epoch.bench c.attach_all.new.bench c.run_epoch-made.new.bench attached later in
+    let made = made_renewed
+    (setting_of g.L.Driver.DriverEnd.driver g.L.Device.DeviceEnd.device g.L.Layout.layout g.G.Guest.party g.V.Device.party)
+    (view c.args.m.now) c.loop-epoch.epoch n c.loop-epoch.floor.lanes.items c.loop-epoch.bench c.renew.new.bench
+    c.loop-epoch.invariant.many c.loop-epoch.invariant.each c.renew.ensures.guests c.renew.ensures.counted in
     let laid = ap (λ t. t.mappings) c.attach_all.ensures.tree ∙ c.loop-epoch.invariant.tree.mapped in
     let ran = c.run_epoch-made.ensures.goes (view c.args.m.now) laid c.loop-epoch.epoch c.in_ok-attach_all.ensures.lanes in
     record {
@@ -117,8 +144,9 @@ loop-epoch-preserved g c =
       parties = lanes_kept m n c.loop-epoch.bench c.run_epoch-made.new.bench n both c.loop-epoch.invariant.parties;
       few = omega (arith, c.loop-epoch.invariant.few, c.run_epoch-made.ensures.few);
       keeps = keeps_through m n c.args.bench.now c.loop-epoch.bench c.run_epoch-made.new.bench c.loop-epoch.invariant.keeps both;
-      faults = c.run_epoch-made.ensures.faults ∙ c.in_ok-attach_all.ensures.faults ∙ c.loop-epoch.invariant.faults;
-      counted = omega (arith, ran.1, c.in_ok-attach_all.ensures.counted, c.loop-epoch.invariant.counted);
+      faults = c.run_epoch-made.ensures.faults ∙ c.in_ok-attach_all.ensures.faults ∙ c.renew.ensures.faults
+          ∙ c.loop-epoch.invariant.faults;
+      counted = omega (arith, ran.1, c.in_ok-attach_all.ensures.counted, made, c.loop-epoch.invariant.counted);
       before = record {
         first = λ e. absurd (omega (arith, e));
         later = λ j is. subst (λ i. IsUp (view c.args.m.now) (mode_at (view c.args.m.now) i) c.attach_all.new.bus

@@ -10,14 +10,25 @@ use Rattle.vd_machine.specs.File.{view, Plan}
 use Rattle.vd_machine.specs.Queues.{script}
 use Rattle.vd_play.specs.Journal.{queue_script, queue_chains, guest_frame}
 use Rattle.vd_play.specs.Setting.{setting_of}
+use Rattle.vd_play.specs.Renewing.{renewals}
 use Rattle.vd_play.proofs.Bounds.{chains_count}
+use Rattle.vd_play.proofs.Chained.{few_switches}
 use Rattle.vd_play.proofs.Making.{Keeps, queue_is, made}
+use Rattle.vd_play.proofs.Rooms.{renewals_few}
 use Rattle.vd_play.proofs.preparing.make_lane.Goals as goal
 
 pub boot-requires-clause-unused : goal.boot-requires-clause-unused
 boot-requires-clause-unused g c =
     let none = g.met.G.Guest.lawful.unloaded c.args.guest.now c.requires.guest.script in
     (c.load.ensures.offered ∙ none.0, c.load.ensures.returned ∙ none.1)
+
+pub event_count-events-requires-clause-renewals : goal.event_count-events-requires-clause-renewals
+event_count-events-requires-clause-renewals g c = omega (
+  arith,
+  renewals_few c.as_slice-3.result.now,
+  ap length c.as_slice-3.ensures,
+  few_switches c.args.m.now.switches c.args.m.now.switched,
+)
 
 pub returns-clause-guest : goal.returns-clause-guest
 returns-clause-guest g c =
@@ -57,14 +68,15 @@ returns-clause-ok g c =
     record { packed = refl; size = refl; features = refl; control = refl } in
     let words = c.in_ok-words.ensures.1 ∙ ap (λ n. replicate n 0) (c.words-words.ensures (guest_frame l plan q) with) in
     let many : length (queue_chains plan q) ≡ c.chain_count.result = chains_count (queue_script plan q).runs
-    ∙ sym (c.chain_count.ensures ∙ ap run_count (c.as_slice-3.ensures ∙ ap (λ (z : Script). z.runs) (sym here))) in
+    ∙ sym (c.chain_count.ensures ∙ ap run_count (c.as_slice-4.ensures ∙ ap (λ (z : Script). z.runs) (sym here))) in
     record {
       held = made
           (setting_of g.L.Driver.DriverEnd.driver g.L.Device.DeviceEnd.device g.L.Layout.layout g.G.Guest.party g.V.Device.party)
           (record { layout = g.met.L.Layout.lawful; guest = g.met.G.Guest.lawful; party = g.met.V.Device.lawful }) plan q _
           c.in_ok-driver.driver c.in_ok-driver.end _ _ _ _ _ queue can c.in_ok-words.ensures.0 words c.in_ok-driver.ensures
           c.requires.guest (c.in_ok-load.ensures.ok.1 ∙ ap Some (sym here)) c.load.ensures.counts c.boot.ensures c.requires.device
-          c.reserve.ensures.same c.in_ok-reserve.ensures.window (omega (arith, c.in_ok-reserve.ensures.room.0, c.len.ensures))
+          c.reserve.ensures.same c.in_ok-reserve.ensures.window
+          (omega (arith, c.in_ok-reserve.ensures.room.0, c.event_count-events.ensures, ap length c.as_slice-3.ensures, ap renewals c.as_slice-3.ensures))
           (omega (arith, c.in_ok-reserve.ensures.room.1, many));
       kits = c.in_ok-kits.ensures;
     }

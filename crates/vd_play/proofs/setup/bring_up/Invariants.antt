@@ -8,5 +8,5 @@ abbrev pub invariant-loop-q : goal.invariant-loop-q
 invariant-loop-q l = record {
   brought : IsBrought (view l.m) l.bus;
   many : length l.bus.vrings ≡ length l.m.queues;
-  each : (k : ℕ) → k < l.q → IsRing (view l.m) (ring_in l.m.start 0 k) k (vring_at (view l.m) l.bus k);
+  each : (k : ℕ) → k < l.q → IsRing (view l.m) (ring_in l.mode l.epoch k) k (vring_at (view l.m) l.bus k);
 }
