@@ -19,6 +19,7 @@ use Rattle.vd_bus.specs.declared.journal.Journal.{Journal}
 use Rattle.vd_bus.specs.Acts.{IsOneActMore}
 use Rattle.vd_bus.specs.Device.{IsServing, HasServed, gave}
 use Rattle.vd_bus.specs.Entries.{Reserved}
+use Rattle.vd_bus.specs.Orders.{IsData}
 use Rattle.vd_bus.specs.Pace.{last_count, KeepsPace, attaches}
 use Rattle.circular_buffer.specs.Buffer.{Buffer}
 use Rattle.vd_models.specs.declared.counts.Counts.{Counts}
@@ -129,6 +130,7 @@ pub record IsAttached {E : Type 0} (e : DeviceModel E) (s : Session E) (journal 
   pub paid : IsPaid counts (owes_at e (state s journal.begun) w)
       (length journal.begun.items + gave s.by w + attaches journal.events.items)
   pub event : 0 < journal.events.room
+  pub data : IsData s.by.queue
 
 abbrev pub Holds : {E : Type 0} → DeviceModel E → Phase E → Journal → Counts → DeviceView → Type 0
 Holds e (phase.Serving s) journal counts w = IsAttached e s journal counts w

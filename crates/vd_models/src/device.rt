@@ -4,7 +4,7 @@ ghost use Rattle.vd_bus.specs.Scripts.{most_window};
 ghost use Rattle.vd_models.specs.Unused.{IsUnused, IsWindow, HoldsAtMost};
 ghost use Rattle.vd_models.specs.Holding.{HaveLens, capacity_of, journal_room};
 ghost use Rattle.vd_models.specs.Serving.{Holds, PacesFree, attached_of, is_done_of};
-ghost use Rattle.vd_models.specs.laws.Laws.{held_law, serves_law, done_law, armed_law, pace_law};
+ghost use Rattle.vd_models.specs.laws.Laws.{held_law, serves_law, data_law, done_law, armed_law, pace_law};
 
 use crate::counts::{Counts, move_of};
 use crate::serving::{Phase, Session, Stage, serve};
@@ -99,6 +99,7 @@ impl<L: Layout> Device<L> for ModelDevice<L> {
       event_room = λ m. journal_room m.phase m.journal.events.room;
       chain_room = λ m. m.journal.begun.room;
       settings = λ m. m.settings;
+      attached_with = λ m. m.settings;
       faults = λ m. 0;
       window = λ m. m.window;
       carried = λ m. m.most;
@@ -112,6 +113,7 @@ impl<L: Layout> Device<L> for ModelDevice<L> {
     ghost lawful = { record {
       held = λ x w h. held_law L.Device.device x.phase x.journal x.counts w h;
       serves = λ x w a h is d. serves_law L.Device.device x.phase x.journal x.counts w a h is;
+      commanded = λ x w a h is c. absurd (data_law L.Device.device x.phase x.journal x.counts w a h is c);
       done = λ x w a h is d. done_law L.Device.device L.Device.device_lawful x.phase x.journal x.counts w a h is d;
       armed = λ x w a h is. armed_law L.Device.device x.phase x.journal x.counts w a h is;
       pace = λ x w a h is. pace_law L.Device.device x.phase x.journal x.counts w a h is;

@@ -13,6 +13,7 @@ use Rattle.vd_layout.specs.Device.{DeviceModel, IsLawfulDevice}
 use Rattle.vd_bus.specs.declared.device.Attached.{Attached}
 use Rattle.vd_bus.specs.declared.journal.Journal.{Journal}
 use Rattle.vd_bus.specs.Device.{IsServing, HasServedAll, ArmsRightly, gave}
+use Rattle.vd_bus.specs.Orders.{IsData}
 use Rattle.vd_bus.specs.Pace.{KeepsPace, attaches}
 use Rattle.vd_models.specs.declared.counts.Counts.{Counts}
 use Rattle.vd_models.specs.declared.serving.Phase.{Phase}
@@ -94,6 +95,12 @@ module _ {E : Type 0} (e : DeviceModel E) where
   serves_law (phase.Free b) j c w a h is = absurd h
   serves_law (phase.Serving s) j c w a h is = subst (λ (b : Attached). IsServing j.begun.items b w.done)
       (same_by s.by a is) h.serves.serving
+
+  pub data_law : (p : Phase E) (j : Journal) (c : Counts) (w : DeviceView) (a : Attached) → Holds e p j c w → attached_of p ≡ Some a
+      → IsData a.queue
+  data_law phase.Unreserved j c w a h is = absurd h
+  data_law (phase.Free b) j c w a h is = absurd h
+  data_law (phase.Serving s) j c w a h is = subst (λ (b : Attached). IsData b.queue) (same_by s.by a is) h.data
 
   pub done_law : (law : IsLawfulDevice e) (p : Phase E) (j : Journal) (c : Counts) (w : DeviceView) (a : Attached) → Holds e p j c w
       → attached_of p ≡ Some a → is_done_of p ≡ true → HasServedAll (length j.begun.items) a w

@@ -1,7 +1,10 @@
 use Rattle.std.proofs.Common.{arith, refl, sym, ap, ◌∙◌, Some}
+use Rattle.vd_bus.specs.declared.device.Attached.{Attached}
+use Rattle.vd_bus.specs.Orders.{IsData}
 use Rattle.vd_bus.specs.Pace.{raised, attaches}
 use Rattle.vd_models.specs.declared.serving.Phase.TheVariants as phase
 use Rattle.vd_models.specs.Serving.{attached_of, state}
+use Rattle.vd_models.specs.laws.Laws.{data_law}
 use Rattle.vd_models.proofs.Parties.{opened, not_done, finished_at, looked_at, counted_at, pays, room_most, room_all}
 use Rattle.vd_models.proofs.Stages.{window_some}
 use Rattle.vd_models.proofs.device.ModelDeviceDevice.step.Goals as goal
@@ -26,11 +29,18 @@ returns g c = λ w holds own.
       got = t.got;
       was_next = t.was_next;
       moved = t.moved;
-      holds = record { serves = t.serves; paid = paid; event = o.event };
+      holds = record {
+        serves = t.serves;
+        paid = paid;
+        event = o.event;
+        data = subst (λ (b : Attached). IsData b.queue) (sym c.serve-turn.ensures.by) o.data;
+      };
       served = record {
         events = refl;
         grows = t.begun;
         settings = λ b i d. refl;
+        set = λ b i d. absurd (data_law e m.phase m.journal m.counts w b holds i d);
+        attached_with = refl;
         faults = refl;
         window = refl;
         carried = refl;
