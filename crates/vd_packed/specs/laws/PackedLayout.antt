@@ -1,5 +1,5 @@
 -- What the layout of a packed ring is, and its laws.
-use Rattle.std.proofs.Common.{◌≡◌, ℕ, ◌-◌, ◌/◌, ◌%◌, ◌≤◌, ◌==◌, ◌&&◌, not, nat_le, Bool, true, false, List, [], ◌∷◌, ◌++◌, length, take, refl, sym, ap, ◌∙◌, subst, arith}
+use Rattle.std.proofs.Common.{◌≡◌, ℕ, ◌-◌, ◌*◌, ◌/◌, ◌%◌, ◌<◌, ◌≤◌, ◌==◌, ◌&&◌, not, nat_le, Bool, true, false, if◌then◌else◌, List, [], ◌∷◌, ◌++◌, length, take, refl, sym, ap, ◌∙◌, subst, arith}
 use Rattle.std.specs.List.{sum_by}
 use Rattle.std.proofs.lemmas.Bool.{leb-true}
 use Rattle.std.proofs.lemmas.List.{length_push, get_or_push, take-append-le, take_all}
@@ -129,6 +129,14 @@ spells_last ws v op a k is =
 none_taken : (n : ℕ) → base_at n 0 ≡ 2147516416
 none_taken n = let d : 0 / n ≡ 0 = zero-div n in let m : 0 % n ≡ 0 = zero-mod n in omega arith
 
+-- a ring with all areas that it may have is no wider than so
+narrow : (g : Frame) → IsLawful g → width g < 4294967296
+narrow g h = omega (arith, h.most, up_to g.features.indirect (32 * g.size), up_to g.control (2 * g.size), up_to g.control g.size)
+  where
+    up_to : (b : Bool) (n : ℕ) → (if b then n else 0) ≤ n
+    up_to true n = omega arith
+    up_to false n = omega arith
+
 pub packed_laws : IsLawfulLayout packed_driver packed_device packed_layout
 packed_laws = record {
   driver_end = driver_laws;
@@ -148,7 +156,7 @@ packed_laws = record {
   driver_framed = λ x v st. st.made.lawful;
   device_framed = λ y w st. st.made.lawful;
   some_word = λ g l. omega arith;
-  narrow = λ g l. omega (arith, l.most);
+  narrow = narrow;
   controls = controls_stand;
   signals = λ ws v w r. signals ws v w r;
   driver_asleep = λ ws v w op a r n is. driver_asleep ws v w op a r n is;

@@ -1,5 +1,5 @@
 -- What the layout of a split ring is, and its laws.
-use Rattle.std.proofs.Common.{◌≡◌, ◌%◌, ◌⊎◌, inl, inr, lit≤, ℕ, ◌-◌, ◌≤◌, ◌==◌, ◌||◌, ◌&&◌, nat_le, Bool, true, false, List, [], length, refl, sym, ap, ◌∙◌, subst, arith, not}
+use Rattle.std.proofs.Common.{◌≡◌, ◌%◌, ◌⊎◌, inl, inr, lit≤, ℕ, ◌-◌, ◌*◌, ◌<◌, ◌≤◌, ◌==◌, ◌||◌, ◌&&◌, nat_le, Bool, true, false, if◌then◌else◌, List, [], length, refl, sym, ap, ◌∙◌, subst, arith, not}
 use Rattle.std.proofs.lemmas.Bool.{eqb-true, le-leb}
 use Rattle.std.proofs.lemmas.List.{length_push, get_or_push}
 use Rattle.vd_model.specs.declared.chain.Piece.{Piece}
@@ -143,6 +143,14 @@ spells_last ws v op a k is =
 base_low : (n : ℕ) → nat_le (n % 65536) 65535 ≡ true
 base_low n = le-leb (n % 65536) 65535 (omega arith)
 
+-- a ring with all areas that it may have is no wider than so
+narrow : (g : Frame) → IsLawful g → width g < 4294967296
+narrow g h = omega (arith, h.small, up_to g.features.indirect (32 * g.size), up_to g.control (2 * g.size), up_to g.control g.size)
+  where
+    up_to : (b : Bool) (n : ℕ) → (if b then n else 0) ≤ n
+    up_to true n = omega arith
+    up_to false n = omega arith
+
 pub split_laws : IsLawfulLayout split_driver split_device split_layout
 split_laws = record {
   driver_end = driver_laws;
@@ -157,7 +165,7 @@ split_laws = record {
   driver_framed = λ x v st. st.made.lawful;
   device_framed = λ y w st. st.made.lawful;
   some_word = λ g h. omega arith;
-  narrow = λ g h. omega (arith, h.small);
+  narrow = narrow;
   driver_low = λ v op a l n. (driver_alone v op a l n).inside;
   device_low = λ w op a l n. device_inside w op a l n;
   places = λ ws v w r. r.places;
