@@ -5,6 +5,10 @@ pub mod Going
 pub mod Turns
 pub mod Sleeps
 pub mod Passing
+pub mod Executing
+pub mod CommandTurns
+pub mod Controlling
+pub mod CommandAccesses
 pub mod Parties
 pub mod Scripts
 pub mod GuestGoing

@@ -34,7 +34,8 @@ use Rattle.vd_models.specs.declared.window.Held.{Held}
 use Rattle.vd_models.specs.Counting.{counted, woke, move_of}
 use Rattle.vd_models.specs.Holding.{HaveLens, IsHeld, capacity_of, journal_room}
 use Rattle.vd_models.specs.Stages.{is_done, owes}
-use Rattle.vd_models.specs.Serving.{State, state, Serves, IsTurn, Holds, IsAttached, IsPaid, owes_at, is_done_of, all_of}
+use Rattle.vd_models.specs.Phases.{Holds, IsAttached, IsCommanding, IsPaid, is_done_of}
+use Rattle.vd_models.specs.Serving.{State, state, Serves, IsTurn, owes_at, all_of}
 use Rattle.vd_models.proofs.Stages.{idle_small, window_most}
 
 -- what it holds, by the name that the code has for its session
@@ -89,9 +90,9 @@ raised_small k n h = omega arith
 pub pays : {P E : Type 0} (port : PortModel P) (e : DeviceModel E) (p q : P) (w : DeviceView) (x y : State E) (t : Turn)
     (by by' : Attached) (n : ℕ) (c d : Counts) → by' ≡ by → (h : IsTurn port e p q w x y t)
     → d.accesses ≡ raised (counted t) c.accesses → d.heard ≡ raised (woke t) c.heard → by.from ≤ length (gives w.done)
-    → by'.from ≤ length (gives (e.side.after w h.op h.access h.got).done)
-    → IsPaid c (owes_at e x w) (length x.begun.items + gave by w + n) → IsPaid d (owes_at e y (e.side.after w h.op h.access h.got))
-    (length y.begun.items + gave by' (e.side.after w h.op h.access h.got) + n)
+    → by'.from ≤ length (gives (e.side.after w h.0 h.1 h.2).done)
+    → IsPaid c (owes_at e x w) (length x.begun.items + gave by w + n) → IsPaid d (owes_at e y (e.side.after w h.0 h.1 h.2))
+    (length y.begun.items + gave by' (e.side.after w h.0 h.1 h.2) + n)
 pays port e p q w x y t by by' n c d same h more heard low low' paid few fewer =
     let a : d.accesses ≡ c.accesses + counted t = more ∙ raised_small (counted t) c.accesses (omega (arith, more)) in
     let b : d.heard ≡ c.heard + woke t = heard ∙ raised_small (woke t) c.heard (omega (arith, heard)) in
@@ -103,7 +104,7 @@ pays port e p q w x y t by by' n c d same h more heard low low' paid few fewer =
       low',
       ap (λ (z : Attached). z.at) same,
       ap (λ (z : Attached). z.from) same,
-      h.paid,
+      h.3.paid,
       paid (omega (arith, a))
           (omega (arith, b)),
     )
@@ -214,4 +215,11 @@ running_within e (phase.Serving s) j c w h =
     let most : length s.held.items ≤ s.held.capacity = window_most s.stage (length s.held.items) s.held.capacity h.serves.window in
     let many : length s.held.items ≡ length (running w.done) = sym (length-map s.held.items (λ (x : Held). x.number))
     ∙ ap length h.serves.held.hand in
+    omega (arith, most, many)
+running_within e (phase.Commanding k) j c w h =
+    let s = k.session in
+    let v = h.commands.serves in
+    let most : length s.held.items ≤ s.held.capacity = window_most s.stage (length s.held.items) s.held.capacity v.window in
+    let many : length s.held.items ≡ length (running w.done) = sym (length-map s.held.items (λ (x : Held). x.number))
+    ∙ ap length v.held.hand in
     omega (arith, most, many)

@@ -1,3 +1,4 @@
+pub mod CommandLaws
 pub mod GuestLaws
 pub mod Laws
 pub mod Pairs

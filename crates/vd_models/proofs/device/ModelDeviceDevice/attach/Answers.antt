@@ -67,7 +67,7 @@ returns g c =
             (attaches c.push.new.self.items) st c.requires.still idle c.len-at.ensures.value (c.taken.ensures w (stands w st)) more
             (m.paced c.requires.free);
         event = omega (arith, events, room_most m.phase m.journal.events.room, c.push.ensures.room);
-        data = λ is. c.requires.data (sym c.queue.ensures ∙ is);
+        for_data = λ is. c.requires.data (sym c.queue.ensures ∙ is);
       };
       live = λ d. cc;
       noted = record {

@@ -3,7 +3,7 @@ use Rattle.vd_bus.specs.Device.{gave}
 use Rattle.vd_models.specs.declared.serving.Phase.{Phase}
 use Rattle.vd_models.specs.declared.serving.Phase.TheVariants as phase
 use Rattle.vd_models.specs.Holding.{capacity_of}
-use Rattle.vd_models.specs.Serving.{attached_of}
+use Rattle.vd_models.specs.Phases.{attached_of}
 use Rattle.vd_models.specs.laws.Laws.{serves_law, done_law, pace_law}
 use Rattle.vd_models.proofs.Parties.{attaches_more}
 use Rattle.vd_models.proofs.device.ModelDeviceDevice.suspend.Goals as goal
