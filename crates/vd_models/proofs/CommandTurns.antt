@@ -49,7 +49,7 @@ use Rattle.vd_models.proofs.Turns.{to, went_on, more_is}
 pub seen_length : (bs : List Begun) → length (seen bs Free) ≡ length bs
 seen_length bs = ap length (append-nil (map plain bs)) ∙ length-map bs plain
 
-lens_plain : (bs : List Begun) → lens_of (map plain bs) ≡ lens_of bs
+pub lens_plain : (bs : List Begun) → lens_of (map plain bs) ≡ lens_of bs
 lens_plain [] = refl
 lens_plain (b ∷ bs) = ap (λ ns. b.len ∷ ns) (lens_plain bs)
 

@@ -10,6 +10,7 @@ pub mod CommandTurns
 pub mod Controlling
 pub mod CommandAccesses
 pub mod Parties
+pub mod Attaching
 pub mod Scripts
 pub mod GuestGoing
 pub mod Drives

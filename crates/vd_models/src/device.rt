@@ -3,13 +3,12 @@ ghost use Rattle.std.specs.Prelude.{◌≡◌, ◌≤◌, true, false, None, [],
 ghost use Rattle.vd_bus.specs.Scripts.{most_window};
 ghost use Rattle.vd_models.specs.Unused.{IsUnused, IsWindow, HoldsAtMost};
 ghost use Rattle.vd_models.specs.Holding.{HaveLens, capacity_of, journal_room};
-ghost use Rattle.vd_models.specs.Phases.{Holds, PacesFree, IsSet, attached_of, is_done_of, settings_of};
+ghost use Rattle.vd_models.specs.Phases.{Holds, PacesFree, attached_of, is_done_of, settings_of};
 ghost use Rattle.vd_models.specs.laws.Laws.{held_law, serves_law, commanded_law, done_law, armed_law, pace_law};
 
 use crate::commanding::{Commanding, command};
 use crate::counts::{Counts, move_of};
-use crate::hand::Hand;
-use crate::serving::{Phase, Session, Stage, serve};
+use crate::serving::{Phase, Session, Stage, phase_of, serve, session_of};
 use circular_buffer::HeapCircularBuffer;
 use std::alloc::{AllocError, Global};
 use std::mem::replace;
@@ -20,9 +19,6 @@ use vd_words::Port;
 
 /// How many chains a device may hold at once.
 const MOST_WINDOW: u32 = 64;
-
-/// The control queue's number.
-const CONTROL_QUEUE: u32 = 15;
 
 /// A device that takes while fewer chains than its window are held. Where the window is full, all are begun, or no further
 /// chain is there, it gives all that it holds: the one begun last first, under IN_ORDER the one begun first. Where none is there
@@ -42,7 +38,6 @@ pub struct ModelDevice<L: Layout> {
     ghost some: { 1 ≤ most },
     ghost sized: { capacity_of phase ≤ min window most },
     ghost lens: { HaveLens journal.begun.items },
-    ghost set: { IsSet phase journal.begun.items settings },
     ghost paced: { PacesFree phase counts journal.begun.items journal.events.items },
 }
 
@@ -113,19 +108,19 @@ impl<L: Layout> Device<L> for ModelDevice<L> {
       window = λ m. m.window;
       carried = λ m. m.most;
       attached = λ m. attached_of m.phase;
-      holds = λ m w. Holds L.Device.device m.phase m.journal m.counts w;
+      holds = λ m w. Holds L.Device.device m.phase m.journal m.counts m.settings w;
       is_done = λ m. is_done_of m.phase ≡ true;
       accesses = λ m. m.counts.accesses;
       heard = λ m. m.counts.heard;
     } };
 
     ghost lawful = { record {
-      held = λ x w h. held_law L.Device.device x.phase x.journal x.counts w h;
-      serves = λ x w a h is d. serves_law L.Device.device x.phase x.journal x.counts w a h is d;
-      commanded = λ x w a h is c. commanded_law L.Device.device x.phase x.journal x.counts x.settings w a h is c x.set;
-      done = λ x w a h is d. done_law L.Device.device L.Device.device_lawful x.phase x.journal x.counts w a h is d;
-      armed = λ x w a h is. armed_law L.Device.device x.phase x.journal x.counts w a h is;
-      pace = λ x w a h is. pace_law L.Device.device x.phase x.journal x.counts w a h is;
+      held = λ x w h. held_law L.Device.device x.phase x.journal x.counts x.settings w h;
+      serves = λ x w a h is d. serves_law L.Device.device x.phase x.journal x.counts x.settings w a h is d;
+      commanded = λ x w a h is c. commanded_law L.Device.device x.phase x.journal x.counts x.settings w a h is c;
+      done = λ x w a h is d. done_law L.Device.device L.Device.device_lawful x.phase x.journal x.counts x.settings w a h is d;
+      armed = λ x w a h is. armed_law L.Device.device x.phase x.journal x.counts x.settings w a h is;
+      pace = λ x w a h is. pace_law L.Device.device x.phase x.journal x.counts x.settings w a h is;
       pace_free = λ x is. x.paced is;
     } };
 
@@ -184,31 +179,28 @@ impl<L: Layout> Device<L> for ModelDevice<L> {
             stage: Stage::Taking,
             held,
         };
-        self.phase = if order.queue() == CONTROL_QUEUE {
-            Phase::Commanding(Commanding {
-                session,
-                hand: Hand::Free,
-                at_attach: self.settings,
-            })
-        } else {
-            Phase::Serving(session)
-        };
+        self.phase = phase_of(session, self.settings);
         Ok(())
     }
 
     fn step<P: Port>(&mut self, port: &mut P) -> Move {
-        let begun = &mut self.journal.begun;
-        let turn = match &mut self.phase {
-            Phase::Serving(session) => serve::<L, P>(session, begun, port),
+        match &mut self.phase {
+            Phase::Serving(session) => {
+                let turn = serve::<L, P>(session, &mut self.journal.begun, port);
+                let done = session.stage.is_done();
+                self.counts.note(turn);
+                move_of(turn, done)
+            }
             Phase::Commanding(commanding) => {
                 let Commanding { session, hand, .. } = commanding;
-                command::<L, P>(session, hand, begun, &mut self.settings, port)
+                let begun = &mut self.journal.begun;
+                let turn = command::<L, P>(session, hand, begun, &mut self.settings, port);
+                let done = session.stage.is_done();
+                self.counts.note(turn);
+                move_of(turn, done)
             }
             _ => unreachable!(),
-        };
-        let done = self.phase.is_done();
-        self.counts.note(turn);
-        move_of(turn, done)
+        }
     }
 
     fn done(&self) -> bool {
@@ -216,12 +208,8 @@ impl<L: Layout> Device<L> for ModelDevice<L> {
     }
 
     fn suspend(&mut self) -> L::Device {
-        let session = match replace(&mut self.phase, Phase::Unreserved) {
-            Phase::Serving(session) => session,
-            Phase::Commanding(commanding) => commanding.session,
-            _ => unreachable!(),
-        };
-        let Session { end, held, .. } = session;
+        let phase = replace(&mut self.phase, Phase::Unreserved);
+        let Session { end, held, .. } = session_of(phase);
         self.phase = Phase::Free(held);
         let at = self.journal.begun.len() as u32;
         let base = end.base();

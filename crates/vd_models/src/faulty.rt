@@ -61,20 +61,19 @@ impl<L: Layout> Device<L> for FaultyDevice<L> {
       window = λ m. m.inner.window;
       carried = λ m. m.refusal;
       attached = λ m. attached_of m.inner.phase;
-      holds = λ m w. Holds L.Device.device m.inner.phase m.inner.journal m.inner.counts w;
+      holds = λ m w. Holds L.Device.device m.inner.phase m.inner.journal m.inner.counts m.inner.settings w;
       is_done = λ m. is_done_of m.inner.phase ≡ true;
       accesses = λ m. m.inner.counts.accesses;
       heard = λ m. m.inner.counts.heard;
     } };
 
     ghost lawful = { record {
-      held = λ x w h. held_law L.Device.device x.inner.phase x.inner.journal x.inner.counts w h;
-      serves = λ x w a h is d. serves_law L.Device.device x.inner.phase x.inner.journal x.inner.counts w a h is d;
-      commanded = λ x w a h is c. commanded_law L.Device.device x.inner.phase x.inner.journal x.inner.counts x.inner.settings w a h is c
-          x.inner.set;
-      done = λ x w a h is d. done_law L.Device.device L.Device.device_lawful x.inner.phase x.inner.journal x.inner.counts w a h is d;
-      armed = λ x w a h is. armed_law L.Device.device x.inner.phase x.inner.journal x.inner.counts w a h is;
-      pace = λ x w a h is. pace_law L.Device.device x.inner.phase x.inner.journal x.inner.counts w a h is;
+      held = λ x w h. held_law L.Device.device x.inner.phase x.inner.journal x.inner.counts x.inner.settings w h;
+      serves = λ x w a h is d. serves_law L.Device.device x.inner.phase x.inner.journal x.inner.counts x.inner.settings w a h is d;
+      commanded = λ x w a h is c. commanded_law L.Device.device x.inner.phase x.inner.journal x.inner.counts x.inner.settings w a h is c;
+      done = λ x w a h is d. done_law L.Device.device L.Device.device_lawful x.inner.phase x.inner.journal x.inner.counts x.inner.settings w a h is d;
+      armed = λ x w a h is. armed_law L.Device.device x.inner.phase x.inner.journal x.inner.counts x.inner.settings w a h is;
+      pace = λ x w a h is. pace_law L.Device.device x.inner.phase x.inner.journal x.inner.counts x.inner.settings w a h is;
       pace_free = λ x is. x.inner.paced is;
     } };
 

@@ -1,15 +1,17 @@
 //! What a model device does with the end that it holds.
-ghost use Rattle.std.specs.Prelude.{◌≡◌};
+ghost use Rattle.std.specs.Prelude.{◌≡◌, Some, IsSome};
 ghost use Rattle.vd_layout.specs.Begun.{DeviceOp};
 ghost use Rattle.vd_models.specs.Stages.{taken_stage, given_stage, nothing_stage, woken_stage, waking_turn, is_done};
-ghost use Rattle.vd_models.specs.Phases.{is_done_of};
+ghost use Rattle.vd_models.specs.Phases.{attached_of, is_done_of, phase_at, session_of};
 ghost use Rattle.vd_models.specs.Serving.{CanBegin, Begins, CanServe, MakesTurn, state};
 
 use crate::commanding::Commanding;
 use crate::counts::Turn;
+use crate::hand::Hand;
 use crate::window::{Held, drop_next, next, note};
 use circular_buffer::HeapCircularBuffer;
 use vd_bus::{Attached, Entries};
+use vd_control::Settings;
 use vd_layout::{DeviceAct, DeviceEnd, Layout};
 use vd_model::Begun;
 use vd_words::Port;
@@ -63,6 +65,36 @@ impl<E> Phase<E> {
             Phase::Commanding(commanding) => commanding.session.stage.is_done(),
             _ => false,
         }
+    }
+}
+
+/// The control queue's number.
+const CONTROL_QUEUE: u32 = 15;
+
+/// What is held from an attach on.
+pub(crate) fn phase_of<E>(session: Session<E>, settings: Settings) -> Phase<E>
+    ensures { result ≡ phase_at session settings }
+{
+    if session.by.queue == CONTROL_QUEUE {
+        Phase::Commanding(Commanding {
+            session,
+            hand: Hand::Free,
+            at_attach: settings,
+        })
+    } else {
+        Phase::Serving(session)
+    }
+}
+
+/// The session of a device that is attached.
+pub(crate) fn session_of<E: DeviceEnd>(phase: Phase<E>) -> Session<E>
+    requires { IsSome (attached_of phase) }
+    ensures { session_of phase ≡ Some result }
+{
+    match phase {
+        Phase::Serving(session) => session,
+        Phase::Commanding(commanding) => commanding.session,
+        _ => unreachable!(),
     }
 }
 

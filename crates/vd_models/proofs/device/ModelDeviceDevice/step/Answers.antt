@@ -1,22 +1,26 @@
-use Rattle.std.proofs.Common.{arith, refl, sym, ap, ◌∙◌, Some}
+use Rattle.std.proofs.Common.{◌≡◌, arith, refl, sym, ap, ◌∙◌, subst, Some}
+use Rattle.vd_ring.proofs.ListSteps.{some_same}
 use Rattle.vd_bus.specs.declared.device.Attached.{Attached}
-use Rattle.vd_bus.specs.Orders.{IsData}
+use Rattle.vd_bus.specs.DeviceCommands.{set_since}
+use Rattle.vd_bus.specs.Orders.{IsData, IsControl}
 use Rattle.vd_bus.specs.Pace.{raised, attaches}
 use Rattle.vd_models.specs.declared.serving.Phase.TheVariants as phase
-use Rattle.vd_models.specs.Phases.{attached_of}
+use Rattle.vd_models.specs.declared.serving.Phase.{Phase}
+use Rattle.vd_models.specs.Holding.{capacity_of}
+use Rattle.vd_models.specs.Phases.{attached_of, is_done_of, settings_of}
 use Rattle.vd_models.specs.Serving.{state}
-use Rattle.vd_models.specs.laws.Laws.{data_law}
-use Rattle.vd_models.proofs.Parties.{opened, not_done, finished_at, looked_at, counted_at, pays, room_most, room_all}
+use Rattle.vd_models.proofs.Attaching.{opened_commands, command_pays, seen_lawful, set_through}
+use Rattle.vd_models.proofs.Parties.{opened, still_live, not_done, finished_at, looked_at, counted_at, pays, room_most, room_all}
 use Rattle.vd_models.proofs.Stages.{window_some}
 use Rattle.vd_models.proofs.device.ModelDeviceDevice.step.Goals as goal
 
-pub returns : goal.returns
-returns g c = λ w holds own.
+pub returns-in-Serving : goal.returns-in-Serving
+returns-in-Serving g c = λ w holds own.
     let e = g.L.Device.DeviceEnd.device in
     let m = c.args.self.now in
     let s = c.in-Serving.session in
     let s' = c.serve-turn.new.session in
-    let o = opened e m.phase s m.journal m.counts w holds c.in-Serving.is in
+    let o = opened e m.phase s m.journal m.counts m.settings w holds c.in-Serving.is in
     let t = c.serve-turn.ensures.turn w (record { serves = o.serves; live = not_done m.phase s c.in-Serving.is c.requires.live }) own in
     let room = room_all (phase.Serving s') m.journal.events.room (window_some s'.stage _ s'.held.capacity t.3.serves.window) in
     let same = ap Some c.serve-turn.ensures.by ∙ sym (ap attached_of c.in-Serving.is) in
@@ -40,8 +44,8 @@ returns g c = λ w holds own.
         events = refl;
         grows = t.3.begun;
         settings = λ b i d. refl;
-        set = λ b i d. absurd (data_law e m.phase m.journal m.counts w b holds i d);
-        attached_with = refl;
+        set = λ b i d. absurd (o.for_data (ap (λ (z : Attached). z.queue) (some_same _ _ (sym (ap attached_of c.in-Serving.is) ∙ i)) ∙ d));
+        attached_with = sym (ap (λ (z : Phase _). settings_of z m.settings) c.in-Serving.is);
         faults = refl;
         window = refl;
         carried = refl;
@@ -56,4 +60,82 @@ returns g c = λ w holds own.
       accesses = c.note.ensures.accesses ∙ ap (λ k. raised k m.counts.accesses)
           (counted_at c.move_of.result c.serve-turn.result c.is_done-done.result c.move_of.ensures);
       heard = c.note.ensures.heard ∙ ap (λ k. raised k m.counts.heard) t.3.woken;
+    }
+
+pub returns-in-Commanding : goal.returns-in-Commanding
+returns-in-Commanding g c = λ w holds own.
+    let e = g.L.Device.DeviceEnd.device in
+    let m = c.args.self.now in
+    let k = c.in-Commanding.commanding in
+    let s = k.session in
+    let s' = c.command-turn.new.session in
+    let hand' = c.command-turn.new.hand in
+    let o = opened_commands e m.phase k m.journal m.counts m.settings w holds c.in-Commanding.is in
+    let t = c.command-turn.ensures.turn w (record {
+      commands = o.commands;
+      live = still_live s.stage (λ d. c.requires.live (ap is_done_of c.in-Commanding.is ∙ d));
+    }) own in
+    let room = room_all (phase.Commanding (record { session = s'; hand = hand'; at_attach = k.at_attach })) m.journal.events.room
+    (window_some s'.stage _ s'.held.capacity t.commands.serves.window) in
+    let same = ap Some c.command-turn.ensures.by ∙ sym (ap attached_of c.in-Commanding.is) in
+    let paid = command_pays g.P.Port.port e c.args.port.now c.command-turn.new.port w s s' k.hand hand' m.journal.begun
+    c.command-turn.new.begun c.command-turn.result (attaches m.journal.events.items) m.counts c.note-in-Commanding.new.self
+    c.command-turn.ensures.by t c.note-in-Commanding.ensures.accesses c.note-in-Commanding.ensures.heard
+    o.commands.serves.serving.before t.commands.serves.serving.before o.paid in
+    record {
+      op = t.op;
+      access = t.access;
+      got = t.got;
+      was_next = t.was_next;
+      moved = t.moved;
+      holds = record {
+        commands = t.commands;
+        paid = paid;
+        event = o.event;
+        for_control = subst (λ (b : Attached). IsControl b.queue) (sym c.command-turn.ensures.by) o.for_control;
+        set = subst (λ (b : Attached). c.command-turn.new.settings ≡ set_since b.at c.command-turn.new.begun.items k.at_attach)
+            (sym c.command-turn.ensures.by) (set_through s.by.at m.journal.begun.items c.command-turn.new.begun.items k.at_attach m.settings
+            c.command-turn.new.settings o.commands.executes.after t.begun o.set c.command-turn.ensures.settings);
+      };
+      served = record {
+        events = refl;
+        grows = t.begun;
+        settings = λ b i d. absurd (d (sym (ap (λ (z : Attached). z.queue) (some_same _ _ (sym (ap attached_of c.in-Commanding.is) ∙ i)))
+            ∙ o.for_control));
+        set = λ b i d. c.command-turn.ensures.settings;
+        attached_with = sym (ap (λ (z : Phase _). settings_of z m.settings) c.in-Commanding.is);
+        faults = refl;
+        window = refl;
+        carried = refl;
+        attached = same;
+        room = (omega (arith, room, room_most m.phase m.journal.events.room), t.room);
+      };
+      grows = t.grows;
+      acts = t.acts;
+      finished = finished_at c.move_of-in-Commanding.result c.command-turn.result c.is_done-done-in-Commanding.result _
+          c.move_of-in-Commanding.ensures c.is_done-done-in-Commanding.ensures t.slept;
+      looked = looked_at c.move_of-in-Commanding.result c.command-turn.result c.is_done-done-in-Commanding.result _
+          c.move_of-in-Commanding.ensures t.looked;
+      rested = t.rested;
+      accesses = c.note-in-Commanding.ensures.accesses ∙ ap (λ n. raised n m.counts.accesses)
+          (counted_at c.move_of-in-Commanding.result c.command-turn.result c.is_done-done-in-Commanding.result
+          c.move_of-in-Commanding.ensures);
+      heard = c.note-in-Commanding.ensures.heard ∙ ap (λ n. raised n m.counts.heard) t.woken;
+    }
+
+pub invariant_of-self-in-Commanding : goal.invariant_of-self-in-Commanding
+invariant_of-self-in-Commanding g c =
+    let m = c.args.self.now in
+    let k = c.in-Commanding.commanding in
+    let r = c.requires.own in
+    let o = opened_commands g.L.Device.DeviceEnd.device m.phase k m.journal m.counts m.settings r.0 r.1 c.in-Commanding.is in
+    let t = c.command-turn.ensures.turn r.0 (record {
+      commands = o.commands;
+      live = still_live k.session.stage (λ d. c.requires.live (ap is_done_of c.in-Commanding.is ∙ d));
+    }) r.2 in
+    record {
+      some = m.some;
+      sized = omega (arith, t.capacity, m.sized, ap capacity_of c.in-Commanding.is);
+      lens = seen_lawful c.command-turn.new.begun.items c.command-turn.new.hand t.commands.serves.lens;
+      paced = λ none few fewer. absurd (cc none);
     }
