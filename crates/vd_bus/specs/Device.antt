@@ -27,18 +27,20 @@ use Rattle.vd_bus.specs.declared.event.Event.TheVariants.{Attach, Suspend, Reset
 use Rattle.vd_bus.specs.declared.device.Attached.{Attached}
 use Rattle.vd_bus.specs.Acts.{IsOneActMore}
 use Rattle.vd_bus.specs.Pace.{KeepsPace, raised, worked, attaches}
-use Rattle.vd_bus.specs.Orders.{Terms, mode_of, IsData, FitsQueue}
+use Rattle.vd_bus.specs.DeviceCommands.{set_since, IsExecuted, IsWaiting, IsAnswered}
+use Rattle.vd_bus.specs.Orders.{Terms, mode_of, IsData, IsControl, FitsQueue}
 
--- the journal, and for how many events and chains more it has room; the settings; the count of faults; the window that was reserved;
--- the plain data that it carries; by what it is attached; for which views of a ring the end stands that it holds; whether it has begun
--- all chains of its order and given them, and its end rests; how many of its steps did not answer Looked, and how many of its hearings
--- ended with Awake
+-- the journal, and for how many events and chains more it has room; the settings, and those at its last attach; the count of faults; the
+-- window that was reserved; the plain data that it carries; by what it is attached; for which views of a ring the end stands that it
+-- holds; whether it has begun all chains of its order and given them, and its end rests; how many of its steps did not answer Looked, and
+-- how many of its hearings ended with Awake
 pub record DeviceParty (X C : Type 0) : Type 1 where
   pub events : X → List Event
   pub begun : X → List Begun
   pub event_room : X → ℕ
   pub chain_room : X → ℕ
   pub settings : X → Settings
+  pub attached_with : X → Settings
   pub faults : X → ℕ
   pub window : X → ℕ
   pub carried : X → C
@@ -80,6 +82,23 @@ pub record IsServing (begun : List Begun) (by : Attached) (s : List DeviceDone) 
   -- and each that was given has its length
   pub given : All (IsJournalled begun by.at by.from) (drop by.from (gives s))
 
+-- what a device of the control queue has begun since its attach is what it took and loaded on the ring since then; its settings are those
+-- at the attach, changed by each command among what it began; and what it gave it had answered before
+pub record IsCommanded (begun : List Begun) (by : Attached) (at_attach now : Settings) (s : List DeviceDone) : Type 0 where
+  pub after : by.at ≤ length begun
+  -- what was taken before the attach was given before
+  pub before : by.from ≤ length (gives s)
+  -- no more than the order's count
+  pub few : length begun ≤ by.at + by.count
+  -- the chains begun are the first of those taken, in the ring's order, and at most one more is taken
+  pub chains : IsPrefix (chains_of (drop by.at begun)) (drop by.from (takes s))
+  pub in_hand : length (takes s) + by.at ≤ length begun + by.from + 1
+  -- each was begun by what was loaded for it, and what is not begun waits for it
+  pub each : (i : ℕ) (b : Begun) → slice_get (drop by.at begun) i ≡ Some b → IsExecuted s (by.from + i) b
+  pub waits : (k : ℕ) → k < length (takes s) → length begun + by.from ≤ k + by.at → IsWaiting s k
+  pub settings : now ≡ set_since by.at begun at_attach
+  pub given : All (IsAnswered begun by.at by.from s) (drop by.from (gives s))
+
 -- a device that is done began all chains of its order and gave all that it took; its end is idle and rests
 pub record HasServedAll (begun : ℕ) (by : Attached) (w : DeviceView) : Type 0 where
   pub all : begun ≡ by.at + by.count
@@ -103,6 +122,8 @@ pub record IsLawfulDeviceParty {E X C : Type 0} (e : DeviceModel E) (m : DeviceP
   pub held : (x : X) (w : DeviceView) → m.holds x w → IsSome (m.attached x)
   pub serves : (x : X) (w : DeviceView) (by : Attached) → m.holds x w → m.attached x ≡ Some by → IsData by.queue
       → IsServing (m.begun x) by w.done
+  pub commanded : (x : X) (w : DeviceView) (by : Attached) → m.holds x w → m.attached x ≡ Some by → IsControl by.queue
+      → IsCommanded (m.begun x) by (m.attached_with x) (m.settings x) w.done
   pub done : (x : X) (w : DeviceView) (by : Attached) → m.holds x w → m.attached x ≡ Some by → m.is_done x
       → HasServedAll (length (m.begun x)) by w
   pub armed : (x : X) (w : DeviceView) (by : Attached) → m.holds x w → m.attached x ≡ Some by → ArmsRightly (length (m.begun x)) by w
@@ -155,6 +176,7 @@ pub record IsAttach {E X C : Type 0} (e : DeviceModel E) (m : DeviceParty X C) (
   pub live : m.is_done y → ⊥
   pub noted : IsNoted m (attach_event t (length (m.begun x)) (control_settings m.settings control)) x y
   pub settings : m.settings y ≡ m.settings x
+  pub attached_with : m.attached_with y ≡ m.settings x
 
 -- an attach was refused: only the count of faults has changed, which went up by one
 pub record IsRefused {X C : Type 0} (m : DeviceParty X C) (x y : X) : Type 0 where
@@ -168,11 +190,15 @@ pub record IsRefused {X C : Type 0} (m : DeviceParty X C) (x y : X) : Type 0 whe
   pub room : (m.event_room x ≤ m.event_room y) × (m.chain_room x ≤ m.chain_room y)
   pub counts : (m.accesses y ≡ m.accesses x) × (m.heard y ≡ m.heard x)
 
--- chains were begun into the room that was there, and nothing else has changed; on a data queue the settings neither
+-- chains were begun into the room that was there, and nothing else has changed; on a data queue the settings neither, on the control queue
+-- they are changed by each command among what was begun
 pub record IsServed {X C : Type 0} (m : DeviceParty X C) (x y : X) : Type 0 where
   pub events : m.events y ≡ m.events x
   pub grows : IsPrefix (m.begun x) (m.begun y)
   pub settings : (by : Attached) → m.attached x ≡ Some by → IsData by.queue → m.settings y ≡ m.settings x
+  pub set : (by : Attached) → m.attached x ≡ Some by → IsControl by.queue
+      → m.settings y ≡ set_since (length (m.begun x)) (m.begun y) (m.settings x)
+  pub attached_with : m.attached_with y ≡ m.attached_with x
   pub faults : m.faults y ≡ m.faults x
   pub window : m.window y ≡ m.window x
   pub carried : m.carried y ≡ m.carried x
@@ -220,6 +246,8 @@ pub record IsSuspend {E X C : Type 0} (e : DeviceModel E) (m : DeviceParty X C) 
   pub rests : e.resting end ≡ true
   pub served : (w : DeviceView) (by : Attached) → m.holds x w → m.attached x ≡ Some by → IsData by.queue
       → IsServing (m.begun y) by w.done
+  pub commanded : (w : DeviceView) (by : Attached) → m.holds x w → m.attached x ≡ Some by → IsControl by.queue
+      → IsCommanded (m.begun y) by (m.attached_with x) (m.settings y) w.done
   pub attached : m.attached y ≡ None
   pub noted : IsNoted m (Suspend (length (m.begun x)) (record { 0 = e.base end })) x y
   pub settings : m.settings y ≡ m.settings x

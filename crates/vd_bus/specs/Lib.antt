@@ -1,5 +1,6 @@
 pub mod Orders
 pub mod Entries
+pub mod DeviceCommands
 pub mod Device
 pub mod Scripts
 pub mod GuestCommands

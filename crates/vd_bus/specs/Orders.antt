@@ -26,6 +26,9 @@ mode_of ring = if nat_lt ring 16 then Pass else Shadow
 abbrev pub IsData : ℕ → Type 0
 IsData queue = queue ≢ 15
 
+abbrev pub IsControl : ℕ → Type 0
+IsControl queue = queue ≡ 15
+
 -- a control ring is the control queue's
 abbrev pub FitsQueue : Terms → Frame → Type 0
 FitsQueue t f = (f.control ≡ true) ↔ (t.queue ≡ 15)

@@ -4,7 +4,6 @@ ghost use Rattle.std.specs.Prelude.{◌≡◌, ◌≢◌, ℕ, ◌<◌, ◌≤�
 ghost use Rattle.std.specs.Option.{option_copied};
 ghost use Rattle.vd_ring.specs.declared.device.DeviceView.{DeviceView};
 ghost use Rattle.vd_layout.specs.Device.{IsStill};
-ghost use Rattle.vd_bus.specs.Orders.{IsData};
 ghost use Rattle.vd_bus.specs.Device.{DeviceParty, IsLawfulDeviceParty, IsUnchanged, IsAttach, IsRefused, IsSuspend, IsReset, OwnsAsDevice, MakesDeviceAccess};
 
 use crate::journal::Journal;
@@ -66,7 +65,6 @@ pub trait Device<L: Layout>: Drop {
         control: Option<&Self>,
     ) -> Result<(), Refused<L>>
         requires free { party.attached self.old ≡ None }
-        requires data { IsData order.now.queue }
         requires events { 2 ≤ party.event_room self.old }
         requires chains { order.now.count ≤ party.chain_room self.old }
         requires few { length (party.begun self.old) + order.now.count < 2 ^ 32 }

@@ -5,7 +5,12 @@ pub mod Going
 pub mod Turns
 pub mod Sleeps
 pub mod Passing
+pub mod Executing
+pub mod CommandTurns
+pub mod Controlling
+pub mod CommandAccesses
 pub mod Parties
+pub mod Attaching
 pub mod Scripts
 pub mod GuestGoing
 pub mod Drives

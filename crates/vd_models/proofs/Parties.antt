@@ -15,6 +15,7 @@ use Rattle.vd_layout.specs.declared.moves.Move.{Move}
 use Rattle.vd_layout.specs.declared.moves.Move.TheVariants as move
 use Rattle.vd_layout.specs.Begun.{DeviceOp}
 use Rattle.vd_layout.specs.Device.{DeviceModel, IsLawfulDevice, IsStill}
+use Rattle.vd_control.specs.declared.settings.Settings.{Settings}
 use Rattle.vd_bus.specs.declared.device.Attached.{Attached}
 use Rattle.vd_bus.specs.declared.event.Event.{Event}
 use Rattle.vd_bus.specs.declared.event.Event.TheVariants.{Attach, Suspend, Reset}
@@ -34,23 +35,24 @@ use Rattle.vd_models.specs.declared.window.Held.{Held}
 use Rattle.vd_models.specs.Counting.{counted, woke, move_of}
 use Rattle.vd_models.specs.Holding.{HaveLens, IsHeld, capacity_of, journal_room}
 use Rattle.vd_models.specs.Stages.{is_done, owes}
-use Rattle.vd_models.specs.Serving.{State, state, Serves, IsTurn, Holds, IsAttached, IsPaid, owes_at, is_done_of, all_of}
+use Rattle.vd_models.specs.Phases.{Holds, IsAttached, IsCommanding, IsPaid, is_done_of}
+use Rattle.vd_models.specs.Serving.{State, state, Serves, IsTurn, owes_at, all_of}
 use Rattle.vd_models.proofs.Stages.{idle_small, window_most}
 
 -- what it holds, by the name that the code has for its session
-pub opened : {E : Type 0} (e : DeviceModel E) (p : Phase E) (s : Session E) (j : Journal) (c : Counts) (w : DeviceView)
-    → Holds e p j c w → p ≡ phase.Serving s → IsAttached e s j c w
-opened e p s j c w h is = subst (λ (z : Phase _). Holds e z j c w) is h
+pub opened : {E : Type 0} (e : DeviceModel E) (p : Phase E) (s : Session E) (j : Journal) (c : Counts) (now : Settings) (w : DeviceView)
+    → Holds e p j c now w → p ≡ phase.Serving s → IsAttached e s j c w
+opened e p s j c now w h is = subst (λ (z : Phase _). Holds e z j c now w) is h
+
+pub still_live : (st : Stage) → (is_done st ≡ true → ⊥) → is_done st ≡ false
+still_live stage.Taking m = refl
+still_live stage.Giving m = refl
+still_live stage.Arming m = refl
+still_live stage.Hearing m = refl
+still_live stage.Done m = absurd (m refl)
 
 pub not_done : {E : Type 0} (p : Phase E) (s : Session E) → p ≡ phase.Serving s → (is_done_of p ≡ true → ⊥) → is_done s.stage ≡ false
-not_done p s is n = at s.stage (λ d. n (ap is_done_of is ∙ d))
-  where
-    at : (st : Stage) → (is_done st ≡ true → ⊥) → is_done st ≡ false
-    at stage.Taking m = refl
-    at stage.Giving m = refl
-    at stage.Arming m = refl
-    at stage.Hearing m = refl
-    at stage.Done m = absurd (m refl)
+not_done p s is n = still_live s.stage (λ d. n (ap is_done_of is ∙ d))
 
 -- ---- the answer
 
@@ -89,9 +91,9 @@ raised_small k n h = omega arith
 pub pays : {P E : Type 0} (port : PortModel P) (e : DeviceModel E) (p q : P) (w : DeviceView) (x y : State E) (t : Turn)
     (by by' : Attached) (n : ℕ) (c d : Counts) → by' ≡ by → (h : IsTurn port e p q w x y t)
     → d.accesses ≡ raised (counted t) c.accesses → d.heard ≡ raised (woke t) c.heard → by.from ≤ length (gives w.done)
-    → by'.from ≤ length (gives (e.side.after w h.op h.access h.got).done)
-    → IsPaid c (owes_at e x w) (length x.begun.items + gave by w + n) → IsPaid d (owes_at e y (e.side.after w h.op h.access h.got))
-    (length y.begun.items + gave by' (e.side.after w h.op h.access h.got) + n)
+    → by'.from ≤ length (gives (e.side.after w h.0 h.1 h.2).done)
+    → IsPaid c (owes_at e x w) (length x.begun.items + gave by w + n) → IsPaid d (owes_at e y (e.side.after w h.0 h.1 h.2))
+    (length y.begun.items + gave by' (e.side.after w h.0 h.1 h.2) + n)
 pays port e p q w x y t by by' n c d same h more heard low low' paid few fewer =
     let a : d.accesses ≡ c.accesses + counted t = more ∙ raised_small (counted t) c.accesses (omega (arith, more)) in
     let b : d.heard ≡ c.heard + woke t = heard ∙ raised_small (woke t) c.heard (omega (arith, heard)) in
@@ -103,7 +105,7 @@ pays port e p q w x y t by by' n c d same h more heard low low' paid few fewer =
       low',
       ap (λ (z : Attached). z.at) same,
       ap (λ (z : Attached). z.from) same,
-      h.paid,
+      h.3.paid,
       paid (omega (arith, a))
           (omega (arith, b)),
     )
@@ -206,12 +208,19 @@ ok_of (Ok x) P ok h = h
 ok_of (Err x) P ok h = absurd (cc)
 
 -- no more chains run than it has room for
-pub running_within : {E : Type 0} (e : DeviceModel E) (p : Phase E) (j : Journal) (c : Counts) (w : DeviceView) → Holds e p j c w
-    → length (running w.done) ≤ capacity_of p
-running_within e phase.Unreserved j c w h = absurd h
-running_within e (phase.Free b) j c w h = absurd h
-running_within e (phase.Serving s) j c w h =
+pub running_within : {E : Type 0} (e : DeviceModel E) (p : Phase E) (j : Journal) (c : Counts) (now : Settings) (w : DeviceView)
+    → Holds e p j c now w → length (running w.done) ≤ capacity_of p
+running_within e phase.Unreserved j c now w h = absurd h
+running_within e (phase.Free b) j c now w h = absurd h
+running_within e (phase.Serving s) j c now w h =
     let most : length s.held.items ≤ s.held.capacity = window_most s.stage (length s.held.items) s.held.capacity h.serves.window in
     let many : length s.held.items ≡ length (running w.done) = sym (length-map s.held.items (λ (x : Held). x.number))
     ∙ ap length h.serves.held.hand in
+    omega (arith, most, many)
+running_within e (phase.Commanding k) j c now w h =
+    let s = k.session in
+    let v = h.commands.serves in
+    let most : length s.held.items ≤ s.held.capacity = window_most s.stage (length s.held.items) s.held.capacity v.window in
+    let many : length s.held.items ≡ length (running w.done) = sym (length-map s.held.items (λ (x : Held). x.number))
+    ∙ ap length v.held.hand in
     omega (arith, most, many)

@@ -24,7 +24,7 @@ use Rattle.vd_models.specs.declared.serving.Stage.TheVariants as stage
 use Rattle.vd_models.specs.declared.window.Held.{Held}
 use Rattle.vd_models.specs.Holding.{IsHeld, next_held, rest_held, begun_of, held_of}
 use Rattle.vd_models.specs.Stages.{StageIs, HasWindow, OpIs, owes, taken_stage, given_stage, is_done}
-use Rattle.vd_models.specs.Serving.{State, Opens, IsTurn, all_of}
+use Rattle.vd_models.specs.Serving.{State, Opens, IsTurnBy, all_of}
 use Rattle.vd_models.proofs.Holding.{lens_begun, serving_taken, serving_given, serving_rested, held_taken, held_given, held_rested, takes_rested}
 use Rattle.vd_models.proofs.Lists.{prefix_same, prefix_push, next_is, All-next}
 use Rattle.vd_models.proofs.Stages.{at_take, at_give, at_rest, unarming, armed_none, idle_small, published_owes, published_not, not_first, not_second, apart, zero_test, some_test, window_empty}
@@ -35,18 +35,19 @@ put x by st h bs = record { end = x; by = by; stage = st; held = h; begun = bs }
 
 -- ---- a take
 
-stage_taken : (full : Bool) (io : Bool) (hs : List Held) (n all capacity : ℕ) → full ≡ ((length hs == capacity) || (n == all))
+stage_taken : (full : Bool) (io : Bool) (hs : List Held) (n all capacity : ℕ)
+    → (full ≡ false → ((length hs == capacity) || (n == all)) ≡ false)
     → 0 < length hs → n ≤ all → StageIs (taken_stage full) DeviceOp.idle io hs n all
 stage_taken true io hs n all capacity f some few = some
 stage_taken false io hs n all capacity f some few =
-    let ne : n ≢ all = apart n all (not_second (length hs == capacity) (n == all) (sym f)) in
+    let ne : n ≢ all = apart n all (not_second (length hs == capacity) (n == all) (f refl)) in
     inr (omega arith)
 
-window_taken : (full : Bool) (n all h capacity : ℕ) → full ≡ ((h == capacity) || (n == all)) → 0 < h → h ≤ capacity
+window_taken : (full : Bool) (n all h capacity : ℕ) → (full ≡ false → ((h == capacity) || (n == all)) ≡ false) → 0 < h → h ≤ capacity
     → HasWindow (taken_stage full) h capacity
 window_taken true n all h capacity f some few = (few, omega arith)
 window_taken false n all h capacity f some few = let ne : h ≢ capacity = apart h capacity (not_first (h == capacity) (n == all)
-    (sym f)) in omega arith
+    (f refl)) in omega arith
 
 live_taken : (full : Bool) → (is_done (taken_stage full) ≡ false) × (taken_stage full ≢ stage.Hearing)
 live_taken true = (refl, λ z. cc z)
@@ -82,11 +83,11 @@ op_given o v n (inr z) = subst (λ i. OpIs i v.doing v.shown n) (sym z) tt
 module _ {P E : Type 0} {port : PortModel P} {e : DeviceModel E} (law : IsLawfulDevice e) (from : State E) {p q : P} {w : DeviceView}
     {y : E} where
   pub took : (held' : Buffer Held) (begun' : Reserved Begun) (k : ℕ) (c : List Piece) (full : Bool)
-      → Opens e from w → IsDeviceStep port e p q w from.end y (act.Taken k c)
+      → Opens e from w → (s : IsDeviceStep port e p q w from.end y (act.Taken k c))
       → held' ≡ buffer (from.held.items ++ held_of k c ∷ []) from.held.capacity → begun'.items ≡ from.begun.items ++ begun_of c ∷ []
       → from.begun.room ≤ begun'.room + 1
-      → full ≡ ((length held'.items == held'.capacity) || (length begun'.items == all_of from.by))
-      → IsTurn port e p q w from (put y from.by (taken_stage full) held' begun') Worked
+      → (full ≡ false → ((length held'.items == held'.capacity) || (length begun'.items == all_of from.by)) ≡ false)
+      → IsTurnBy port e p q w from (put y from.by (taken_stage full) held' begun') Worked s.op s.access s.got
   took held' begun' k c full opens s is_held is_begun roomy is_full =
       let v = opens.serves in
       let io = w.frame.features.in_order in
@@ -111,9 +112,6 @@ module _ {P E : Type 0} {port : PortModel P} {e : DeviceModel E} (law : IsLawful
       (λ z. from.held.items ++ z ∷ []) numbered in
       let live = live_taken full in
       record {
-        op = s.op;
-        access = s.access;
-        got = s.got;
         was_next = s.was_next;
         moved = s.moved;
         serves = record {
@@ -166,7 +164,7 @@ module _ {P E : Type 0} {port : PortModel P} {e : DeviceModel E} (law : IsLawful
   pub gave : (io : Bool) (held' : Buffer Held) (k : ℕ) (empty : Bool)
       → w.frame.features.in_order ≡ io → Opens e from w → (s : IsDeviceStep port e p q w from.end y (act.Given k))
       → held' ≡ buffer (rest_held io from.held.items) from.held.capacity → empty ≡ (length held'.items == 0)
-      → IsTurn port e p q w from (put y from.by (given_stage empty) held' from.begun) Worked
+      → IsTurnBy port e p q w from (put y from.by (given_stage empty) held' from.begun) Worked s.op s.access s.got
   gave io held' k empty is opens s is_held is_empty =
       let v = opens.serves in
       let said = says_given e.words k (e.begun from.end) (e.begun y) w.frame w.done (e.side.after w s.op s.access s.got).done s.says in
@@ -192,9 +190,6 @@ module _ {P E : Type 0} {port : PortModel P} {e : DeviceModel E} (law : IsLawful
       let more : length (gives w'.done) ≡ length (gives w.done) + 1 = ap (λ (z : List DeviceDone). length (gives z)) done ∙ length_push
       (gives w.done) (entry k n) in
       record {
-        op = s.op;
-        access = s.access;
-        got = s.got;
         was_next = s.was_next;
         moved = s.moved;
         serves = record {
@@ -243,8 +238,8 @@ module _ {P E : Type 0} {port : PortModel P} {e : DeviceModel E} (law : IsLawful
       }
 
   pub rested : Opens e from w
-      → IsDeviceStep port e p q w from.end y act.Rested
-      → IsTurn port e p q w from (to from y stage.Done) Worked
+      → (s : IsDeviceStep port e p q w from.end y act.Rested)
+      → IsTurnBy port e p q w from (to from y stage.Done) Worked s.op s.access s.got
   rested opens s =
       let v = opens.serves in
       let io = w.frame.features.in_order in
@@ -258,9 +253,6 @@ module _ {P E : Type 0} {port : PortModel P} {e : DeviceModel E} (law : IsLawful
       let even : length (takes w.done) ≡ length (gives w.done) = omega (arith, v.held.as_many, ap length t.1) in
       let empty = subst (λ (z : List Held). IsHeld from.begun.items from.by z w.frame w.done) t.1 v.held in
       record {
-        op = s.op;
-        access = s.access;
-        got = s.got;
         was_next = s.was_next;
         moved = s.moved;
         serves = record {

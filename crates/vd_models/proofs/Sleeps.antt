@@ -19,7 +19,7 @@ use Rattle.vd_models.specs.declared.serving.Stage.TheVariants as stage
 use Rattle.vd_models.specs.declared.window.Held.{Held}
 use Rattle.vd_models.specs.Counting.{counted, woke}
 use Rattle.vd_models.specs.Stages.{StageIs, HasWindow, ArmedIs, OpIs, owes, idle_owes, take_owes, hear_owes, nothing_stage, woken_stage, waking_turn, is_done}
-use Rattle.vd_models.specs.Serving.{State, Opens, IsTurn, all_of}
+use Rattle.vd_models.specs.Serving.{State, Opens, IsTurnBy, all_of}
 use Rattle.vd_models.proofs.Stages.{at_take, at_arm, at_hear, wakes_at, unarming, armed_none, idle_small, nothing_small, zero_test, some_test, window_empty}
 use Rattle.vd_models.proofs.Turns.{to, same_turn, not_woken, no_sleep}
 
@@ -79,8 +79,9 @@ module _ {P E : Type 0} {port : PortModel P} {e : DeviceModel E} (law : IsLawful
       absurd (cc (t, n.2))
 
   pub found_none : (empty : Bool) → Opens e from w
-      → IsOwn port e.side p w → IsDeviceStep port e p q w from.end y act.Nothing
-      → empty ≡ (length from.held.items == 0) → IsTurn port e p q w from (to from y (nothing_stage empty)) Worked
+      → IsOwn port e.side p w → (s : IsDeviceStep port e p q w from.end y act.Nothing)
+      → empty ≡ (length from.held.items == 0)
+      → IsTurnBy port e p q w from (to from y (nothing_stage empty)) Worked s.op s.access s.got
   found_none empty opens own s is_empty =
       let v = opens.serves in
       let io = w.frame.features.in_order in
@@ -112,8 +113,8 @@ module _ {P E : Type 0} {port : PortModel P} {e : DeviceModel E} (law : IsLawful
       ))
 
   pub armed_at : Opens e from w
-      → IsDeviceStep port e p q w from.end y act.Armed
-      → IsTurn port e p q w from (to from y stage.Hearing) Worked
+      → (s : IsDeviceStep port e p q w from.end y act.Armed)
+      → IsTurnBy port e p q w from (to from y stage.Hearing) Worked s.op s.access s.got
   armed_at opens s =
       let v = opens.serves in
       let io = w.frame.features.in_order in
@@ -144,8 +145,8 @@ module _ {P E : Type 0} {port : PortModel P} {e : DeviceModel E} (law : IsLawful
       ))
 
   pub slept_at : Opens e from w
-      → IsDeviceStep port e p q w from.end y act.Asleep
-      → IsTurn port e p q w from (to from y from.stage) Slept
+      → (s : IsDeviceStep port e p q w from.end y act.Asleep)
+      → IsTurnBy port e p q w from (to from y from.stage) Slept s.op s.access s.got
   slept_at opens s =
       let v = opens.serves in
       let io = w.frame.features.in_order in
@@ -187,7 +188,7 @@ module _ {P E : Type 0} {port : PortModel P} {e : DeviceModel E} (law : IsLawful
 
   pub woken_at : (armed : Bool) → Opens e from w
       → (s : IsDeviceStep port e p q w from.end y act.Awake) → e.armed y ≡ armed
-      → IsTurn port e p q w from (to from y (woken_stage armed)) (waking_turn from.stage)
+      → IsTurnBy port e p q w from (to from y (woken_stage armed)) (waking_turn from.stage) s.op s.access s.got
   woken_at armed opens s is_armed =
       let v = opens.serves in
       let io = w.frame.features.in_order in
@@ -198,7 +199,7 @@ module _ {P E : Type 0} {port : PortModel P} {e : DeviceModel E} (law : IsLawful
       let build : (u : Turn) → (u ≡ Slept → ⊥) → woke u ≡ device_woken s.op act.Awake
       → idle_owes (woken_stage armed) w'.shown + counted u ≤ owes from.stage (e.begun from.end) w.doing w.shown
       (e.left from.end) + 64 * woke u
-      → IsTurn port e p q w from (to from y (woken_stage armed)) u =
+      → IsTurnBy port e p q w from (to from y (woken_stage armed)) u s.op s.access s.got =
       λ u no woken paid. same_turn law from opens act.Awake s (woken_stage armed) u s.says.2 (woken_live armed) s.rests
       (subst (λ o. StageIs (woken_stage armed) o io from.held.items n (all_of from.by)) (sym idle) (woken_is armed io from.held.items n
       (all_of from.by) t.1 t.2))
@@ -211,13 +212,13 @@ module _ {P E : Type 0} {port : PortModel P} {e : DeviceModel E} (law : IsLawful
         | inl a ↦ (
             let arm : s.op ≡ op.Arm = subst (λ o. IsDeviceOp o s.op) a.0 s.of_it in
             let shown : w'.shown ≡ true = shown_at s arm (subst (λ o. OpIs o w.doing w.shown (e.left from.end)) a.0 v.op) in
-            subst (λ u. IsTurn port e p q w from (to from y (woken_stage armed)) u) (sym (ap waking_turn a.1))
+            subst (λ u. IsTurnBy port e p q w from (to from y (woken_stage armed)) u s.op s.access s.got) (sym (ap waking_turn a.1))
             (build Worked (λ z. cc z) (sym (ap (λ o. device_woken o act.Awake) arm)) (omega
             (arith, s.left, woken_owes armed w'.shown shown, ap (λ o. owes from.stage o w.doing w.shown (e.left from.end)) a.0)))
             )
         | inr h ↦ (
             let hears : s.op ≡ op.Hear = subst (λ o. IsDeviceOp o s.op) h.0 s.of_it in
-            subst (λ u. IsTurn port e p q w from (to from y (woken_stage armed)) u) (sym (ap waking_turn h.1))
+            subst (λ u. IsTurnBy port e p q w from (to from y (woken_stage armed)) u s.op s.access s.got) (sym (ap waking_turn h.1))
             (build Woke (λ z. cc z) (sym (ap (λ o. device_woken o act.Awake) hears)) (omega
             (arith, idle_small (woken_stage armed) w'.shown)))
             )

@@ -2,6 +2,7 @@
 use Rattle.std.proofs.Common.{◌≡◌, ◌≢◌, ◌↔◌, ℕ, ◌+◌, ◌*◌, ◌<◌, ◌≤◌, Bool, true, false, List, length, nat_lt, refl, sym, ◌∙◌, ap, subst, arith, inl, inr}
 use Rattle.std.proofs.lemmas.Bool.{lt-ltb, ltb-true}
 use Rattle.vd_model.specs.declared.record.Begun.{Begun}
+use Rattle.vd_words.specs.declared.access.Access.{Access}
 use Rattle.vd_words.specs.declared.access.Op.{Op}
 use Rattle.vd_words.specs.declared.access.Op.TheVariants as op
 use Rattle.vd_words.specs.Model.{PortModel}
@@ -27,7 +28,7 @@ use Rattle.vd_models.specs.declared.serving.Stage.{Stage}
 use Rattle.vd_models.specs.Counting.{counted, woke}
 use Rattle.vd_models.specs.Holding.{IsHeld}
 use Rattle.vd_models.specs.Stages.{StageIs, HasWindow, ArmedIs, OpIs, owes, is_done}
-use Rattle.vd_models.specs.Serving.{State, state, Opens, Begins, IsTurn, HasMore, all_of}
+use Rattle.vd_models.specs.Serving.{State, state, Opens, Begins, IsTurn, IsTurnBy, HasMore, all_of}
 use Rattle.vd_models.proofs.Going.{Goes, went}
 use Rattle.vd_models.proofs.Lists.{prefix_same}
 use Rattle.vd_models.proofs.Stages.{goes_on}
@@ -70,15 +71,12 @@ module _ {P E : Type 0} {port : PortModel P} {e : DeviceModel E} (law : IsLawful
       → (t ≡ Slept) ↔ (answer ≡ act.Asleep) → woke t ≡ device_woken s.op answer → answer ≢ act.Rested
       → owes st' (e.begun y) (e.side.after w s.op s.access s.got).doing (e.side.after w s.op s.access s.got).shown (e.left y) + counted t
       ≤ owes from.stage (e.begun from.end) w.doing w.shown (e.left from.end) + 64 * woke t
-      → IsTurn port e p q w from (to from y st') t
+      → IsTurnBy port e p q w from (to from y st') t s.op s.access s.got
   same_turn opens answer s st' t done live awake stage window armed op looked woken rested paid =
       let v = opens.serves in
       let w' : DeviceView = e.side.after w s.op s.access s.got in
       let framed : w'.frame ≡ w.frame = law.framed w s.op s.access s.got in
       record {
-        op = s.op;
-        access = s.access;
-        got = s.got;
         was_next = s.was_next;
         moved = s.moved;
         serves = record {
@@ -149,8 +147,8 @@ module _ {P E : Type 0} {port : PortModel P} {e : DeviceModel E} (law : IsLawful
       woken_by false x arm again = absurd (cc (s.is_answer, (law.looks.armed w s.op s.access s.got s.was_next).1 (arm, again, x)))
 
   pub went_on : Opens e from w
-      → IsDeviceStep port e p q w from.end y act.Moved
-      → IsTurn port e p q w from (to from y from.stage) Worked
+      → (s : IsDeviceStep port e p q w from.end y act.Moved)
+      → IsTurnBy port e p q w from (to from y from.stage) Worked s.op s.access s.got
   went_on opens s =
       let v = opens.serves in
       let io = w.frame.features.in_order in
@@ -170,25 +168,30 @@ pub from_begun : {P E : Type 0} {port : PortModel P} {e : DeviceModel E} {p q : 
     → IsTurn port e p q w (state a begun) y t
 from_begun {w = w} {begun = begun} a b next held more opens f =
     let go = next begun w opens more in
-    let h = f go.opens in
-    record {
-      op = h.op;
-      access = h.access;
-      got = h.got;
-      was_next = h.was_next;
-      moved = h.moved;
-      serves = h.serves;
-      grows = h.grows;
-      acts = h.acts;
-      begun = h.begun;
-      room = h.room;
-      capacity = h.capacity ∙ ap (λ (z : Buffer Held). z.capacity) held;
-      looked = h.looked;
-      slept = h.slept;
-      woken = h.woken;
-      rested = h.rested;
-      paid = omega (arith, h.paid, go.owes);
-    }
+    let h = f go.opens in (
+      h.0,
+      h.1,
+      h.2,
+      record {
+        was_next = h.3.was_next;
+        moved = h.3.moved;
+        serves = h.3.serves;
+        grows = h.3.grows;
+        acts = h.3.acts;
+        begun = h.3.begun;
+        room = h.3.room;
+        capacity = h.3.capacity ∙ ap (λ (z : Buffer Held). z.capacity) held;
+        looked = h.3.looked;
+        slept = h.3.slept;
+        woken = h.3.woken;
+        rested = h.3.rested;
+        paid = omega (arith, h.3.paid, go.owes);
+      },
+    )
+
+pub turned : {P E : Type 0} {port : PortModel P} {e : DeviceModel E} {p q : P} {w : DeviceView} {x y : State E} {t : Turn} (op : Op)
+    (access : Access) (got : ℕ) → IsTurnBy port e p q w x y t op access got → IsTurn port e p q w x y t
+turned op access got h = (op, access, got, h)
 
 -- the test whether chains are still to begin
 pub more_is : (n m : ℕ) (by : Attached) (begun : List Begun) → n ≡ length begun → m ≡ all_of by → HasMore (nat_lt n m) by begun

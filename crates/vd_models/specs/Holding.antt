@@ -58,6 +58,7 @@ abbrev pub capacity_of : {E : Type 0} → Phase E → ℕ
 capacity_of phase.Unreserved = 0
 capacity_of (phase.Free held) = held.capacity
 capacity_of (phase.Serving s) = s.held.capacity
+capacity_of (phase.Commanding c) = c.session.held.capacity
 
 abbrev pub journal_room : {E : Type 0} → Phase E → ℕ → ℕ
 journal_room p room = if capacity_of p == 0 then 0 else room

@@ -14,18 +14,12 @@ use Rattle.vd_ring.specs.History.{gives}
 use Rattle.vd_ring.specs.Sleep.{device_woken}
 use Rattle.vd_layout.specs.Device.{DeviceModel}
 use Rattle.vd_bus.specs.declared.device.Attached.{Attached}
-use Rattle.vd_bus.specs.declared.event.Event.{Event}
-use Rattle.vd_bus.specs.declared.journal.Journal.{Journal}
 use Rattle.vd_bus.specs.Acts.{IsOneActMore}
-use Rattle.vd_bus.specs.Device.{IsServing, HasServed, gave}
+use Rattle.vd_bus.specs.Device.{IsServing, HasServed}
 use Rattle.vd_bus.specs.Entries.{Reserved}
-use Rattle.vd_bus.specs.Pace.{last_count, KeepsPace, attaches}
 use Rattle.circular_buffer.specs.Buffer.{Buffer}
-use Rattle.vd_models.specs.declared.counts.Counts.{Counts}
 use Rattle.vd_models.specs.declared.counts.Turn.{Turn}
 use Rattle.vd_models.specs.declared.counts.Turn.TheVariants.{Slept}
-use Rattle.vd_models.specs.declared.serving.Phase.{Phase}
-use Rattle.vd_models.specs.declared.serving.Phase.TheVariants as phase
 use Rattle.vd_models.specs.declared.serving.Session.{Session}
 use Rattle.vd_models.specs.declared.serving.Stage.{Stage}
 use Rattle.vd_models.specs.declared.window.Held.{Held}
@@ -81,11 +75,8 @@ pub record BeginsNext {E : Type 0} (e : DeviceModel E) (w : DeviceView) (x y : S
 
 -- one access of the port was made, which was next in the view, and the device serves on at the view after it. It is paid for: by one
 -- that it owed, or by a chain begun or given, or a bell heard
-pub record IsTurn {P E : Type 0} (port : PortModel P) (e : DeviceModel E) (p q : P) (w : DeviceView) (x y : State E) (answer : Turn)
-    : Type 0 where
-  pub op : Op
-  pub access : Access
-  pub got : ℕ
+pub record IsTurnBy {P E : Type 0} (port : PortModel P) (e : DeviceModel E) (p q : P) (w : DeviceView) (x y : State E) (answer : Turn)
+    (op : Op) (access : Access) (got : ℕ) : Type 0 where
   pub was_next : e.side.next w op access
   pub moved : port.moves p op access got q
   pub serves : Serves e y (e.side.after w op access got)
@@ -101,6 +92,9 @@ pub record IsTurn {P E : Type 0} (port : PortModel P) (e : DeviceModel E) (p q :
   pub paid : owes_at e y (e.side.after w op access got) + counted answer + 64 * (length x.begun.items + length (gives w.done))
       ≤ owes_at e x w + 64 * (length y.begun.items + length (gives (e.side.after w op access got).done) + woke answer)
 
+abbrev pub IsTurn : {P E : Type 0} → PortModel P → DeviceModel E → P → P → DeviceView → State E → State E → Turn → Type 0
+IsTurn port e p q w x y answer = (op : Op) × (access : Access) × (got : ℕ) × IsTurnBy port e p q w x y answer op access got
+
 -- a device that may make an access of the port, and one access, for each view
 abbrev pub CanServe : {P E : Type 0} → PortModel P → DeviceModel E → P → State E → Type 0
 CanServe port e p x = (w : DeviceView) × Opens e x w × IsOwn port e.side p w
@@ -115,33 +109,3 @@ CanBegin e s more = (begun : Reserved Begun) × (w : DeviceView) × Opens e (sta
 abbrev pub Begins : {E : Type 0} → DeviceModel E → Session E → Session E → Bool → Type 0
 Begins e s s' more = (begun : Reserved Begun) (w : DeviceView) → Opens e (state s begun) w → HasMore more s.by begun.items
     → BeginsNext e w (state s begun) (state s' begun)
-
--- ---- the device
-
--- the accesses made and those owed are within the pace, for counts below the last
-abbrev pub IsPaid : Counts → ℕ → ℕ → Type 0
-IsPaid c owed did = c.accesses < last_count → c.heard < last_count → c.accesses + owed ≤ 64 * (did + c.heard)
-
--- it is attached, and its end stands for the view
-pub record IsAttached {E : Type 0} (e : DeviceModel E) (s : Session E) (journal : Journal) (counts : Counts) (w : DeviceView)
-    : Type 0 where
-  pub serves : Serves e (state s journal.begun) w
-  pub paid : IsPaid counts (owes_at e (state s journal.begun) w)
-      (length journal.begun.items + gave s.by w + attaches journal.events.items)
-  pub event : 0 < journal.events.room
-
-abbrev pub Holds : {E : Type 0} → DeviceModel E → Phase E → Journal → Counts → DeviceView → Type 0
-Holds e (phase.Serving s) journal counts w = IsAttached e s journal counts w
-Holds e _ journal counts w = ⊥
-
-abbrev pub attached_of : {E : Type 0} → Phase E → Option Attached
-attached_of (phase.Serving s) = Some s.by
-attached_of _ = None
-
-abbrev pub is_done_of : {E : Type 0} → Phase E → Bool
-is_done_of (phase.Serving s) = is_done s.stage
-is_done_of _ = false
-
--- while it isn't attached it keeps the pace: all that it began it gave
-abbrev pub PacesFree : {E : Type 0} → Phase E → Counts → List Begun → List Event → Type 0
-PacesFree p c bs es = attached_of p ≡ None → KeepsPace c.accesses c.heard (length bs + length bs + c.heard + attaches es)

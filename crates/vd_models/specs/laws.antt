@@ -1,4 +1,5 @@
-pub mod Scripted
+pub mod CommandLaws
 pub mod GuestLaws
 pub mod Laws
 pub mod Pairs
+pub mod Scripted

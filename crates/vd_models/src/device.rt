@@ -3,11 +3,12 @@ ghost use Rattle.std.specs.Prelude.{◌≡◌, ◌≤◌, true, false, None, [],
 ghost use Rattle.vd_bus.specs.Scripts.{most_window};
 ghost use Rattle.vd_models.specs.Unused.{IsUnused, IsWindow, HoldsAtMost};
 ghost use Rattle.vd_models.specs.Holding.{HaveLens, capacity_of, journal_room};
-ghost use Rattle.vd_models.specs.Serving.{Holds, PacesFree, attached_of, is_done_of};
-ghost use Rattle.vd_models.specs.laws.Laws.{held_law, serves_law, done_law, armed_law, pace_law};
+ghost use Rattle.vd_models.specs.Phases.{Holds, PacesFree, attached_of, is_done_of, settings_of};
+ghost use Rattle.vd_models.specs.laws.Laws.{held_law, serves_law, commanded_law, done_law, armed_law, pace_law};
 
+use crate::commanding::{Commanding, command};
 use crate::counts::{Counts, move_of};
-use crate::serving::{Phase, Session, Stage, serve};
+use crate::serving::{Phase, Session, Stage, phase_of, serve, session_of};
 use circular_buffer::HeapCircularBuffer;
 use std::alloc::{AllocError, Global};
 use std::mem::replace;
@@ -22,6 +23,9 @@ const MOST_WINDOW: u32 = 64;
 /// A device that takes while fewer chains than its window are held. Where the window is full, all are begun, or no further
 /// chain is there, it gives all that it holds: the one begun last first, under IN_ORDER the one begun first. Where none is there
 /// and none is held it arms its end, and hears its bell until it wakes. It writes as many bytes as it may read and write.
+///
+/// On the control queue it takes one chain, loads its two command words, executes the command, stores its ack, and gives it with the
+/// length 1, before it takes the next.
 #[derive(Drop)]
 pub struct ModelDevice<L: Layout> {
     phase: Phase<L::Device>,
@@ -99,22 +103,24 @@ impl<L: Layout> Device<L> for ModelDevice<L> {
       event_room = λ m. journal_room m.phase m.journal.events.room;
       chain_room = λ m. m.journal.begun.room;
       settings = λ m. m.settings;
+      attached_with = λ m. settings_of m.phase m.settings;
       faults = λ m. 0;
       window = λ m. m.window;
       carried = λ m. m.most;
       attached = λ m. attached_of m.phase;
-      holds = λ m w. Holds L.Device.device m.phase m.journal m.counts w;
+      holds = λ m w. Holds L.Device.device m.phase m.journal m.counts m.settings w;
       is_done = λ m. is_done_of m.phase ≡ true;
       accesses = λ m. m.counts.accesses;
       heard = λ m. m.counts.heard;
     } };
 
     ghost lawful = { record {
-      held = λ x w h. held_law L.Device.device x.phase x.journal x.counts w h;
-      serves = λ x w a h is d. serves_law L.Device.device x.phase x.journal x.counts w a h is;
-      done = λ x w a h is d. done_law L.Device.device L.Device.device_lawful x.phase x.journal x.counts w a h is d;
-      armed = λ x w a h is. armed_law L.Device.device x.phase x.journal x.counts w a h is;
-      pace = λ x w a h is. pace_law L.Device.device x.phase x.journal x.counts w a h is;
+      held = λ x w h. held_law L.Device.device x.phase x.journal x.counts x.settings w h;
+      serves = λ x w a h is d. serves_law L.Device.device x.phase x.journal x.counts x.settings w a h is d;
+      commanded = λ x w a h is c. commanded_law L.Device.device x.phase x.journal x.counts x.settings w a h is c;
+      done = λ x w a h is d. done_law L.Device.device L.Device.device_lawful x.phase x.journal x.counts x.settings w a h is d;
+      armed = λ x w a h is. armed_law L.Device.device x.phase x.journal x.counts x.settings w a h is;
+      pace = λ x w a h is. pace_law L.Device.device x.phase x.journal x.counts x.settings w a h is;
       pace_free = λ x is. x.paced is;
     } };
 
@@ -167,39 +173,45 @@ impl<L: Layout> Device<L> for ModelDevice<L> {
             at,
             from: end.taken(),
         };
-        self.phase = Phase::Serving(Session {
+        let session = Session {
             end,
             by,
             stage: Stage::Taking,
             held,
-        });
+        };
+        self.phase = phase_of(session, self.settings);
         Ok(())
     }
 
     #[inline(always)]
     fn step<P: Port>(&mut self, port: &mut P) -> Move {
-        let Phase::Serving(session) = &mut self.phase else {
-            unreachable!()
-        };
-        let turn = serve::<L, P>(session, &mut self.journal.begun, port);
-        let done = session.stage.is_done();
-        self.counts.note(turn);
-        move_of(turn, done)
+        match &mut self.phase {
+            Phase::Serving(session) => {
+                let turn = serve::<L, P>(session, &mut self.journal.begun, port);
+                let done = session.stage.is_done();
+                self.counts.note(turn);
+                move_of(turn, done)
+            }
+            Phase::Commanding(commanding) => {
+                let Commanding { session, hand, .. } = commanding;
+                let begun = &mut self.journal.begun;
+                let turn = command::<L, P>(session, hand, begun, &mut self.settings, port);
+                let done = session.stage.is_done();
+                self.counts.note(turn);
+                move_of(turn, done)
+            }
+            _ => unreachable!(),
+        }
     }
 
     #[inline(always)]
     fn done(&self) -> bool {
-        match &self.phase {
-            Phase::Serving(session) => session.stage.is_done(),
-            _ => false,
-        }
+        self.phase.is_done()
     }
 
     fn suspend(&mut self) -> L::Device {
-        let Phase::Serving(session) = replace(&mut self.phase, Phase::Unreserved) else {
-            unreachable!()
-        };
-        let Session { end, held, .. } = session;
+        let phase = replace(&mut self.phase, Phase::Unreserved);
+        let Session { end, held, .. } = session_of(phase);
         self.phase = Phase::Free(held);
         let at = self.journal.begun.len() as u32;
         let base = end.base();

@@ -2,11 +2,10 @@
 ghost use Rattle.std.specs.Prelude.{◌≡◌, ◌≤◌, ◌<◌, ◌+◌, ◌-◌, ◌^◌, ◌↔◌, None, true, length, IsErr, MatchResult};
 ghost use Rattle.std.specs.Option.{option_copied};
 ghost use Rattle.vd_layout.specs.Device.{IsStill};
-ghost use Rattle.vd_bus.specs.Orders.{IsData};
 ghost use Rattle.vd_bus.specs.Device.{IsAttach, IsRefused};
 ghost use Rattle.vd_models.specs.Holding.{journal_room};
-ghost use Rattle.vd_models.specs.Serving.{Holds, attached_of, is_done_of};
-ghost use Rattle.vd_models.specs.laws.Laws.{held_law, serves_law, done_law, armed_law, pace_law};
+ghost use Rattle.vd_models.specs.Phases.{Holds, attached_of, is_done_of, settings_of};
+ghost use Rattle.vd_models.specs.laws.Laws.{held_law, serves_law, commanded_law, done_law, armed_law, pace_law};
 ghost use Rattle.vd_models.specs.Faulty.{asked, was_refused, IsAround, RefusesNext, refusals};
 
 use crate::device::ModelDevice;
@@ -57,22 +56,24 @@ impl<L: Layout> Device<L> for FaultyDevice<L> {
       event_room = λ m. journal_room m.inner.phase m.inner.journal.events.room;
       chain_room = λ m. m.inner.journal.begun.room;
       settings = λ m. m.inner.settings;
+      attached_with = λ m. settings_of m.inner.phase m.inner.settings;
       faults = λ m. was_refused m.refusal.number m.left;
       window = λ m. m.inner.window;
       carried = λ m. m.refusal;
       attached = λ m. attached_of m.inner.phase;
-      holds = λ m w. Holds L.Device.device m.inner.phase m.inner.journal m.inner.counts w;
+      holds = λ m w. Holds L.Device.device m.inner.phase m.inner.journal m.inner.counts m.inner.settings w;
       is_done = λ m. is_done_of m.inner.phase ≡ true;
       accesses = λ m. m.inner.counts.accesses;
       heard = λ m. m.inner.counts.heard;
     } };
 
     ghost lawful = { record {
-      held = λ x w h. held_law L.Device.device x.inner.phase x.inner.journal x.inner.counts w h;
-      serves = λ x w a h is d. serves_law L.Device.device x.inner.phase x.inner.journal x.inner.counts w a h is;
-      done = λ x w a h is d. done_law L.Device.device L.Device.device_lawful x.inner.phase x.inner.journal x.inner.counts w a h is d;
-      armed = λ x w a h is. armed_law L.Device.device x.inner.phase x.inner.journal x.inner.counts w a h is;
-      pace = λ x w a h is. pace_law L.Device.device x.inner.phase x.inner.journal x.inner.counts w a h is;
+      held = λ x w h. held_law L.Device.device x.inner.phase x.inner.journal x.inner.counts x.inner.settings w h;
+      serves = λ x w a h is d. serves_law L.Device.device x.inner.phase x.inner.journal x.inner.counts x.inner.settings w a h is d;
+      commanded = λ x w a h is c. commanded_law L.Device.device x.inner.phase x.inner.journal x.inner.counts x.inner.settings w a h is c;
+      done = λ x w a h is d. done_law L.Device.device L.Device.device_lawful x.inner.phase x.inner.journal x.inner.counts x.inner.settings w a h is d;
+      armed = λ x w a h is. armed_law L.Device.device x.inner.phase x.inner.journal x.inner.counts x.inner.settings w a h is;
+      pace = λ x w a h is. pace_law L.Device.device x.inner.phase x.inner.journal x.inner.counts x.inner.settings w a h is;
       pace_free = λ x is. x.inner.paced is;
     } };
 
@@ -93,7 +94,6 @@ impl<L: Layout> Device<L> for FaultyDevice<L> {
         control: Option<&Self>,
     ) -> Result<(), Refused<L>>
         requires free { ⟦<FaultyDevice<L> as Device<L>>⟧.party.attached self.old ≡ None }
-        requires data { IsData order.now.queue }
         requires events { 2 ≤ ⟦<FaultyDevice<L> as Device<L>>⟧.party.event_room self.old }
         requires chains { order.now.count ≤ ⟦<FaultyDevice<L> as Device<L>>⟧.party.chain_room self.old }
         requires few { length (⟦<FaultyDevice<L> as Device<L>>⟧.party.begun self.old) + order.now.count < 2 ^ 32 }

@@ -1,13 +1,17 @@
 //! What a model device does with the end that it holds.
-ghost use Rattle.std.specs.Prelude.{◌≡◌};
+ghost use Rattle.std.specs.Prelude.{◌≡◌, Some, IsSome};
 ghost use Rattle.vd_layout.specs.Begun.{DeviceOp};
 ghost use Rattle.vd_models.specs.Stages.{taken_stage, given_stage, nothing_stage, woken_stage, waking_turn, is_done};
+ghost use Rattle.vd_models.specs.Phases.{attached_of, is_done_of, phase_at, session_of};
 ghost use Rattle.vd_models.specs.Serving.{CanBegin, Begins, CanServe, MakesTurn, state};
 
+use crate::commanding::Commanding;
 use crate::counts::Turn;
+use crate::hand::Hand;
 use crate::window::{Held, drop_next, next, note};
 use circular_buffer::HeapCircularBuffer;
 use vd_bus::{Attached, Entries};
+use vd_control::Settings;
 use vd_layout::{DeviceAct, DeviceEnd, Layout};
 use vd_model::Begun;
 use vd_words::Port;
@@ -41,12 +45,57 @@ pub struct Session<E> {
     pub held: HeapCircularBuffer<Held>,
 }
 
-/// What a device holds: between sessions the room for one, which is taken once, and while it is attached its session.
+/// What a device holds: between sessions the room for one, which is taken once, and while it is attached its session, on the control
+/// queue with the command in hand.
 #[derive(Drop)]
 pub enum Phase<E> {
     Unreserved,
     Free(HeapCircularBuffer<Held>),
     Serving(Session<E>),
+    Commanding(Commanding<E>),
+}
+
+impl<E> Phase<E> {
+    /// Whether an end is held, and rests.
+    pub fn is_done(&self) -> bool
+        ensures { result ≡ is_done_of self.now }
+    {
+        match self {
+            Phase::Serving(session) => session.stage.is_done(),
+            Phase::Commanding(commanding) => commanding.session.stage.is_done(),
+            _ => false,
+        }
+    }
+}
+
+/// The control queue's number.
+const CONTROL_QUEUE: u32 = 15;
+
+/// What is held from an attach on.
+pub(crate) fn phase_of<E>(session: Session<E>, settings: Settings) -> Phase<E>
+    ensures { result ≡ phase_at session settings }
+{
+    if session.by.queue == CONTROL_QUEUE {
+        Phase::Commanding(Commanding {
+            session,
+            hand: Hand::Free,
+            at_attach: settings,
+        })
+    } else {
+        Phase::Serving(session)
+    }
+}
+
+/// The session of a device that is attached.
+pub(crate) fn session_of<E: DeviceEnd>(phase: Phase<E>) -> Session<E>
+    requires { IsSome (attached_of phase) }
+    ensures { session_of phase ≡ Some result }
+{
+    match phase {
+        Phase::Serving(session) => session,
+        Phase::Commanding(commanding) => commanding.session,
+        _ => unreachable!(),
+    }
 }
 
 /// What comes after a take: once the window is full, or all chains are begun, they are given.
@@ -57,28 +106,28 @@ fn after_take(full: bool) -> Stage
 }
 
 /// What comes after a give.
-fn after_give(empty: bool) -> Stage
+pub(crate) fn after_give(empty: bool) -> Stage
     ensures { result ≡ given_stage empty }
 {
     if empty { Stage::Taking } else { Stage::Giving }
 }
 
 /// What comes after a look that showed no chain: those that are held are given, and where there is none it sleeps.
-fn after_nothing(empty: bool) -> Stage
+pub(crate) fn after_nothing(empty: bool) -> Stage
     ensures { result ≡ nothing_stage empty }
 {
     if empty { Stage::Arming } else { Stage::Giving }
 }
 
 /// What comes after Awake: the end is armed no longer, and takes.
-fn after_waking(armed: bool) -> Stage
+pub(crate) fn after_waking(armed: bool) -> Stage
     ensures { result ≡ woken_stage armed }
 {
     if armed { Stage::Hearing } else { Stage::Taking }
 }
 
 /// What Awake ended: a hearing, or an arming.
-fn waking(stage: Stage) -> Turn
+pub(crate) fn waking(stage: Stage) -> Turn
     ensures { result ≡ waking_turn stage }
 {
     match stage {
@@ -89,7 +138,7 @@ fn waking(stage: Stage) -> Turn
 
 /// Begins the next operation where none is in progress. `more` tells whether there are chains still to begin.
 #[inline]
-fn begin_next<L: Layout>(session: &mut Session<L::Device>, more: bool)
+pub(crate) fn begin_next<L: Layout>(session: &mut Session<L::Device>, more: bool)
     requires { CanBegin L.Device.device session.old more }
     ensures busy { ¬ (L.Device.device.begun session.new.end ≡ DeviceOp.idle) }
     ensures by { session.new.by ≡ session.old.by }

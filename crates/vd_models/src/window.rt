@@ -49,7 +49,7 @@ pub(crate) fn drop_next(held: &mut HeapCircularBuffer<Held>, in_order: bool)
 }
 
 /// Holds a chain more.
-fn hold(held: &mut HeapCircularBuffer<Held>, chain: Held)
+pub(crate) fn hold(held: &mut HeapCircularBuffer<Held>, chain: Held)
     requires { length held.old.items < held.old.capacity }
     ensures { held.new ≡ buffer (held.old.items ++ chain ∷ []) held.old.capacity }
 {

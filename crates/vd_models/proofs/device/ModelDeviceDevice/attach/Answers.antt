@@ -10,7 +10,9 @@ use Rattle.vd_models.specs.declared.serving.Session.{Session}
 use Rattle.vd_models.specs.declared.serving.Stage.TheVariants as stage
 use Rattle.vd_models.specs.declared.window.Held.{Held}
 use Rattle.vd_models.specs.Holding.{capacity_of}
-use Rattle.vd_models.proofs.Parties.{starts, begins_paid, attaches_more, ok_of, room_most, room_some, room_all}
+use Rattle.vd_models.specs.Phases.{phase_at}
+use Rattle.vd_models.proofs.Attaching.{attach_holds, at_attached, at_done, at_capacity, at_settings}
+use Rattle.vd_models.proofs.Parties.{attaches_more, ok_of, room_most, room_some, room_all}
 use Rattle.vd_models.proofs.device.ModelDeviceDevice.attach.Goals.{in-Some, in-None}
 use Rattle.vd_models.proofs.device.ModelDeviceDevice.attach.Goals as goal
 
@@ -53,22 +55,21 @@ returns g c =
           g.L.Driver.DriverEnd g.L.Device.DeviceEnd} (λ z. z.settings) (option_copied o)) w.in-None.is)
     ] in
     let more = attaches_more m.journal.events.items c.push.new.self.items _ c.push.ensures.items in
+    let p = c.phase_of.result in
+    let at : p ≡ phase_at session m.settings = c.phase_of.ensures in
     record {
       from = c.taken.result;
-      attached = cc (c.queue.ensures, c.count.ensures, c.len-at.ensures.value);
+      attached = at_attached session m.settings p at ∙ cc (c.queue.ensures, c.count.ensures, c.len-at.ensures.value);
       taken = λ w st. c.taken.ensures w (stands w st);
-      holds = λ w st fits. record {
-        serves = starts e law c.args.end session m.journal.begun w refl st c.requires.still (stands w st) idle
-            (ok_of c.resume.result _ ok c.resume.ensures.awake) c.len-at.ensures.value
-            (c.taken.ensures w (stands w st)) (ap (λ (z : Buffer Held). z.items) c.clear.ensures) (omega arith) (omega
-            (arith, c.count.ensures, c.requires.chains)) (omega
-            (arith, c.count.ensures, c.requires.few, c.len-at.ensures.value)) m.lens;
-        paid = begins_paid e law c.args.end session m.journal.begun w m.counts (attaches m.journal.events.items)
-            (attaches c.push.new.self.items) st c.requires.still idle c.len-at.ensures.value (c.taken.ensures w (stands w st)) more
-            (m.paced c.requires.free);
-        event = omega (arith, events, room_most m.phase m.journal.events.room, c.push.ensures.room);
-      };
-      live = λ d. cc;
+      holds = λ w st fits. attach_holds e law c.args.end session m.settings p c.push.new.self m.journal.begun m.counts w
+          (attaches m.journal.events.items) at refl st c.requires.still (stands w st) idle
+          (ok_of c.resume.result _ ok c.resume.ensures.awake) c.len-at.ensures.value
+          (c.taken.ensures w (stands w st)) (ap (λ (z : Buffer Held). z.items) c.clear.ensures) (omega arith) (omega
+          (arith, c.count.ensures, c.requires.chains)) (omega
+          (arith, c.count.ensures, c.requires.few, c.len-at.ensures.value)) m.lens
+          (omega (arith, events, room_most m.phase m.journal.events.room, c.push.ensures.room)) more (m.paced c.requires.free)
+          ((λ f. c.queue.ensures ∙ fits.0 f), λ q. fits.1 (sym c.queue.ensures ∙ q));
+      live = λ d. cc (sym (at_done session m.settings p at) ∙ d);
       noted = record {
         events = cc (
           c.push.ensures.items,
@@ -89,11 +90,12 @@ returns g c =
             arith,
             room_most m.phase m.journal.events.room,
             c.push.ensures.room,
-            room_all (phase.Serving session) c.push.new.self.room (omega arith),
+            room_all p c.push.new.self.room (omega (arith, at_capacity session m.settings p at)),
           ),
           omega arith,
         );
         counts = (refl, refl);
       };
       settings = refl;
+      attached_with = at_settings session m.settings p at;
     }
