@@ -90,7 +90,9 @@ pub attach_holds : {E : Type 0} (e : DeviceModel E) (law : IsLawfulDevice e) (en
     → KeepsPace c.accesses c.heard (length begun.items + length begun.items + c.heard + n)
     → (w.frame.control ≡ true) ↔ (s.by.queue ≡ 15) → Holds e p (record { events = events; begun = begun }) c settings w
 attach_holds e law end s settings p events begun c w n is taking stands still stands' idle awake at from none some room small lens roomy
-    more paced fits = by_queue (λ z. Holds e z (record { events = events; begun = begun }) c settings w) s settings p is
+    more paced fits =
+    let whole = law.whole end w stands still in
+    by_queue (λ z. Holds e z (record { events = events; begun = begun }) c settings w) s settings p is
     (λ control. record {
       commands = record {
         serves = starts e law end s (seen_begun begun Free) w taking stands still stands' idle awake (at ∙ sym (seen_length begun.items))
@@ -121,8 +123,6 @@ attach_holds e law end s settings p events begun c w n is taking stands still st
       event = roomy;
       for_data = data_queue;
     })
-  where
-    whole = law.whole end w stands still
 
 -- ---- a step
 
