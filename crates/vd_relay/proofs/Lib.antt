@@ -46,3 +46,4 @@ pub mod ReplayChains
 pub mod Replaying
 pub mod ReplayWords
 pub mod ReplayControl
+pub mod ControlAccesses

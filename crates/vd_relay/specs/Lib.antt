@@ -4,3 +4,5 @@ pub mod Stages
 pub mod Pace
 pub mod Relay
 pub mod Replays
+pub mod Accesses
+pub mod Carrying

@@ -2,7 +2,9 @@
 //! guest's ring what comes back on the second. Where neither ring has anything for it, it sleeps on both.
 #![tactic(auto)]
 
+mod accesses;
 mod begin;
+mod carried;
 mod counts;
 mod guest_side;
 mod relay;
@@ -12,6 +14,8 @@ mod stage;
 mod state;
 mod translate;
 
+pub use accesses::{acknowledge, load_ack, load_command, store_ack, store_first};
+pub use carried::{Carried, Rows, carried_of};
 pub use counts::{Counts, Turn};
 pub use relay::Relay;
 pub use replay::{Replay, ReplayStage};

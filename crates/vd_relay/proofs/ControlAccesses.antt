@@ -1,0 +1,106 @@
+-- The accesses of command and ack words of a relay are next, and leave its ends standing.
+use Rattle.std.proofs.Common.{◌≡◌, ℕ, ◌+◌, ◌<◌, ◌≤◌, sym, ◌∙◌, ap, subst, arith}
+use Rattle.vd_words.specs.declared.access.Access.TheVariants.{Load, Store}
+use Rattle.vd_words.specs.declared.access.Op.TheVariants.{Control}
+use Rattle.vd_words.specs.Model.{PortModel}
+use Rattle.vd_ring.specs.declared.device.DeviceNow.TheVariants as now
+use Rattle.vd_ring.specs.declared.device.DeviceView.{DeviceView}
+use Rattle.vd_ring.specs.declared.driver.DriverView.{DriverView}
+use Rattle.vd_ring.specs.History.{next_head, taken_head}
+use Rattle.vd_ring.specs.Control.{LoadsCommand, StoresAck, LoadsAck}
+use Rattle.vd_layout.specs.Driver.{DriverModel, IsLawfulDriver}
+use Rattle.vd_layout.specs.Device.{DeviceModel, IsLawfulDevice}
+use Rattle.vd_layout.specs.Layout.{LayoutModel, IsLawfulLayout}
+use Rattle.vd_relay.specs.Replays.{HasNext}
+use Rattle.vd_relay.specs.Accesses.{HasRunning, FindsCommand, FindsAck, LoadsWord, StoresAckWord, StoresWord, HasCollected, LoadsAckWord}
+use Rattle.vd_relay.proofs.ReplayWords.{is_idle, stores, may_store}
+
+module _ {P E : Type 0} (port : PortModel P) (e : DeviceModel E) (law : IsLawfulDevice e) (p q : P) (x : E) (w : DeviceView) where
+  doing_none : (number : ℕ) → HasRunning e x w number → w.doing ≡ now.Idle
+  doing_none number h = law.at_rest x w h.serves h.idle
+
+  abbrev pub commands : (number half place : ℕ) → FindsCommand e x w number half place
+      → LoadsCommand w.frame (e.words.command w.frame) w.done place
+  commands number half place h = record {
+    control = h.has.control;
+    number = number;
+    runs = h.has.runs;
+    inside = (law.runs x w h.has.serves).inside number h.has.runs;
+    half = half;
+    two = h.two;
+    place = h.placed;
+  }
+
+  pub may_load_command : (number half place : ℕ) → FindsCommand e x w number half place → e.side.next w Control (Load place)
+  may_load_command number half place h =
+      (law.controls.loads w place).1 (doing_none number h.has, commands number half place h)
+
+  pub loads_command : (number half place got : ℕ) → FindsCommand e x w number half place → port.moves p Control (Load place) got q
+      → LoadsWord port e p q x w number half place got
+  loads_command number half place got h moved =
+      let next = may_load_command number half place h in
+      record {
+        was_next = next;
+        moved = moved;
+        after = law.controls.loaded w place got (doing_none number h.has) (commands number half place h)
+            ((law.runs x w h.has.serves).apart number h.has.runs);
+        stands = law.control x w (Load place) got h.has.serves next;
+      }
+
+  abbrev pub acks : (number place : ℕ) → FindsAck e x w number place → StoresAck w.frame (e.words.ack w.frame) w.done place
+  acks number place h = record {
+    control = h.has.control;
+    number = number;
+    runs = h.has.runs;
+    inside = (law.runs x w h.has.serves).inside number h.has.runs;
+    place = h.placed;
+  }
+
+  pub may_store_ack : (number place ack : ℕ) → FindsAck e x w number place → e.side.next w Control (Store place ack)
+  may_store_ack number place ack h = (law.controls.stores w place ack).1 (doing_none number h.has, acks number place h)
+
+  pub stores_ack : (number place ack got : ℕ) → FindsAck e x w number place → port.moves p Control (Store place ack) got q
+      → StoresAckWord port e p q x w number place ack
+  stores_ack number place ack got h moved =
+      let next = may_store_ack number place ack h in
+      record {
+        got = got;
+        was_next = next;
+        moved = moved;
+        after = law.controls.stored w place ack got (doing_none number h.has) (acks number place h);
+        stands = law.control x w (Store place ack) got h.has.serves next;
+      }
+
+module _ {Q D E : Type 0} (port : PortModel Q) (l : LayoutModel) (d : DriverModel D) (e : DeviceModel E) (lay : IsLawfulLayout d e l)
+    (p q : Q) (x : D) (v : DriverView) where
+  pub stores_first : (place word got : ℕ) → HasNext l d x v → place ≡ d.words.command v.frame (next_head v.frame v.done)
+      → port.moves p Control (Store place word) got q → StoresWord port d p q x v 0 place word
+  stores_first place word got h is moved =
+      let here : place ≡ d.words.command v.frame (next_head v.frame v.done) + 0 = omega (arith, is) in
+      let next = may_store l d e lay x v h 0 place word (omega arith) here in
+      record {
+        got = got;
+        was_next = next;
+        moved = moved;
+        after = lay.driver_end.controls.stored v place word got (is_idle l d e lay x v h) (stores l d e lay x v h 0 place (omega arith) here);
+        stands = lay.driver_end.control x v (Store place word) got h.drives next;
+      }
+
+  abbrev pub collected_ack : (k h : ℕ) → HasCollected l d x v k h → LoadsAck v.frame (d.words.ack v.frame) v.done (d.words.ack v.frame h)
+  collected_ack k h c = record { control = c.ring.control; number = k; last = c.last; place = ap (d.words.ack v.frame) c.is_head }
+
+  pub may_load_ack : (k h : ℕ) → HasCollected l d x v k h → d.side.next v Control (Load (d.words.ack v.frame h))
+  may_load_ack k h c = (lay.driver_end.controls.loads v (d.words.ack v.frame h)).1
+      (lay.driver_end.at_rest x v c.drives c.idle, collected_ack k h c)
+
+  pub loads_ack : (k h place got : ℕ) → HasCollected l d x v k h → place ≡ d.words.ack v.frame h
+      → port.moves p Control (Load place) got q → LoadsAckWord port d p q x v k h got
+  loads_ack k h place got c is moved =
+      let next = may_load_ack k h c in
+      record {
+        was_next = next;
+        moved = subst (λ (z : ℕ). port.moves p Control (Load z) got q) is moved;
+        after = lay.driver_end.controls.loaded v (d.words.ack v.frame h) got (lay.driver_end.at_rest x v c.drives c.idle)
+            (collected_ack k h c);
+        stands = lay.driver_end.control x v (Load (d.words.ack v.frame h)) got c.drives next;
+      }
