@@ -11,3 +11,4 @@ pub mod Bus
 pub mod BusStatus
 pub mod BusRings
 pub mod BusMap
+pub mod laws

@@ -1,11 +1,7 @@
 -- What an attach, a step and a suspension do to what a model device holds, whatever its queue.
-use Rattle.std.proofs.Common.{◌≡◌, ◌↔◌, ℕ, ◌+◌, ◌-◌, ◌*◌, ◌<◌, ◌≤◌, ◌==◌, Bool, true, false, Option, Some, None, List, [], ◌∷◌, ◌++◌, length, map, drop, fold, if◌then◌else◌, refl, sym, ◌∙◌, ap, subst, arith, inl, inr}
+use Rattle.std.proofs.Common.{◌≡◌, ◌↔◌, ℕ, ◌+◌, ◌-◌, ◌*◌, ◌<◌, ◌≤◌, ◌==◌, Bool, true, false, Option, Some, None, List, [], ◌∷◌, ◌++◌, length, map, drop, if◌then◌else◌, refl, sym, ◌∙◌, ap, subst, arith, inl, inr}
 use Rattle.std.proofs.lemmas.Bool.{cases_eq, eq-eqb, ne_eqb}
-use Rattle.std.specs.List.{filter_map}
-use Rattle.std.proofs.lemmas.List.{drop_all, drop_at, drop-append-le, append-nil, map-append}
-use Rattle.std.proofs.lemmas.List.Elements.{filter_map-append}
-use Rattle.std.proofs.lemmas.List.Sums.{fold-append}
-use mathlib.Core.List.{IsPrefix}
+use Rattle.std.proofs.lemmas.List.{drop_all, append-nil}
 use Rattle.vd_model.specs.declared.record.Begun.{Begun}
 use Rattle.vd_words.specs.Model.{PortModel}
 use Rattle.vd_ring.specs.declared.device.DeviceView.{DeviceView}
@@ -17,9 +13,7 @@ use Rattle.vd_bus.specs.declared.device.Attached.{Attached}
 use Rattle.vd_bus.specs.declared.event.Event.{Event}
 use Rattle.vd_bus.specs.declared.journal.Journal.{Journal}
 use Rattle.vd_bus.specs.Device.{chains_of, gave, lens_of}
-use Rattle.vd_control.specs.Commands.{command}
-use Rattle.vd_control.specs.Settings.{applied}
-use Rattle.vd_bus.specs.DeviceCommands.{commands_of, set_since}
+use Rattle.vd_bus.specs.DeviceCommands.{commands_of}
 use Rattle.vd_bus.specs.Entries.{Reserved}
 use Rattle.vd_bus.specs.Pace.{last_count, raised, attaches, KeepsPace}
 use Rattle.vd_commands.specs.Words.{set_by}
@@ -192,26 +186,6 @@ held_room e phase.Unreserved j c now w h = absurd h
 held_room e (phase.Free b) j c now w h = absurd h
 held_room e (phase.Serving t) j c now w h = h.event
 held_room e (phase.Commanding k) j c now w h = h.event
-
--- ---- the settings
-
-commands_more : (xs ys : List Begun) → commands_of (xs ++ ys) ≡ commands_of xs ++ commands_of ys
-commands_more xs ys = map-append (λ (b : Begun). b.bytes.items) xs ys
-
-set_more : (s : Settings) (xs ys : List Begun) → set_by s (commands_of (xs ++ ys)) ≡ set_by (set_by s (commands_of xs)) (commands_of ys)
-set_more s xs ys = ap (λ z. fold applied s (filter_map command z)) (commands_more xs ys)
-    ∙ ap (fold applied s) (filter_map-append command (commands_of xs) (commands_of ys))
-    ∙ fold-append applied s (filter_map command (commands_of xs)) (filter_map command (commands_of ys))
-
--- what was set since the attach, by what was set before and by what was begun since
-pub set_through : (at : ℕ) (bs bs' : List Begun) (first old new : Settings) → at ≤ length bs → IsPrefix bs bs'
-    → old ≡ set_since at bs first → new ≡ set_since (length bs) bs' old → new ≡ set_since at bs' first
-set_through at bs bs' first old new low prefix before after =
-    let ys : List Begun = prefix.0 in
-    let rest : drop (length bs) bs' ≡ ys = ap (drop (length bs)) (sym prefix.1) ∙ drop_at bs ys (length bs) refl in
-    let whole : drop at bs' ≡ drop at bs ++ ys = ap (drop at) (sym prefix.1) ∙ drop-append-le at bs ys low in
-    after ∙ ap (λ (z : List Begun). set_by old (commands_of z)) rest ∙ ap (λ z. set_by z (commands_of ys)) before
-    ∙ sym (set_more first (drop at bs) ys) ∙ ap (λ (z : List Begun). set_by first (commands_of z)) (sym whole)
 
 -- ---- the journal's lengths
 

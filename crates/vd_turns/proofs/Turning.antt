@@ -1,6 +1,7 @@
 -- Steps and turns on plain words.
-use Rattle.std.proofs.Common.{◌≡◌, inl, inr, ℕ, ◌+◌, ◌≤◌, List, [], ◌++◌, refl, sym, ◌∙◌, ap, subst, arith}
+use Rattle.std.proofs.Common.{◌≡◌, inl, inr, ℕ, ◌+◌, ◌≤◌, List, [], ◌++◌, length, refl, sym, ◌∙◌, ap, subst, arith}
 use Rattle.std.proofs.lemmas.List.{append-nil, append_assoc}
+use Rattle.std.proofs.Math.ListN.{length-append}
 use Rattle.vd_words.specs.Model.{PortModel, IsLawfulPort}
 use Rattle.vd_words.specs.Step.{answered, written}
 use Rattle.vd_ring.specs.declared.act.DriverAct.TheVariants as driver_act
@@ -18,6 +19,7 @@ use mathlib.Core.List.{IsPrefix}
 use Rattle.vd_ring.specs.History.{offers, collects, takes, gives}
 use Rattle.vd_bus.specs.Device.{DeviceParty, IsServed, HasServed, IsDeviceAccess}
 use Rattle.vd_bus.specs.Guest.{GuestParty, HasDriven, IsGuestAccess}
+use Rattle.vd_bus.specs.laws.Settings.{set_none, set_through}
 use Rattle.vd_bus.specs.Pace.{last_count, raised, worked}
 use Rattle.vd_turns.specs.Turns.{GuestOn, GuestStepped, GuestRun, GuestWay, GuestTurn, DeviceOn, DeviceStepped, DeviceRun, DeviceWay, DeviceTurn}
 
@@ -117,6 +119,9 @@ device_same l m ws us v w x y answer is s = subst (λ (zs : List ℕ). DeviceSte
 
 prefix_same : {A : Type 0} (xs : List A) → IsPrefix xs xs
 prefix_same xs = ([], append-nil xs)
+
+prefix_low : {A : Type 0} (xs ys : List A) → IsPrefix xs ys → length xs ≤ length ys
+prefix_low xs ys p = subst (λ (z : List A). length xs ≤ length z) p.1 (omega (arith, length-append xs p.0))
 
 prefix_through : {A : Type 0} (xs ys zs : List A) → IsPrefix xs ys → IsPrefix ys zs → IsPrefix xs zs
 prefix_through xs ys zs p q = (p.0 ++ q.0, sym (append_assoc xs p.0 q.0) ∙ ap (λ us. us ++ q.0) p.1 ∙ q.1)
@@ -220,6 +225,8 @@ module _ {X C : Type 0} (l : LayoutModel) (m : DeviceParty X C) (v : DriverView)
     events = refl;
     grows = prefix_same (m.begun x);
     settings = λ by is for. refl;
+    set = λ by is for. set_none (m.begun x) (m.settings x);
+    attached_with = refl;
     faults = refl;
     window = refl;
     carried = refl;
@@ -232,6 +239,9 @@ module _ {X C : Type 0} (l : LayoutModel) (m : DeviceParty X C) (v : DriverView)
     events = b.events ∙ a.events;
     grows = prefix_through (m.begun x) (m.begun y) (m.begun z) a.grows b.grows;
     settings = λ by is for. b.settings by (a.attached ∙ is) for ∙ a.settings by is for;
+    set = λ by is for. set_through (length (m.begun x)) (m.begun y) (m.begun z) (m.settings x) (m.settings y) (m.settings z)
+    (prefix_low (m.begun x) (m.begun y) a.grows) b.grows (a.set by is for) (b.set by (a.attached ∙ is) for);
+    attached_with = b.attached_with ∙ a.attached_with;
     faults = b.faults ∙ a.faults;
     window = b.window ∙ a.window;
     carried = b.carried ∙ a.carried;

@@ -4,12 +4,13 @@ use Rattle.vd_bus.specs.declared.device.Attached.{Attached}
 use Rattle.vd_bus.specs.DeviceCommands.{set_since}
 use Rattle.vd_bus.specs.Orders.{IsData, IsControl}
 use Rattle.vd_bus.specs.Pace.{raised, attaches}
+use Rattle.vd_bus.specs.laws.Settings.{set_through}
 use Rattle.vd_models.specs.declared.serving.Phase.TheVariants as phase
 use Rattle.vd_models.specs.declared.serving.Phase.{Phase}
 use Rattle.vd_models.specs.Holding.{capacity_of}
 use Rattle.vd_models.specs.Phases.{attached_of, is_done_of, settings_of}
 use Rattle.vd_models.specs.Serving.{state}
-use Rattle.vd_models.proofs.Attaching.{opened_commands, command_pays, seen_lawful, set_through}
+use Rattle.vd_models.proofs.Attaching.{opened_commands, command_pays, seen_lawful}
 use Rattle.vd_models.proofs.Parties.{opened, still_live, not_done, finished_at, looked_at, counted_at, pays, room_most, room_all}
 use Rattle.vd_models.proofs.Stages.{window_some}
 use Rattle.vd_models.proofs.device.ModelDeviceDevice.step.Goals as goal
