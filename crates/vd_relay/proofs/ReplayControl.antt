@@ -1,23 +1,20 @@
 -- A replay's accesses of command and ack words.
-use Rattle.std.proofs.Common.{◌≡◌, ℕ, ◌+◌, ◌*◌, ◌<◌, ◌≤◌, Bool, true, false, Some, None, List, [], ◌∷◌, length, refl, sym, ◌∙◌, ap, subst, arith, if◌then◌else◌}
+use Rattle.std.proofs.Common.{◌≡◌, ℕ, ◌+◌, ◌<◌, ◌≤◌, Bool, true, false, Some, None, List, [], ◌∷◌, length, refl, sym, ◌∙◌, ap, subst, arith, if◌then◌else◌}
 use Rattle.std.specs.Prelude.{slice_get, slice_set}
 use Rattle.std.specs.List.{sum_by}
 use Rattle.std.proofs.lemmas.Bool.{le-ltb}
-use Rattle.vd_model.specs.declared.chain.Piece.{Piece}
 use Rattle.vd_model.specs.declared.features.Features.{Features}
 use Rattle.vd_model.specs.Chains.{IsChain, needs, readable, total}
 use Rattle.vd_words.specs.declared.access.Access.{Access}
 use Rattle.vd_words.specs.declared.access.Access.TheVariants.{Load, Store}
 use Rattle.vd_words.specs.declared.access.Op.TheVariants as op
 use Rattle.vd_words.specs.Model.{PortModel}
-use Rattle.vd_ring.specs.declared.act.DriverAct.TheVariants as act
 use Rattle.vd_ring.specs.declared.frame.Frame.{Frame}
-use Rattle.vd_model.specs.declared.map.Mapping.{Mapping}
 use Rattle.vd_ring.specs.declared.driver.DriverDone.{DriverDone}
 use Rattle.vd_ring.specs.declared.driver.DriverDone.TheVariants.{StoreCommand, LoadAck}
 use Rattle.vd_ring.specs.declared.driver.DriverView.{DriverView}
-use Rattle.vd_ring.specs.Frames.{Fits, AreInBounds, borrowed, limit}
-use Rattle.vd_ring.specs.History.{offers, collects, open_at, open_size, chain, next_head}
+use Rattle.vd_ring.specs.Frames.{AreInBounds, borrowed, limit}
+use Rattle.vd_ring.specs.History.{offers, collects, open_size, chain, next_head}
 use Rattle.vd_ring.proofs.ListSteps.{some_same}
 use Rattle.vd_ring.specs.Control.{LoadsAck}
 use Rattle.vd_layout.specs.Begun.{DriverOp}
@@ -29,7 +26,7 @@ use Rattle.vd_control.specs.Commands.{spelled}
 use Rattle.vd_control.specs.declared.settings.Settings.{Settings}
 use Rattle.vd_control.specs.Settings.{HasPairs, replay}
 use Rattle.vd_commands.specs.Words.{command_word}
-use Rattle.vd_relay.specs.declared.counts.Turn.TheVariants.{Worked, Slept}
+use Rattle.vd_relay.specs.declared.counts.Turn.TheVariants.{Worked}
 use Rattle.vd_relay.specs.declared.stage.Stage.TheVariants as stage
 use Rattle.vd_relay.specs.declared.replay.Replay.{Replay}
 use Rattle.vd_relay.specs.declared.replay.ReplayStage.{ReplayStage}

@@ -1,6 +1,6 @@
 -- The stages of a replay: which goes with which operation of the shadow end, and what it owes there.
-use Rattle.std.proofs.Common.{◌≡◌, ℕ, Bool, true, false, Some, List, [], ◌∷◌, if◌then◌else◌, refl, sym, subst, inl, inr}
-use Rattle.std.specs.Prelude.{nat_lt, ◌<◌, ◌≤◌, slice_get}
+use Rattle.std.proofs.Common.{◌≡◌, ℕ, Bool, true, false, List, [], ◌∷◌, if◌then◌else◌, refl, sym, subst, inl, inr}
+use Rattle.std.specs.Prelude.{nat_lt, ◌<◌, ◌≤◌}
 use Rattle.std.proofs.lemmas.Bool.{ltb-true, ltb-false}
 use Rattle.vd_model.specs.declared.chain.Piece.{Piece}
 use Rattle.vd_ring.specs.declared.driver.DriverView.{DriverView}

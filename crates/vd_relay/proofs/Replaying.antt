@@ -14,35 +14,32 @@ use Rattle.vd_ring.specs.declared.act.DriverAct.TheVariants as act
 use Rattle.vd_ring.specs.declared.frame.Frame.{Frame}
 use Rattle.vd_ring.specs.declared.driver.DriverDone.{DriverDone}
 use Rattle.vd_ring.specs.declared.driver.DriverDone.TheVariants.{Offer, Collect}
-use Rattle.vd_ring.specs.declared.driver.DriverNow.TheVariants as now
 use Rattle.vd_ring.specs.declared.driver.DriverView.{DriverView}
 use Rattle.vd_ring.specs.History.{entry, offers, collects, open_at, head, occurs}
-use Rattle.vd_ring.specs.Control.{last_collected}
-use Rattle.vd_ring.specs.Looks.{DriverGoes}
 use Rattle.vd_ring.specs.Sleep.{driver_woken}
 use Rattle.vd_ring.proofs.Counts.{occurs_from}
 use Rattle.vd_ring.proofs.HeldPlaces.{head_inside}
 use Rattle.vd_layout.proofs.OnePair.{CollectedOne, says_collected}
-use Rattle.vd_layout.specs.Begun.{DriverOp, DriverPublished, MayWake, IsDriverOp}
+use Rattle.vd_layout.specs.Begun.{DriverOp, DriverPublished, IsDriverOp}
 use Rattle.vd_layout.specs.Driver.{DriverModel, IsLawfulDriver, IsDriverStep}
 use Rattle.vd_layout.specs.Layout.{LayoutModel}
 use Rattle.vd_control.specs.declared.command.Command.{Command}
 use Rattle.vd_control.specs.Commands.{spelled}
 use Rattle.vd_control.specs.Settings.{replay}
 use Rattle.vd_relay.specs.declared.counts.Turn.{Turn}
-use Rattle.vd_relay.specs.declared.counts.Turn.TheVariants.{Worked, Handled, Woke, Slept, Again}
+use Rattle.vd_relay.specs.declared.counts.Turn.TheVariants.{Worked, Handled, Slept, Again}
 use Rattle.vd_relay.specs.declared.stage.Stage.TheVariants as stage
 use Rattle.vd_relay.specs.declared.replay.Replay.{Replay}
 use Rattle.vd_relay.specs.declared.replay.ReplayStage.{ReplayStage}
-use Rattle.vd_relay.specs.declared.replay.ReplayStage.TheVariants.{Offering, Collecting, Loading, Arming, Hearing, Disarming}
-use Rattle.vd_relay.specs.Pace.{counted, handled, woke, shadow_owes, shadow_hears, collect_owes, collecting_owes, hear_owes}
-use Rattle.vd_relay.specs.Stages.{IsSome, ShadowIs, ShadowArmed, ShadowArms, ShadowHears, ShadowShown}
-use Rattle.vd_relay.specs.Replays.{is_control, as_stage, replay_owes, replay_waking, IsShadowRing, IsAt, OffersIt, Replays, ReplayTurn}
+use Rattle.vd_relay.specs.declared.replay.ReplayStage.TheVariants.{Offering, Collecting, Loading, Arming, Disarming}
+use Rattle.vd_relay.specs.Pace.{counted, handled, woke, shadow_owes, collect_owes, collecting_owes}
+use Rattle.vd_relay.specs.Stages.{ShadowIs, ShadowArmed, ShadowShown}
+use Rattle.vd_relay.specs.Replays.{is_control, as_stage, replay_owes, IsShadowRing, IsAt, OffersIt, Replays, ReplayTurn}
 use Rattle.vd_relay.proofs.ShadowGoing.{went, collect_most}
 use Rattle.vd_relay.proofs.ShadowTurns.{not_woken}
 use Rattle.vd_relay.proofs.Turns.{worked_only, handled_only}
 use Rattle.vd_relay.proofs.DriverGoing.{going}
-use Rattle.vd_relay.proofs.ReplayStages.{owes_at, at_offering, at_collecting, at_arming, at_hearing, at_disarming, hand_of, offers_own, offer_goes}
+use Rattle.vd_relay.proofs.ReplayStages.{owes_at, at_offering, at_collecting, hand_of, offers_own, offer_goes}
 use Rattle.vd_relay.proofs.ReplayChains.{Sent, moved_to, carried_offered, awaits_offered, is_number, between_collected, carried_collected}
 
 abbrev pub to_stage : Replay → ReplayStage → Replay

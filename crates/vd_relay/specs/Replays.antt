@@ -1,6 +1,6 @@
 -- A replay on a fresh shadow ring of a control queue: the commands of a list, one after the other, each offered, collected and its ack
 -- loaded before the next. Lists of acts have the newest first.
-use Rattle.std.specs.Prelude.{◌≡◌, ◌↔◌, ◌⊎◌, ℕ, ◌+◌, ◌*◌, ◌<◌, ◌≤◌, Bool, true, false, Option, Some, None, IsSome, List, [], ◌∷◌, length, slice_get, nat_lt, if◌then◌else◌}
+use Rattle.std.specs.Prelude.{◌≡◌, ◌↔◌, ◌⊎◌, ℕ, ◌+◌, ◌*◌, ◌<◌, ◌≤◌, Bool, true, false, Some, None, IsSome, List, [], ◌∷◌, length, slice_get, nat_lt, if◌then◌else◌}
 use Rattle.vd_model.specs.declared.chain.Piece.{Piece}
 use Rattle.vd_model.specs.Chains.{readable}
 use Rattle.vd_words.specs.declared.access.Access.{Access}
