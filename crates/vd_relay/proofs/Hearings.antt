@@ -1,6 +1,5 @@
 -- What goes with a hearing: its stage, and the operation before and after an access that ends none.
-use Rattle.std.proofs.Common.{◌≡◌, ◌⊎◌, true, false, refl, sym, inl, inr}
-use Rattle.std.specs.Prelude.{List}
+use Rattle.std.proofs.Common.{◌≡◌, ◌⊎◌, true, false, refl, inl, inr}
 use Rattle.vd_words.specs.declared.access.Op.{Op}
 use Rattle.vd_layout.specs.Begun.{DriverOp, DeviceOp, DriverGoesOn, DeviceGoesOn, IsDriverOp, IsDeviceOp}
 use Rattle.vd_relay.specs.declared.stage.Stage.{Stage}

@@ -44,6 +44,7 @@ pub mod Begins
 pub mod ReplayStages
 pub mod ReplayChains
 pub mod Replaying
+pub mod ReplayWaking
 pub mod ReplayWords
 pub mod ReplayControl
 pub mod ControlAccesses

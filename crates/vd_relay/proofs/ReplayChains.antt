@@ -1,5 +1,5 @@
 -- What the acts of a replay leave of the chains that it sent.
-use Rattle.std.proofs.Common.{◌≡◌, ℕ, ◌+◌, ◌<◌, ◌≤◌, true, Some, List, [], ◌∷◌, ◌++◌, length, refl, sym, ◌∙◌, ap, subst, arith, inl, inr, IsSome}
+use Rattle.std.proofs.Common.{◌≡◌, ℕ, ◌+◌, ◌≤◌, Some, List, [], ◌∷◌, ◌++◌, length, refl, sym, ◌∙◌, ap, subst, arith, inl, inr}
 use Rattle.std.specs.Prelude.{slice_get}
 use Rattle.std.proofs.lemmas.Bool.{cases_eq, cases_lt, eq-eqb, ne_eqb}
 use Rattle.std.proofs.Math.ListN.{length-append}
@@ -8,13 +8,12 @@ use Rattle.vd_model.specs.Chains.{readable}
 use Rattle.vd_ring.specs.declared.frame.Frame.{Frame}
 use Rattle.vd_ring.specs.declared.driver.DriverDone.{DriverDone}
 use Rattle.vd_ring.specs.declared.driver.DriverDone.TheVariants.{Offer, Collect, StoreCommand, LoadAck}
-use Rattle.vd_ring.specs.History.{entry, offers, collects, open_at, chain, next_head, occurs, without}
+use Rattle.vd_ring.specs.History.{entry, offers, collects, open_at, chain, occurs, without}
 use Rattle.vd_ring.specs.Control.{last_command}
 use Rattle.vd_ring.proofs.HeldPlaces.{chain_before, chain_new}
 use Rattle.vd_control.specs.declared.command.Command.{Command}
 use Rattle.vd_control.specs.declared.command.Command.TheVariants.{Rx, Mac, VlanAdd, VlanDel, Pairs, Offloads}
 use Rattle.vd_control.specs.Commands.{IsCommand, spelled}
-use Rattle.vd_commands.specs.Loads.{ack_load}
 use Rattle.vd_relay.specs.declared.replay.ReplayStage.{ReplayStage}
 use Rattle.vd_relay.specs.Replays.{AreCarried, AreAcked, IsBetween, Awaits, IsStored, IsAt}
 

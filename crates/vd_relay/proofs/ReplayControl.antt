@@ -1,23 +1,20 @@
 -- A replay's accesses of command and ack words.
-use Rattle.std.proofs.Common.{◌≡◌, ℕ, ◌+◌, ◌*◌, ◌<◌, ◌≤◌, Bool, true, false, Some, None, List, [], ◌∷◌, length, refl, sym, ◌∙◌, ap, subst, arith, if◌then◌else◌}
+use Rattle.std.proofs.Common.{◌≡◌, ℕ, ◌+◌, ◌<◌, ◌≤◌, Bool, true, false, Some, None, List, [], ◌∷◌, length, refl, sym, ◌∙◌, ap, subst, arith, if◌then◌else◌}
 use Rattle.std.specs.Prelude.{slice_get, slice_set}
 use Rattle.std.specs.List.{sum_by}
 use Rattle.std.proofs.lemmas.Bool.{le-ltb}
-use Rattle.vd_model.specs.declared.chain.Piece.{Piece}
 use Rattle.vd_model.specs.declared.features.Features.{Features}
 use Rattle.vd_model.specs.Chains.{IsChain, needs, readable, total}
 use Rattle.vd_words.specs.declared.access.Access.{Access}
 use Rattle.vd_words.specs.declared.access.Access.TheVariants.{Load, Store}
 use Rattle.vd_words.specs.declared.access.Op.TheVariants as op
 use Rattle.vd_words.specs.Model.{PortModel}
-use Rattle.vd_ring.specs.declared.act.DriverAct.TheVariants as act
 use Rattle.vd_ring.specs.declared.frame.Frame.{Frame}
-use Rattle.vd_model.specs.declared.map.Mapping.{Mapping}
 use Rattle.vd_ring.specs.declared.driver.DriverDone.{DriverDone}
 use Rattle.vd_ring.specs.declared.driver.DriverDone.TheVariants.{StoreCommand, LoadAck}
 use Rattle.vd_ring.specs.declared.driver.DriverView.{DriverView}
-use Rattle.vd_ring.specs.Frames.{Fits, AreInBounds, borrowed, limit}
-use Rattle.vd_ring.specs.History.{offers, collects, open_at, open_size, chain, next_head}
+use Rattle.vd_ring.specs.Frames.{AreInBounds, borrowed, limit}
+use Rattle.vd_ring.specs.History.{offers, collects, open_size, chain, next_head}
 use Rattle.vd_ring.proofs.ListSteps.{some_same}
 use Rattle.vd_ring.specs.Control.{LoadsAck}
 use Rattle.vd_layout.specs.Begun.{DriverOp}
@@ -29,11 +26,11 @@ use Rattle.vd_control.specs.Commands.{spelled}
 use Rattle.vd_control.specs.declared.settings.Settings.{Settings}
 use Rattle.vd_control.specs.Settings.{HasPairs, replay}
 use Rattle.vd_commands.specs.Words.{command_word}
-use Rattle.vd_relay.specs.declared.counts.Turn.TheVariants.{Worked, Slept}
+use Rattle.vd_relay.specs.declared.counts.Turn.TheVariants.{Worked}
 use Rattle.vd_relay.specs.declared.stage.Stage.TheVariants as stage
 use Rattle.vd_relay.specs.declared.replay.Replay.{Replay}
 use Rattle.vd_relay.specs.declared.replay.ReplayStage.{ReplayStage}
-use Rattle.vd_relay.specs.declared.replay.ReplayStage.TheVariants.{First, Second, Offering, Loading, Done}
+use Rattle.vd_relay.specs.declared.replay.ReplayStage.TheVariants.{First, Second, Offering, Loading, Disarming, Done}
 use Rattle.vd_relay.specs.Pace.{shadow_owes}
 use Rattle.vd_relay.specs.Stages.{ShadowIs, ShadowArmed, ShadowShown}
 use Rattle.vd_relay.specs.Replays.{as_stage, replay_owes, after_ack, control_chain, IsShadowRing, IsFreshShadow, HasNext, AreCarried, IsBetween, IsAt, OffersIt, Replays, ReplayTurn}
@@ -45,7 +42,14 @@ use Rattle.vd_relay.proofs.Replaying.{to_stage}
 
 -- where a command more was acknowledged
 abbrev pub to_next : Replay → ReplayStage → Replay
-to_next r st = record { settings = r.settings; count = r.count; next = r.next + 1; stage = st }
+to_next r st = record {
+  settings = r.settings;
+  count = r.count;
+  next = r.next + 1;
+  stage = st;
+  winding = r.winding;
+  target = r.target;
+}
 
 shadow_limit : (g : Frame) → 16 ≤ g.ring → limit g ≡ 4294967295
 shadow_limit g high = ap {B = ℕ} (λ (b : Bool). if b then 4000000000 else 4294967295) (le-ltb g.ring 16 high)
@@ -111,7 +115,7 @@ module _ {Q D E : Type 0} (port : PortModel Q) (l : LayoutModel) (d : DriverMode
   control_turn : (r' : Replay) (x' : D) (a : Access) (got : ℕ) (u : DriverView) → d.side.next v op.Control a → port.moves p op.Control a got q
       → d.side.after v op.Control a got ≡ u → length (offers u.done) ≡ length (offers v.done)
       → length (collects u.done) ≡ length (collects v.done) → Replays l d r' x' u
-      → replay_owes d r'.stage x' u + 1 ≤ replay_owes d r.stage x v → ReplayTurn port l d p q r r' x x' v Worked
+      → replay_owes d r'.winding r'.stage x' u + 1 ≤ replay_owes d r.winding r.stage x v → ReplayTurn port l d p q r r' x x' v Worked
   control_turn r' x' a got u next moved is offered collected replays paid = record {
     op = op.Control;
     access = a;
@@ -127,8 +131,12 @@ module _ {Q D E : Type 0} (port : PortModel Q) (l : LayoutModel) (d : DriverMode
       collected,
     );
     slept = ((λ z. absurd (cc z)), λ z. absurd (cc ((lay.driver_end.looks.asleep v op.Control a got next).0 z).0));
+    again = (
+      (λ z. absurd (cc z)),
+      λ z. absurd (cc ((lay.driver_end.looks.nothing v op.Control a got next).0 z.0).0),
+    );
     woke = refl;
-    paid = omega (arith, paid, ap (λ (z : DriverView). replay_owes d r'.stage x' z) is);
+    paid = omega (arith, paid, ap (λ (z : DriverView). replay_owes d r'.winding r'.stage x' z) is);
   }
 
   -- ---- the first word
@@ -163,7 +171,8 @@ module _ {Q D E : Type 0} (port : PortModel Q) (l : LayoutModel) (d : DriverMode
         offer = h.offer;
         armed = unarmed_at First is refl;
         shown = h.shown;
-      }) (omega (arith, ap (λ (z : ReplayStage). replay_owes d z x v) is))
+        disarms = λ z. absurd (cc z);
+      }) (omega (arith, ap (λ (z : ReplayStage). replay_owes d r.winding z x v) is))
 
   -- ---- the second, and the offer
 
@@ -240,11 +249,12 @@ module _ {Q D E : Type 0} (port : PortModel Q) (l : LayoutModel) (d : DriverMode
         offer = subst (λ o. OffersIt o cs r.next) (sym begun) (λ a got_a. readable_control (d.words.command v.frame q0) (d.words.ack v.frame q0) len ∙ sized a got_a);
         armed = unarmed_at Second is refl;
         shown = subst (λ o. ShadowShown o v.doing v.shown (d.left x')) (sym begun) tt;
+        disarms = λ z. absurd (cc z);
       }) (omega (
         arith,
         few,
-        ap (λ (z : ReplayStage). replay_owes d z x v) is,
-        ap (λ o. shadow_owes false (stage.Offering 0 0) o v.doing false v.shown (d.left x')) begun,
+        ap (λ (z : ReplayStage). replay_owes d r.winding z x v) is,
+        ap (λ o. shadow_owes r.winding (stage.Offering 0 0) o v.doing false v.shown (d.left x')) begun,
       ))
 
   -- ---- the ack
@@ -263,10 +273,10 @@ module _ {Q D E : Type 0} (port : PortModel Q) (l : LayoutModel) (d : DriverMode
   head_below hd n is sized = omega (arith, (at_stage (Loading hd) is).4, sized, (lay.driver_end.sized x v h.drives).0)
 
   loaded : (st : ReplayStage) (hd place got : ℕ) → r.stage ≡ Loading hd → place ≡ d.words.ack v.frame hd
-      → port.moves p op.Control (Load place) got q → as_stage st ≡ stage.Giving
+      → port.moves p op.Control (Load place) got q → as_stage st ≡ stage.Giving → (st ≡ Disarming → ⊥)
       → IsAt st (replay r.settings) (r.next + 1) v.frame (LoadAck r.next got ∷ v.done)
-      → ((u : DriverView) → replay_owes d st x u ≤ 40) → ReplayTurn port l d p q r (to_next r st) x x v Worked
-  loaded st hd place got is placed moved giving at owed =
+      → ((u : DriverView) → replay_owes d r.winding st x u ≤ 40) → ReplayTurn port l d p q r (to_next r st) x x v Worked
+  loaded st hd place got is placed moved giving none at owed =
       let cs = replay r.settings in
       let k = loads hd place is placed in
       let idle = idle_at (Loading hd) is refl in
@@ -286,7 +296,8 @@ module _ {Q D E : Type 0} (port : PortModel Q) (l : LayoutModel) (d : DriverMode
         offer = subst (λ o. OffersIt o cs (r.next + 1)) (sym idle) tt;
         armed = subst (λ z. ShadowArmed z (d.begun x) v.doing v.armed) (sym giving) (unarmed_at (Loading hd) is refl);
         shown = h.shown;
-      }) (omega (arith, owed u, ap (λ (z : ReplayStage). replay_owes d z x v) is))
+        disarms = λ z. absurd (none z);
+      }) (omega (arith, owed u, ap (λ (z : ReplayStage). replay_owes d r.winding z x v) is))
 
   pub load : (hd place got : ℕ) → r.stage ≡ Loading hd → place ≡ d.words.ack v.frame hd → port.moves p op.Control (Load place) got q
       → ReplayTurn port l d p q r (to_next r (after_ack (r.next + 1) r.count)) x x v Worked
@@ -294,19 +305,22 @@ module _ {Q D E : Type 0} (port : PortModel Q) (l : LayoutModel) (d : DriverMode
       let at = at_stage (Loading hd) is in
       let between = between_loaded v.done (r.next + 1) r.next got at.1 in
       next_by (λ (z : ReplayStage). ReplayTurn port l d p q r (to_next r z) x x v Worked) (r.next + 1) r.count
-      (λ more. loaded First hd place got is placed moved refl (omega (arith, more, h.counted), between) (λ u. omega arith))
-      (λ last. loaded Done hd place got is placed moved refl (omega (arith, last, at.0, h.counted), between) (λ u. omega arith))
+      (λ more. loaded First hd place got is placed moved refl (λ z. cc z) (omega (arith, more, h.counted), between) (λ u. omega arith))
+      (λ last. loaded Done hd place got is placed moved refl (λ z. cc z) (omega (arith, last, at.0, h.counted), between) (λ u. omega arith))
 
 -- ---- the begin
 
+abbrev pub opened_at : Settings → ℕ → ReplayStage → Replay
+opened_at s count st = record { settings = s; count = count; next = 0; stage = st; winding = false; target = 0 }
+
 pub opened : {D : Type 0} (l : LayoutModel) (d : DriverModel D) (ldr : IsLawfulDriver d) (x : D) (v : DriverView) (s : Settings) (count : ℕ)
     → HasPairs s → count ≡ length (replay s) → count ≤ 4105 → IsFreshShadow l d x v
-    → Replays l d (record { settings = s; count = count; next = 0; stage = after_ack 0 count }) x v
+    → Replays l d (opened_at s count (after_ack 0 count)) x v
 opened l d ldr x v s count pairs counted few h = next_by
-    (λ (z : ReplayStage). Replays l d (record { settings = s; count = count; next = 0; stage = z }) x v) 0 count
-    (λ more. at First refl
+    (λ (z : ReplayStage). Replays l d (opened_at s count z) x v) 0 count
+    (λ more. at First refl (λ z. cc z)
     (subst (λ (o : List DriverDone). IsAt First (replay s) 0 v.frame o) (sym h.unused) (omega (arith, more, counted), none)))
-    (λ last. at Done refl
+    (λ last. at Done refl (λ z. cc z)
     (subst (λ (o : List DriverDone). IsAt Done (replay s) 0 v.frame o) (sym h.unused) (omega (arith, last, counted), none)))
   where
     none : IsBetween [] 0
@@ -315,9 +329,9 @@ opened l d ldr x v s count pairs counted few h = next_by
     nothing : AreCarried (replay s) v.frame []
     nothing = λ k b below is. absurd (omega (arith, below))
 
-    at : (st : ReplayStage) → as_stage st ≡ stage.Giving → IsAt st (replay s) 0 v.frame v.done
-        → Replays l d (record { settings = s; count = count; next = 0; stage = st }) x v
-    at st giving is = record {
+    at : (st : ReplayStage) → as_stage st ≡ stage.Giving → (st ≡ Disarming → ⊥) → IsAt st (replay s) 0 v.frame v.done
+        → Replays l d (opened_at s count st) x v
+    at st giving never is = record {
       drives = h.drives;
       ring = h.ring;
       pairs = pairs;
@@ -330,4 +344,5 @@ opened l d ldr x v s count pairs counted few h = next_by
       offer = subst (λ o. OffersIt o (replay s) 0) (sym h.idle) tt;
       armed = subst (λ z. ShadowArmed z (d.begun x) v.doing v.armed) (sym giving) (ldr.unarmed x v h.drives h.unarmed);
       shown = subst (λ o. ShadowShown o v.doing v.shown (d.left x)) (sym h.idle) tt;
+      disarms = λ z. absurd (never z);
     }

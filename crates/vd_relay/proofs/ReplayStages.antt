@@ -1,6 +1,6 @@
 -- The stages of a replay: which goes with which operation of the shadow end, and what it owes there.
-use Rattle.std.proofs.Common.{◌≡◌, ℕ, Bool, true, false, Some, List, [], ◌∷◌, if◌then◌else◌, refl, sym, subst, inl, inr}
-use Rattle.std.specs.Prelude.{nat_lt, ◌<◌, ◌≤◌, slice_get}
+use Rattle.std.proofs.Common.{◌≡◌, ℕ, Bool, true, false, List, [], ◌∷◌, if◌then◌else◌, refl, sym, subst, inl, inr}
+use Rattle.std.specs.Prelude.{nat_lt, ◌<◌, ◌≤◌}
 use Rattle.std.proofs.lemmas.Bool.{ltb-true, ltb-false}
 use Rattle.vd_model.specs.declared.chain.Piece.{Piece}
 use Rattle.vd_ring.specs.declared.driver.DriverView.{DriverView}
@@ -8,21 +8,23 @@ use Rattle.vd_layout.specs.Begun.{DriverOp, DriverGoesOn}
 use Rattle.vd_layout.specs.Driver.{DriverModel}
 use Rattle.vd_control.specs.declared.command.Command.{Command}
 use Rattle.vd_relay.specs.declared.replay.ReplayStage.{ReplayStage}
-use Rattle.vd_relay.specs.declared.replay.ReplayStage.TheVariants.{First, Second, Offering, Collecting, Loading, Arming, Hearing, Done}
+use Rattle.vd_relay.specs.declared.replay.ReplayStage.TheVariants.{First, Second, Offering, Collecting, Loading, Arming, Hearing, Disarming, Done, Left}
 use Rattle.vd_relay.specs.Pace.{shadow_owes}
 use Rattle.vd_relay.specs.Stages.{ShadowIs, OffersHand}
 use Rattle.vd_relay.specs.Replays.{is_control, as_stage, replay_owes, OffersIt, after_ack}
 
-pub owes_at : {D : Type 0} (d : DriverModel D) (st : ReplayStage) (x : D) (v : DriverView) → is_control st ≡ false
-    → replay_owes d st x v ≡ shadow_owes false (as_stage st) (d.begun x) v.doing false v.shown (d.left x)
-owes_at d First x v off = absurd (cc off)
-owes_at d Second x v off = absurd (cc off)
-owes_at d Offering x v off = refl
-owes_at d Collecting x v off = refl
-owes_at d (Loading h) x v off = absurd (cc off)
-owes_at d Arming x v off = refl
-owes_at d Hearing x v off = refl
-owes_at d Done x v off = absurd (cc off)
+pub owes_at : {D : Type 0} (d : DriverModel D) (w : Bool) (st : ReplayStage) (x : D) (v : DriverView) → is_control st ≡ false
+    → replay_owes d w st x v ≡ shadow_owes w (as_stage st) (d.begun x) v.doing false v.shown (d.left x)
+owes_at d w First x v off = absurd (cc off)
+owes_at d w Second x v off = absurd (cc off)
+owes_at d w Offering x v off = refl
+owes_at d w Collecting x v off = refl
+owes_at d w (Loading h) x v off = absurd (cc off)
+owes_at d w Arming x v off = refl
+owes_at d w Hearing x v off = refl
+owes_at d w Disarming x v off = refl
+owes_at d w Left x v off = absurd (cc off)
+owes_at d w Done x v off = absurd (cc off)
 
 pub at_offering : (c : List Piece) (st : ReplayStage) → ShadowIs (as_stage st) (DriverOp.offer c) → st ≡ Offering
 at_offering c First h = absurd h
@@ -32,7 +34,9 @@ at_offering c Collecting h = absurd h
 at_offering c (Loading n) h = absurd h
 at_offering c Arming h = absurd h
 at_offering c Hearing h = absurd h
+at_offering c Disarming h = absurd h
 at_offering c Done h = absurd h
+at_offering c Left h = absurd h
 
 pub at_collecting : (st : ReplayStage) → ShadowIs (as_stage st) DriverOp.collect → st ≡ Collecting
 at_collecting First h = absurd h
@@ -42,7 +46,9 @@ at_collecting Collecting h = refl
 at_collecting (Loading n) h = absurd h
 at_collecting Arming h = absurd h
 at_collecting Hearing h = absurd h
+at_collecting Disarming h = absurd h
 at_collecting Done h = absurd h
+at_collecting Left h = absurd h
 
 pub at_arming : (st : ReplayStage) → ShadowIs (as_stage st) DriverOp.arm → st ≡ Arming
 at_arming First h = absurd h
@@ -52,7 +58,9 @@ at_arming Collecting h = absurd h
 at_arming (Loading n) h = absurd h
 at_arming Arming h = refl
 at_arming Hearing h = absurd h
+at_arming Disarming h = absurd h
 at_arming Done h = absurd h
+at_arming Left h = absurd h
 
 pub at_hearing : (st : ReplayStage) → ShadowIs (as_stage st) DriverOp.hear → st ≡ Hearing
 at_hearing First h = absurd h
@@ -62,17 +70,21 @@ at_hearing Collecting h = absurd h
 at_hearing (Loading n) h = absurd h
 at_hearing Arming h = absurd h
 at_hearing Hearing h = refl
+at_hearing Disarming h = absurd h
 at_hearing Done h = absurd h
+at_hearing Left h = absurd h
 
-pub no_disarm : (st : ReplayStage) → ShadowIs (as_stage st) DriverOp.disarm → ⊥
-no_disarm First h = h
-no_disarm Second h = h
-no_disarm Offering h = h
-no_disarm Collecting h = h
-no_disarm (Loading n) h = h
-no_disarm Arming h = h
-no_disarm Hearing h = h
-no_disarm Done h = h
+pub at_disarming : (st : ReplayStage) → ShadowIs (as_stage st) DriverOp.disarm → st ≡ Disarming
+at_disarming First h = absurd h
+at_disarming Second h = absurd h
+at_disarming Offering h = absurd h
+at_disarming Collecting h = absurd h
+at_disarming (Loading n) h = absurd h
+at_disarming Arming h = absurd h
+at_disarming Hearing h = absurd h
+at_disarming Disarming h = refl
+at_disarming Done h = absurd h
+at_disarming Left h = absurd h
 
 -- ---- the chain on offer
 

@@ -1,5 +1,5 @@
 -- The places of the next head's command words, and of its ack word, on a shadow ring of a control queue.
-use Rattle.std.proofs.Common.{◌≡◌, ℕ, ◌+◌, ◌<◌, ◌≤◌, true, refl, sym, ◌∙◌, ap, arith}
+use Rattle.std.proofs.Common.{◌≡◌, ℕ, ◌+◌, ◌<◌, true, refl, sym, ◌∙◌, arith}
 use Rattle.vd_model.specs.declared.features.Features.{Features}
 use Rattle.vd_words.specs.declared.access.Access.TheVariants.{Store}
 use Rattle.vd_words.specs.declared.access.Op.TheVariants.{Control}

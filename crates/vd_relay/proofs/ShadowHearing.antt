@@ -1,5 +1,5 @@
 -- A hearing of the shadow end: a bell wakes it, or it sleeps.
-use Rattle.std.proofs.Common.{◌≡◌, ◌⊎◌, ◌≤◌, Bool, true, false, refl, sym, ◌∙◌, ap, subst, arith, inl, inr}
+use Rattle.std.proofs.Common.{◌≡◌, ◌≤◌, Bool, true, false, refl, sym, ◌∙◌, ap, subst, arith, inl, inr}
 use Rattle.vd_words.specs.declared.access.Op.TheVariants as op
 use Rattle.vd_words.specs.Model.{PortModel}
 use Rattle.vd_ring.specs.declared.act.DriverAct.TheVariants as act
@@ -14,11 +14,11 @@ use Rattle.vd_relay.specs.declared.counts.Turn.TheVariants.{Woke, Slept}
 use Rattle.vd_relay.specs.declared.stage.Stage.{Stage}
 use Rattle.vd_relay.specs.declared.stage.Stage.TheVariants as stage
 use Rattle.vd_relay.specs.declared.state.State.{State}
-use Rattle.vd_relay.specs.Pace.{shadow_owes, shadow_hears, idle_owes, hear_owes}
+use Rattle.vd_relay.specs.Pace.{shadow_owes, shadow_hears}
 use Rattle.vd_relay.specs.Stages.{heard_next, ShadowIs, ShadowHears, IsSome}
 use Rattle.vd_relay.specs.Tie.{Start}
 use Rattle.vd_relay.specs.Relay.{Stands, ShadowTurn, IsRoused}
-use Rattle.vd_relay.proofs.Calm.{Free, at_stage, settled, owes_idle, stands_roused, hear_most}
+use Rattle.vd_relay.proofs.Calm.{at_stage, settled, owes_idle, stands_roused, hear_most}
 use Rattle.vd_relay.proofs.Ops.{at_shadow_hear}
 use Rattle.vd_relay.proofs.ShadowTurns.{made_at, next_at, not_woken, once, to_stage, with_shadow}
 use Rattle.vd_relay.proofs.ShadowFree.{freed_at}

@@ -1,8 +1,6 @@
 -- One step of a relay, from the access that it makes and from how that is counted.
 use Rattle.std.proofs.Common.{◌≡◌, ◌≢◌, ◌⊎◌, ◌↔◌, ℕ, ◌+◌, ◌*◌, ◌<◌, ◌≤◌, Bool, true, false, IsTrue, refl, sym, ◌∙◌, ap, subst, arith, inl, inr}
 use Rattle.vd_words.specs.Model.{PortModel}
-use Rattle.vd_ring.specs.declared.act.DriverAct.TheVariants as driver_act
-use Rattle.vd_ring.specs.declared.act.DeviceAct.TheVariants as device_act
 use Rattle.vd_ring.specs.declared.driver.DriverNow.TheVariants as driver
 use Rattle.vd_ring.specs.declared.driver.DriverView.{DriverView}
 use Rattle.vd_ring.specs.declared.device.DeviceNow.TheVariants as device
@@ -23,7 +21,7 @@ use Rattle.vd_relay.specs.Stages.{GuestIs, ShadowIs, is_hearing, is_shadow}
 use Rattle.vd_relay.specs.Tie.{Start}
 use Rattle.vd_relay.proofs.Ops.{guest_idle, shadow_idle}
 use Rattle.vd_relay.proofs.Hearings.{guest_hears, shadow_hears}
-use Rattle.vd_relay.specs.Relay.{Stands, Holds, IsKept, IsFinished, IsGlance, IsLook, HearsNone, ShadowWaits, GuestWaits, GuestTurn, ShadowTurn, OnGuest, OnShadow, owes, unless}
+use Rattle.vd_relay.specs.Relay.{Holds, IsKept, IsFinished, IsGlance, IsLook, HearsNone, ShadowWaits, GuestWaits, GuestTurn, ShadowTurn, OnGuest, OnShadow, owes, unless}
 
 -- ---- from before the operation was begun
 

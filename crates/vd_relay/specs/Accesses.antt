@@ -1,6 +1,6 @@
 -- The accesses of command and ack words that a relay of a control queue makes, one by one. On each of the two rings its end has no
 -- operation in progress meanwhile.
-use Rattle.std.specs.Prelude.{◌≡◌, ℕ, ◌+◌, ◌<◌, ◌≤◌, ◌%◌, ◌==◌, true, Some, List, [], ◌∷◌, if◌then◌else◌, slice_set}
+use Rattle.std.specs.Prelude.{◌≡◌, ℕ, ◌+◌, ◌<◌, ◌%◌, ◌==◌, true, Some, List, [], ◌∷◌, if◌then◌else◌, slice_set}
 use Rattle.std.specs.List.{Contains}
 use Rattle.vd_words.specs.declared.access.Access.TheVariants.{Load, Store}
 use Rattle.vd_words.specs.declared.access.Op.TheVariants.{Control}
@@ -17,7 +17,7 @@ use Rattle.vd_layout.specs.Device.{DeviceModel}
 use Rattle.vd_layout.specs.Layout.{LayoutModel}
 use Rattle.vd_control.specs.declared.settings.Settings.{Settings}
 use Rattle.vd_commands.specs.Words.{set_by}
-use Rattle.vd_relay.specs.Replays.{IsShadowRing, HasNext}
+use Rattle.vd_relay.specs.Replays.{IsShadowRing}
 
 -- ---- on the guest's ring
 

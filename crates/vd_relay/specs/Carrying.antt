@@ -1,5 +1,5 @@
 -- The commands that a relay has taken from the guest's ring and not given back, by their heads on the shadow ring.
-use Rattle.std.specs.Prelude.{◌≡◌, ℕ, ◌<◌, ◌^◌, Option, None, List, slice_index_or}
+use Rattle.std.specs.Prelude.{ℕ, ◌<◌, ◌^◌, Option, None, List, slice_index_or}
 use Rattle.vd_model.specs.declared.chain.Piece.{Piece}
 use Rattle.vd_ring.specs.Control.{IsControlChain}
 use Rattle.vd_relay.specs.declared.carried.Carried.{Carried}

@@ -1,6 +1,6 @@
 -- A replay on a fresh shadow ring of a control queue: the commands of a list, one after the other, each offered, collected and its ack
 -- loaded before the next. Lists of acts have the newest first.
-use Rattle.std.specs.Prelude.{◌≡◌, ◌↔◌, ℕ, ◌+◌, ◌*◌, ◌<◌, ◌≤◌, Bool, true, false, Option, Some, None, IsSome, List, [], ◌∷◌, length, slice_get, nat_lt, if◌then◌else◌}
+use Rattle.std.specs.Prelude.{◌≡◌, ◌↔◌, ◌⊎◌, ℕ, ◌+◌, ◌*◌, ◌<◌, ◌≤◌, Bool, true, false, Some, None, IsSome, List, [], ◌∷◌, length, slice_get, nat_lt, if◌then◌else◌}
 use Rattle.vd_model.specs.declared.chain.Piece.{Piece}
 use Rattle.vd_model.specs.Chains.{readable}
 use Rattle.vd_words.specs.declared.access.Access.{Access}
@@ -22,12 +22,12 @@ use Rattle.vd_control.specs.Settings.{HasPairs, replay}
 use Rattle.vd_commands.specs.Words.{command_word}
 use Rattle.vd_commands.specs.Loads.{ack_load}
 use Rattle.vd_relay.specs.declared.counts.Turn.{Turn}
-use Rattle.vd_relay.specs.declared.counts.Turn.TheVariants.{Slept, Woke, Worked}
+use Rattle.vd_relay.specs.declared.counts.Turn.TheVariants.{Slept, Woke, Worked, Again}
 use Rattle.vd_relay.specs.declared.stage.Stage.{Stage}
 use Rattle.vd_relay.specs.declared.stage.Stage.TheVariants as stage
 use Rattle.vd_relay.specs.declared.replay.Replay.{Replay}
 use Rattle.vd_relay.specs.declared.replay.ReplayStage.{ReplayStage}
-use Rattle.vd_relay.specs.declared.replay.ReplayStage.TheVariants.{First, Second, Offering, Collecting, Loading, Arming, Hearing, Done}
+use Rattle.vd_relay.specs.declared.replay.ReplayStage.TheVariants.{First, Second, Offering, Collecting, Loading, Arming, Hearing, Disarming, Done, Left}
 use Rattle.vd_relay.specs.Pace.{counted, handled, woke, shadow_owes}
 use Rattle.vd_relay.specs.Stages.{ShadowIs, ShadowArmed, ShadowShown}
 
@@ -35,12 +35,19 @@ abbrev pub is_done : ReplayStage → Bool
 is_done Done = true
 is_done _ = false
 
+-- nothing more is done: every command was acknowledged, or the wind-up left the rest out
+abbrev pub is_over : ReplayStage → Bool
+is_over Done = true
+is_over Left = true
+is_over _ = false
+
 -- no operation of the shadow end is made there
 abbrev pub is_control : ReplayStage → Bool
 is_control First = true
 is_control Second = true
 is_control (Loading h) = true
 is_control Done = true
+is_control Left = true
 is_control _ = false
 
 -- what Awake ended: a hearing, or an arming
@@ -99,7 +106,9 @@ IsAt Collecting cs n g o = (n < length cs) × Awaits o n
 IsAt (Loading h) cs n g o = (n < length cs) × IsBetween o (n + 1) × (last_collected o ≡ Some n) × (h ≡ head g o n) × (h < g.size)
 IsAt Arming cs n g o = (n < length cs) × Awaits o n
 IsAt Hearing cs n g o = (n < length cs) × Awaits o n
+IsAt Disarming cs n g o = (n < length cs) × Awaits o n
 IsAt Done cs n g o = (n ≡ length cs) × IsBetween o n
+IsAt Left cs n g o = (n < length cs) × (IsBetween o n ⊎ Awaits o n)
 
 -- the chain on offer has as many readable bytes as the command
 abbrev pub OffersIt : DriverOp → List Command → ℕ → Type 0
@@ -112,6 +121,7 @@ as_stage Offering = stage.Offering 0 0
 as_stage Collecting = stage.Collecting false
 as_stage Arming = stage.ArmingShadow
 as_stage Hearing = stage.HearingShadow
+as_stage Disarming = stage.DisarmingShadow
 as_stage _ = stage.Giving
 
 pub record Replays {D : Type 0} (l : LayoutModel) (d : DriverModel D) (r : Replay) (x : D) (v : DriverView) : Type 0 where
@@ -127,6 +137,8 @@ pub record Replays {D : Type 0} (l : LayoutModel) (d : DriverModel D) (r : Repla
   pub offer : OffersIt (d.begun x) (replay r.settings) r.next
   pub armed : ShadowArmed (as_stage r.stage) (d.begun x) v.doing v.armed
   pub shown : ShadowShown (d.begun x) v.doing v.shown (d.left x)
+  -- only in a wind-up it disarms
+  pub disarms : r.stage ≡ Disarming → r.winding ≡ true
 
 -- a fresh end of such a ring
 pub record IsFreshShadow {D : Type 0} (l : LayoutModel) (d : DriverModel D) (x : D) (v : DriverView) : Type 0 where
@@ -137,12 +149,13 @@ pub record IsFreshShadow {D : Type 0} (l : LayoutModel) (d : DriverModel D) (x :
   pub unarmed : d.armed x ≡ false
 
 -- how many accesses it may make until the next chain is offered or collected, or the next bell heard
-abbrev pub replay_owes : {D : Type 0} → DriverModel D → ReplayStage → D → DriverView → ℕ
-replay_owes d First x v = 40
-replay_owes d Second x v = 39
-replay_owes d (Loading h) x v = 41
-replay_owes d Done x v = 0
-replay_owes d st x v = shadow_owes false (as_stage st) (d.begun x) v.doing false v.shown (d.left x)
+abbrev pub replay_owes : {D : Type 0} → DriverModel D → Bool → ReplayStage → D → DriverView → ℕ
+replay_owes d winding First x v = 40
+replay_owes d winding Second x v = 39
+replay_owes d winding (Loading h) x v = 41
+replay_owes d winding Done x v = 0
+replay_owes d winding Left x v = 0
+replay_owes d winding st x v = shadow_owes winding (as_stage st) (d.begun x) v.doing false v.shown (d.left x)
 
 -- what comes where n of so many commands were acknowledged
 abbrev pub after_ack : ℕ → ℕ → ReplayStage
@@ -162,14 +175,28 @@ pub record HasNext {D : Type 0} (l : LayoutModel) (d : DriverModel D) (x : D) (v
 
 -- ---- a step
 
+-- it stands on between two accesses, and owes no more
+pub record Winds {D : Type 0} (l : LayoutModel) (d : DriverModel D) (r r' : Replay) (x : D) (v : DriverView) : Type 0 where
+  pub replays : Replays l d r' x v
+  pub owes : replay_owes d r'.winding r'.stage x v ≤ replay_owes d r.winding r.stage x v
+
+-- the stage between two operations of a wind-up: a command that isn't offered is left out, and one that is on the ring is collected,
+-- unless so many are collected
+abbrev pub wound : ReplayStage → Bool → ReplayStage
+wound First enough = Left
+wound Second enough = Left
+wound Collecting enough = if enough then Left else Collecting
+wound Arming enough = if enough then Left else Collecting
+wound st enough = st
+
 -- its end has begun an operation; it owes no more
 pub record Goes {D : Type 0} (l : LayoutModel) (d : DriverModel D) (r : Replay) (x x' : D) (v : DriverView) : Type 0 where
   pub replays : Replays l d r x' v
-  pub owes : replay_owes d r.stage x' v ≤ replay_owes d r.stage x v
+  pub owes : replay_owes d r.winding r.stage x' v ≤ replay_owes d r.winding r.stage x v
 
 -- what is replayed, and how much of it
 abbrev pub IsSameReplay : Replay → Replay → Type 0
-IsSameReplay r r' = (r'.settings ≡ r.settings) × (r'.count ≡ r.count)
+IsSameReplay r r' = (r'.settings ≡ r.settings) × (r'.count ≡ r.count) × (r'.winding ≡ r.winding) × (r'.target ≡ r.target)
 
 -- one access of the shadow ring, which was next
 pub record ReplayTurn {Q D : Type 0} (port : PortModel Q) (l : LayoutModel) (d : DriverModel D) (p q : Q) (r r' : Replay) (x x' : D)
@@ -183,6 +210,8 @@ pub record ReplayTurn {Q D : Type 0} (port : PortModel Q) (l : LayoutModel) (d :
   pub grown : length (offers (d.side.after v op access got).done) + length (collects (d.side.after v op access got).done)
       ≡ length (offers v.done) + length (collects v.done) + handled t
   pub slept : (t ≡ Slept) ↔ (d.act v op access got ≡ act.Asleep)
+  -- a collect of the wind-up that shows nothing is made again, and isn't counted
+  pub again : (t ≡ Again) ↔ ((d.act v op access got ≡ act.Nothing) × (r.winding ≡ true))
   pub woke : Rattle.vd_relay.specs.Pace.woke t ≡ driver_woken op (d.act v op access got)
-  pub paid : replay_owes d r'.stage x' (d.side.after v op access got) + counted t
-      ≤ replay_owes d r.stage x v + 64 * (handled t + Rattle.vd_relay.specs.Pace.woke t)
+  pub paid : replay_owes d r'.winding r'.stage x' (d.side.after v op access got) + counted t
+      ≤ replay_owes d r.winding r.stage x v + 64 * (handled t + Rattle.vd_relay.specs.Pace.woke t)

@@ -1,5 +1,5 @@
 //! A replay: on a fresh shadow ring of a control queue the commands that set the settings again, one after the other.
-ghost use Rattle.std.specs.Prelude.{◌≡◌, ◌+◌, ◌<◌, ◌≤◌, ◌↔◌, ◌∷◌, ◌*◌, ◌^◌, [], IsTrue, Some, length, true, false};
+ghost use Rattle.std.specs.Prelude.{◌≡◌, ◌+◌, ◌<◌, ◌≤◌, ◌↔◌, ◌⊎◌, Bool, ◌∷◌, ◌*◌, ◌^◌, [], IsTrue, Some, length, true, false};
 ghost use Rattle.vd_model.specs.Chains.{IsChain};
 ghost use Rattle.vd_words.specs.Own.{IsOwn};
 ghost use Rattle.vd_ring.specs.declared.driver.DriverView.{DriverView};
@@ -7,8 +7,8 @@ ghost use Rattle.vd_ring.specs.History.{next_head};
 ghost use Rattle.vd_layout.specs.Begun.{DriverOp};
 ghost use Rattle.vd_control.specs.Commands.{spelled};
 ghost use Rattle.vd_control.specs.Settings.{HasPairs, replay};
-ghost use Rattle.vd_relay.specs.declared.replay.ReplayStage.TheVariants.{First, Second, Loading};
-ghost use Rattle.vd_relay.specs.Replays.{Replays, ReplayTurn, IsSameReplay, IsFreshShadow, HasNext, Goes, after_ack, control_chain, is_done, is_control, replay_waking};
+ghost use Rattle.vd_relay.specs.declared.replay.ReplayStage.TheVariants.{First, Second, Loading, Arming};
+ghost use Rattle.vd_relay.specs.Replays.{Replays, ReplayTurn, IsSameReplay, IsFreshShadow, HasNext, Goes, after_ack, control_chain, is_done, is_over, is_control, wound, Winds, replay_waking};
 
 use crate::counts::Turn;
 use vd_commands::words_of;
@@ -34,17 +34,24 @@ pub enum ReplayStage {
     Arming,
     /// It is armed: its bell is heard.
     Hearing,
+    /// In a wind-up: the shadow end is disarmed.
+    Disarming,
     /// Nothing: every command was acknowledged.
     Done,
+    /// Nothing: the wind-up left the rest out.
+    Left,
 }
 
-/// The settings that are set again, by so many commands; how many of them were acknowledged; and what comes next.
+/// The settings that are set again, by so many commands; how many of them were acknowledged; what comes next; and whether it winds
+/// up, until so many chains are collected.
 #[derive(Copy, Clone)]
 pub struct Replay {
     pub settings: Settings,
     pub count: u32,
     pub next: u32,
     pub stage: ReplayStage,
+    pub winding: bool,
+    pub target: u32,
 }
 
 /// What comes before a command: where none is left, nothing.
@@ -106,12 +113,30 @@ fn next_chain<L: Layout>(shadow: &L::Driver, count: u32) -> Chain
     )
 }
 
+/// What comes next between two operations of a wind-up, where enough is collected or isn't.
+fn wound(stage: ReplayStage, enough: bool) -> ReplayStage
+    ensures { result ≡ wound stage enough }
+{
+    match stage {
+        ReplayStage::First | ReplayStage::Second => ReplayStage::Left,
+        ReplayStage::Collecting | ReplayStage::Arming => {
+            if enough {
+                ReplayStage::Left
+            } else {
+                ReplayStage::Collecting
+            }
+        }
+        other => other,
+    }
+}
+
 impl Replay {
     /// A replay of the settings on the ring of a fresh end.
     pub fn new<L: Layout>(settings: Settings, shadow: &L::Driver) -> Replay
         requires { HasPairs settings }
         ensures settings { result.settings ≡ settings }
         ensures next { result.next ≡ 0 }
+        ensures winding { result.winding ≡ false }
         ensures done { IsTrue (is_done result.stage) ↔ (length (replay settings) ≡ 0) }
         ensures replays { (v : DriverView) → IsFreshShadow L.layout L.Driver.driver shadow.now v
             → Replays L.layout L.Driver.driver result shadow.now v }
@@ -123,6 +148,8 @@ impl Replay {
             count,
             next: 0,
             stage: between(0, count),
+            winding: false,
+            target: 0,
         }
     }
 
@@ -133,9 +160,46 @@ impl Replay {
         matches!(self.stage, ReplayStage::Done)
     }
 
+    /// Whether nothing more is to be done: all was acknowledged, or the wind-up left the rest out.
+    pub fn over(&self) -> bool
+        ensures { result ≡ is_over self.now.stage }
+    {
+        matches!(self.stage, ReplayStage::Done | ReplayStage::Left)
+    }
+
+    /// From now on no command's offer is begun, and it sleeps no more.
+    pub fn begin_wind_up<L: Layout>(&mut self, shadow: &L::Driver, given: u32)
+        requires once { self.old.winding ≡ false }
+        ensures winds { (v : DriverView) → Replays L.layout L.Driver.driver self.old shadow.now v
+            → Winds L.layout L.Driver.driver self.old self.new shadow.now v }
+        ensures winding { self.new.winding ≡ true }
+        ensures target { self.new.target ≡ given }
+    {
+        self.winding = true;
+        self.target = given;
+        if matches!(self.stage, ReplayStage::Hearing) && shadow.idle() {
+            self.stage = ReplayStage::Disarming;
+        }
+    }
+
+    /// Between two operations of a wind-up a command that isn't offered is left out, and one on the ring is collected, until so many
+    /// chains are collected.
+    pub fn turn<L: Layout>(&mut self, shadow: &L::Driver)
+        ensures winds { (v : DriverView) → Replays L.layout L.Driver.driver self.old shadow.now v
+            → Winds L.layout L.Driver.driver self.old self.new shadow.now v }
+        ensures stage { (self.new.stage ≡ self.old.stage) ⊎ ((enough : Bool) × (self.new.stage ≡ wound self.old.stage enough)) }
+        ensures arms { self.new.winding ≡ true → self.new.stage ≡ Arming → ¬ (L.Driver.driver.begun shadow.now ≡ DriverOp.idle) }
+        ensures same { IsSameReplay self.old self.new }
+    {
+        if self.winding && shadow.idle() {
+            self.stage = wound(self.stage, shadow.collected() >= self.target);
+        }
+    }
+
     /// Makes one access of the shadow ring.
     pub fn step<L: Layout, Q: Port>(&mut self, shadow: &mut L::Driver, port: &mut Q) -> Turn
-        requires at { is_done self.old.stage ≡ false }
+        requires at { is_over self.old.stage ≡ false }
+        requires arms { self.old.winding ≡ true → self.old.stage ≡ Arming → ¬ (L.Driver.driver.begun shadow.old ≡ DriverOp.idle) }
         requires own { (v : DriverView) × Replays L.layout L.Driver.driver self.old shadow.old v × IsOwn Q.port L.Driver.driver.side port.old v }
         ensures turn { (v : DriverView) → Replays L.layout L.Driver.driver self.old shadow.old v
             → IsOwn Q.port L.Driver.driver.side port.old v
@@ -204,6 +268,7 @@ impl Replay {
     /// Begins the shadow end's next operation where none is in progress.
     fn begin<L: Layout>(&self, shadow: &mut L::Driver)
         requires at { is_control self.now.stage ≡ false }
+        requires arms { self.now.winding ≡ true → self.now.stage ≡ Arming → ¬ (L.Driver.driver.begun shadow.old ≡ DriverOp.idle) }
         requires own { (v : DriverView) × Replays L.layout L.Driver.driver self.now shadow.old v }
         ensures begun { (v : DriverView) → Replays L.layout L.Driver.driver self.now shadow.old v
             → Goes L.layout L.Driver.driver self.now shadow.old shadow.new v }
@@ -213,6 +278,7 @@ impl Replay {
             match self.stage {
                 ReplayStage::Arming => shadow.begin_arm(),
                 ReplayStage::Hearing => shadow.begin_hear(),
+                ReplayStage::Disarming => shadow.begin_disarm(),
                 _ => shadow.begin_collect(),
             }
         }
@@ -221,6 +287,7 @@ impl Replay {
     /// Makes one access of the shadow end's operation.
     fn operate<L: Layout, Q: Port>(&mut self, shadow: &mut L::Driver, port: &mut Q) -> Turn
         requires at { is_control self.old.stage ≡ false }
+        requires arms { self.old.winding ≡ true → self.old.stage ≡ Arming → ¬ (L.Driver.driver.begun shadow.old ≡ DriverOp.idle) }
         requires own { (v : DriverView) × Replays L.layout L.Driver.driver self.old shadow.old v × IsOwn Q.port L.Driver.driver.side port.old v }
         ensures turn { (v : DriverView) → Replays L.layout L.Driver.driver self.old shadow.old v
             → IsOwn Q.port L.Driver.driver.side port.old v
@@ -238,10 +305,18 @@ impl Replay {
                 Turn::Handled
             }
             DriverAct::Nothing => {
+                if self.winding {
+                    self.stage = ReplayStage::Collecting;
+                    return Turn::Again;
+                }
                 self.stage = ReplayStage::Arming;
                 Turn::Worked
             }
             DriverAct::Armed => {
+                if self.winding {
+                    self.stage = ReplayStage::Disarming;
+                    return Turn::Worked;
+                }
                 self.stage = ReplayStage::Hearing;
                 Turn::Worked
             }

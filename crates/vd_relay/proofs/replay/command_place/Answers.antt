@@ -1,4 +1,4 @@
-use Rattle.std.proofs.Common.{◌∙◌, ap, arith}
+use Rattle.std.proofs.Common.{ap, arith}
 use Rattle.vd_relay.proofs.ReplayWords.{command_is, head_inside_size, narrow}
 use Rattle.vd_relay.proofs.replay.command_place.Goals as goal
 

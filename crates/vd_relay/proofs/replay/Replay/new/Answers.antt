@@ -1,4 +1,3 @@
-use Rattle.std.proofs.Common.{sym}
 use Rattle.vd_relay.proofs.ReplayControl.{opened}
 use Rattle.vd_relay.proofs.replay.Replay.new.Goals as goal
 

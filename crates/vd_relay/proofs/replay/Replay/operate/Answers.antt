@@ -1,4 +1,5 @@
-use Rattle.vd_relay.proofs.Replaying.{moved_on, offered, collected, found_none, armed, slept, woken_at}
+use Rattle.vd_relay.proofs.Replaying.{moved_on, offered, collected, found_none, found_again}
+use Rattle.vd_relay.proofs.ReplayWaking.{armed, armed_winding, slept, woken_at}
 use Rattle.vd_relay.proofs.replay.Replay.operate.Goals as goal
 
 pub returns-in-Offered-clause-turn : goal.returns-in-Offered-clause-turn
@@ -15,18 +16,32 @@ returns-in-Collected-clause-turn g c = λ v h own.
     c.args.self.now c.args.shadow.now c.begin.new.shadow v c.step.new.self k.replays k.owes _ _ _
     (c.in-Collected.ensures v k.replays.drives own)
 
-pub returns-in-Nothing-clause-turn : goal.returns-in-Nothing-clause-turn
-returns-in-Nothing-clause-turn g c = λ v h own.
+pub returns-then-self-clause-turn : goal.returns-then-self-clause-turn
+returns-then-self-clause-turn g c = λ v h own.
     let k = c.begin.ensures.begun v h in
-    found_none g.Q.Port.port g.L.Layout.layout g.L.Driver.DriverEnd.driver g.met.L.Layout.lawful.driver_end c.args.port.now c.step.new.port
-    c.args.self.now c.args.shadow.now c.begin.new.shadow v c.step.new.self k.replays k.owes own
+    found_again g.Q.Port.port g.L.Layout.layout g.L.Driver.DriverEnd.driver g.met.L.Layout.lawful.driver_end c.args.port.now c.step.new.port
+    c.args.self.now c.args.shadow.now c.begin.new.shadow v c.step.new.self k.replays k.owes c.if-self.true own
     (c.in-Nothing.ensures v k.replays.drives own)
 
-pub returns-in-Armed-clause-turn : goal.returns-in-Armed-clause-turn
-returns-in-Armed-clause-turn g c = λ v h own.
+pub returns-else-self-clause-turn : goal.returns-else-self-clause-turn
+returns-else-self-clause-turn g c = λ v h own.
+    let k = c.begin.ensures.begun v h in
+    found_none g.Q.Port.port g.L.Layout.layout g.L.Driver.DriverEnd.driver g.met.L.Layout.lawful.driver_end c.args.port.now c.step.new.port
+    c.args.self.now c.args.shadow.now c.begin.new.shadow v c.step.new.self k.replays k.owes c.if-self.false own
+    (c.in-Nothing.ensures v k.replays.drives own)
+
+pub returns-then-self-2-clause-turn : goal.returns-then-self-2-clause-turn
+returns-then-self-2-clause-turn g c = λ v h own.
+    let k = c.begin.ensures.begun v h in
+    armed_winding g.Q.Port.port g.L.Layout.layout g.L.Driver.DriverEnd.driver g.met.L.Layout.lawful.driver_end c.args.port.now c.step.new.port
+    c.args.self.now c.args.shadow.now c.begin.new.shadow v c.step.new.self k.replays k.owes c.if-self-2.true
+    (c.in-Armed.ensures v k.replays.drives own)
+
+pub returns-else-self-2-clause-turn : goal.returns-else-self-2-clause-turn
+returns-else-self-2-clause-turn g c = λ v h own.
     let k = c.begin.ensures.begun v h in
     armed g.Q.Port.port g.L.Layout.layout g.L.Driver.DriverEnd.driver g.met.L.Layout.lawful.driver_end c.args.port.now c.step.new.port
-    c.args.self.now c.args.shadow.now c.begin.new.shadow v c.step.new.self k.replays k.owes
+    c.args.self.now c.args.shadow.now c.begin.new.shadow v c.step.new.self k.replays k.owes c.if-self-2.false
     (c.in-Armed.ensures v k.replays.drives own)
 
 pub returns-in-Awake-clause-turn : goal.returns-in-Awake-clause-turn
