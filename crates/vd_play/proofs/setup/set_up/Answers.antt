@@ -1,4 +1,4 @@
-use Rattle.std.proofs.Common.{◌≡◌, ℕ, ◌+◌, ◌-◌, true, false, nat_eq, sym, subst, ◌∙◌, arith}
+use Rattle.std.proofs.Common.{◌≡◌, ℕ, ◌+◌, ◌-◌, Bool, true, false, nat_eq, sym, subst, ◌∙◌, arith}
 use Rattle.std.proofs.lemmas.Bool.{false≢true}
 use Rattle.vd_model.specs.declared.base.Mode.{Mode}
 use Rattle.vd_machine.specs.File.{view, Plan}
@@ -6,6 +6,9 @@ use Rattle.vd_play.specs.Epochs.{renewed_at}
 use Rattle.vd_play.specs.Setup.{IsUp}
 use Rattle.vd_play.proofs.setup.set_up.Goals as goal
 use Rattle.vd_play.proofs.setup.set_up.Goals.{then-epoch-eq0, else-epoch-eq0}
+
+no_first : (k : ℕ) (v : Bool) → v ≡ false → v ≡ nat_eq k 0 → k ≡ 0 → ⊥
+no_first k v off is first = false≢true (subst (λ (z : ℕ). false ≡ nat_eq z 0) first (sym off ∙ is))
 
 pub begin-requires-clause-fresh : goal.begin-requires-clause-fresh
 begin-requires-clause-fresh g c = elim c.if-epoch-eq0.branch [
@@ -18,7 +21,7 @@ begin-requires-clause-fresh g c = elim c.if-epoch-eq0.branch [
 
 pub switch-requires-clause-up : goal.switch-requires-clause-up
 switch-requires-clause-up g c = elim c.if-epoch-eq0.branch [
-  | then-epoch-eq0 w ↦ absurd (false≢true (subst (λ (z : ℕ). false ≡ nat_eq z 0) w.if-epoch-eq0.true (sym c.if-is_renewed.false ∙ w.value-is)))
+  | then-epoch-eq0 w ↦ absurd (no_first c.args.epoch _ c.if-is_renewed.false w.value-is w.if-epoch-eq0.true)
   | else-epoch-eq0 w ↦ (
       let plan : Plan = view c.args.m.now in
       let no : w.is_renewed.result ≡ false = cc (w.value-is, c.if-is_renewed.false) in
@@ -30,7 +33,7 @@ switch-requires-clause-up g c = elim c.if-epoch-eq0.branch [
 
 pub switch-requires-clause-sizes : goal.switch-requires-clause-sizes
 switch-requires-clause-sizes g c = elim c.if-epoch-eq0.branch [
-  | then-epoch-eq0 w ↦ absurd (false≢true (subst (λ (z : ℕ). false ≡ nat_eq z 0) w.if-epoch-eq0.true (sym c.if-is_renewed.false ∙ w.value-is)))
+  | then-epoch-eq0 w ↦ absurd (no_first c.args.epoch _ c.if-is_renewed.false w.value-is w.if-epoch-eq0.true)
   | else-epoch-eq0 w ↦ (
       let no : w.is_renewed.result ≡ false = cc (w.value-is, c.if-is_renewed.false) in
       let later : c.args.epoch ≡ c.args.epoch - 1 + 1 = omega (arith, w.if-epoch-eq0.false) in
