@@ -121,7 +121,7 @@ prefix_same : {A : Type 0} (xs : List A) → IsPrefix xs xs
 prefix_same xs = ([], append-nil xs)
 
 prefix_low : {A : Type 0} (xs ys : List A) → IsPrefix xs ys → length xs ≤ length ys
-prefix_low xs ys p = subst (λ (z : List A). length xs ≤ length z) p.1 (omega (arith, length-append xs p.0))
+prefix_low {A = A} xs ys p = subst (λ (z : List A). length xs ≤ length z) p.1 (omega (arith, length-append xs p.0))
 
 prefix_through : {A : Type 0} (xs ys zs : List A) → IsPrefix xs ys → IsPrefix ys zs → IsPrefix xs zs
 prefix_through xs ys zs p q = (p.0 ++ q.0, sym (append_assoc xs p.0 q.0) ∙ ap (λ us. us ++ q.0) p.1 ∙ q.1)
