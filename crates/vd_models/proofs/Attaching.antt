@@ -120,7 +120,8 @@ attach_holds e law end s settings p events begun c w n is taking stands still st
 
 -- ---- a step
 
-pub opened_commands : {E : Type 0} (e : DeviceModel E) (p : Phase E) (k : Commanding E) (j : Journal) (c : Counts) (now : Settings) (w : DeviceView)
+pub opened_commands : {E : Type 0} (e : DeviceModel E) (p : Phase E) (k : Commanding E) (j : Journal) (c : Counts) (now : Settings)
+    (w : DeviceView)
     → Holds e p j c now w → p ≡ phase.Commanding k → IsCommanding e k j c now w
 opened_commands e p k j c now w h is = subst (λ (z : Phase _). Holds e z j c now w) is h
 
@@ -180,7 +181,8 @@ module _ {E : Type 0} (s : Session E) where
   session_attached (phase.Serving t) is = ap (λ (z : Session E). Some z.by) (same_session t s is)
   session_attached (phase.Commanding k) is = ap (λ (z : Session E). Some z.by) (same_session k.session s is)
 
-pub held_room : {E : Type 0} (e : DeviceModel E) (p : Phase E) (j : Journal) (c : Counts) (now : Settings) (w : DeviceView) → Holds e p j c now w
+pub held_room : {E : Type 0} (e : DeviceModel E) (p : Phase E) (j : Journal) (c : Counts) (now : Settings) (w : DeviceView)
+    → Holds e p j c now w
     → 0 < j.events.room
 held_room e phase.Unreserved j c now w h = absurd h
 held_room e (phase.Free b) j c now w h = absurd h

@@ -113,9 +113,10 @@ module _ {E : Type 0} {e : DeviceModel E} (law : IsLawfulDevice e) (from : Sessi
   load_after hand begun c k half got opens some new two =
       let n = loads_next hand begun c k half opens new two in
       law.controls.loaded w (command_place c + half) got (resting hand begun opens some) n
-          ((law.runs from.end w opens.commands.serves.stands).apart k n.runs)
+      ((law.runs from.end w opens.commands.serves.stands).apart k n.runs)
 
-module _ {P E : Type 0} {port : PortModel P} {e : DeviceModel E} (law : IsLawfulDevice e) (from : Session E) {p q : P} {w : DeviceView} where
+module _ {P E : Type 0} {port : PortModel P} {e : DeviceModel E} (law : IsLawfulDevice e)
+    (from : Session E) {p q : P} {w : DeviceView} where
   -- a control access of the holder, after which the end is as it was
   controlled : (hand hand' : Hand) (begun begun' : Reserved Begun) → OpensCommands e from hand begun w → (hand ≡ Free → ⊥)
       → (a : Access) (got : ℕ) (d : DeviceDone) → e.side.next w Control a → port.moves p Control a got q
@@ -127,7 +128,7 @@ module _ {P E : Type 0} {port : PortModel P} {e : DeviceModel E} (law : IsLawful
       → HandAt hand' from.stage (e.begun from.end) → length (waiting hand') ≤ begun'.room
       → IsPrefix begun.items begun'.items → begun.room + length begun.items ≤ begun'.room + length begun'.items
       → (owed : owes_at e (seen_state from hand' begun') (e.side.after w Control a got) ≡ 5
-        → command_owes e from hand' begun' (e.side.after w Control a got) + 1 + 64 * length begun.items
+      → command_owes e from hand' begun' (e.side.after w Control a got) + 1 + 64 * length begun.items
       ≤ command_owes e from hand begun w + 64 * length begun'.items)
       → IsCommandTurn port e p q w from from hand hand' begun begun' Worked
   controlled hand hand' begun begun' opens some a got d next moved done armed quiet same room executes at roomy grows rooms paid =
@@ -144,7 +145,8 @@ module _ {P E : Type 0} {port : PortModel P} {e : DeviceModel E} (law : IsLawful
         was_next = next;
         moved = moved;
         commands = record {
-          serves = serves_same e (seen_state from hand' begun') w w' b.0 b.1 (law.control from.end w a got v.stands next) framed armed quiet'
+          serves = serves_same e (seen_state from hand' begun') w w' b.0 b.1
+              (law.control from.end w a got v.stands next) framed armed quiet'
               (serves_roomy e (seen_state from hand begun) (seen_begun begun' hand') w same room v);
           control = ap (λ (f : Frame). f.control) framed ∙ opens.commands.control;
           alone = opens.commands.alone;
@@ -213,7 +215,8 @@ module _ {P E : Type 0} {port : PortModel P} {e : DeviceModel E} (law : IsLawful
   ack_stored begun place ack got opens moved =
       let o = opens.commands.executes.in_hand in
       let d : DeviceDone = StoreAck (taken_head w.done o.number) ack in
-      let is = law.controls.stored w place ack got (resting law from (Executed place ack) begun opens (λ z. cc z)) (owed_stores law from begun place ack opens) in
+      let is = law.controls.stored w place ack got (resting law from (Executed place ack) begun opens (λ z. cc z))
+      (owed_stores law from begun place ack opens) in
       controlled (Executed place ack) Free begun begun opens (λ z. cc z) (Store place ack) got d
       (ack_next law from begun place ack opens) moved (ap (λ (z : DeviceView). z.done) is) (ap (λ (z : DeviceView). z.armed) is)
       record { takes = refl; gives = refl; running = refl } refl (omega arith)
@@ -236,14 +239,22 @@ is_command_chain d e l law end w c k stands idle control new =
       ack = ack;
       is = new.chain;
       low = (
-        omega (arith, narrow, law.device_low w Control (Load (command + 1)) lawful ((law.device_end.controls.loads w (command + 1)).1 (
-          idle,
-          record { control = control; number = k; runs = runs; inside = inside; half = 1; two = omega arith; place = refl },
-        ))),
-        omega (arith, narrow, law.device_low w Control (Store ack 0) lawful ((law.device_end.controls.stores w ack 0).1 (
-          idle,
-          record { control = control; number = k; runs = runs; inside = inside; place = refl },
-        ))),
+        omega (
+          arith,
+          narrow,
+          law.device_low w Control (Load (command + 1)) lawful ((law.device_end.controls.loads w (command + 1)).1 (
+            idle,
+            record { control = control; number = k; runs = runs; inside = inside; half = 1; two = omega arith; place = refl },
+          )),
+        ),
+        omega (
+          arith,
+          narrow,
+          law.device_low w Control (Store ack 0) lawful ((law.device_end.controls.stores w ack 0).1 (
+            idle,
+            record { control = control; number = k; runs = runs; inside = inside; place = refl },
+          )),
+        ),
       );
     }
 

@@ -211,7 +211,8 @@ module _ {P E : Type 0} {port : PortModel P} {e : DeviceModel E} (law : IsLawful
       let next : next_held io from.held.items ≡ Some (record { number = k; len = n }) = ap (λ i. next_held i from.held.items) (sym is)
       ∙ t.1 in
       let nx = Rattle.vd_models.proofs.Lists.next_is io from.held.items (record { number = k; len = n }) next in
-      let noted = Rattle.vd_models.proofs.Lists.All-next (λ (z : Held). Rattle.vd_bus.specs.Device.IsJournalled (seen begun.items Free) from.by.at from.by.from
+      let noted = Rattle.vd_models.proofs.Lists.All-next (λ (z : Held). Rattle.vd_bus.specs.Device.IsJournalled
+      (seen begun.items Free) from.by.at from.by.from
       (entry z.number z.len)) io from.held.items (record { number = k; len = n }) next v.held.noted in
       let some : 1 ≤ occurs k (running w.done) = omega (arith, nx.among, ap (occurs k) v.held.hand) in
       let h = gave law x io held' k empty is (opens_seen from Free begun w opens) s is_held is_empty in

@@ -270,7 +270,8 @@ module _ {P D : Type 0} {port : PortModel P} {d : DriverModel D} {l : LayoutMode
       }
 
   -- with nothing in hand, and no command's offer begun
-  pub same_turn : DriveOpens d l from v → (answer : DriverAct) (h : IsDriverStep port d p q v from.end y answer) (st' : GuestStage) (t : Turn)
+  pub same_turn : DriveOpens d l from v → (answer : DriverAct) (h : IsDriverStep port d p q v from.end y answer) (st' : GuestStage)
+      (t : Turn)
       → (d.side.after v h.op h.access h.got).done ≡ v.done → is_done st' ≡ false → from.hand ≡ hand.Free → IsNoOffer (d.begun y)
       → BegunIs st' (d.begun y) (next_of d.words from.script from.at v.frame v.done) v.frame v.done
       → ArmedIs st' (d.begun y) (d.side.after v h.op h.access h.got).doing (d.side.after v h.op h.access h.got).armed

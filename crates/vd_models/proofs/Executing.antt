@@ -215,11 +215,14 @@ module _ (words : ControlWords) (f : Frame) (by : Attached) (bs : List Begun) (s
         after = x.after;
         each = λ i b at. taken_executed c h (by.from + i) b (omega (arith, some_index by.at bs i b at)) (x.each i b at);
         given = All-weaker (IsClosed bs by s) (IsClosed bs by (Take c h ∷ s)) (taken_closed c h) (drop by.from (gives s)) x.given;
-        in_hand = (record {
-          runs = ap (λ ks. ks ++ t ∷ []) none ∙ ap (λ j. j ∷ []) same;
-          last = omega (arith, length_push (takes s) c);
-          chain = subst (λ j. IsControlChain (words.command f j) (words.ack f j) c) (sym head) is;
-        }, rw (eq-eqb t k same) refl);
+        in_hand = (
+          record {
+            runs = ap (λ ks. ks ++ t ∷ []) none ∙ ap (λ j. j ∷ []) same;
+            last = omega (arith, length_push (takes s) c);
+            chain = subst (λ j. IsControlChain (words.command f j) (words.ack f j) c) (sym head) is;
+          },
+          rw (eq-eqb t k same) refl,
+        );
       }
 
   new_loaded : (c : List Piece) (k half y : ℕ) → IsNew words f c k s → IsNew words f c k (LoadCommand k half y ∷ s)
@@ -232,7 +235,8 @@ module _ (words : ControlWords) (f : Frame) (by : Attached) (bs : List Begun) (s
       record {
         after = x.after;
         each = λ i b at. loaded_executed k 0 y (by.from + i) b (omega (arith, some_index by.at bs i b at)) (x.each i b at);
-        given = All-weaker (IsClosed bs by s) (IsClosed bs by (LoadCommand k 0 y ∷ s)) (loaded_closed k 0 y) (drop by.from (gives s)) x.given;
+        given = All-weaker (IsClosed bs by s) (IsClosed bs by (LoadCommand k 0 y ∷ s)) (loaded_closed k 0 y) (drop by.from
+            (gives s)) x.given;
         in_hand = (new_loaded c k 0 y x.in_hand.0, rw (eq-eqb k k refl) (ap (λ ls. loaded 0 y ∷ ls) x.in_hand.1));
       }
 
@@ -348,6 +352,7 @@ module _ (words : ControlWords) (f : Frame) (by : Attached) (bs : List Begun) (s
   executes_none at from none = record {
     after = omega arith;
     each = λ i b is. absurd (omega (arith, some_index by.at bs i b is));
-    given = subst (λ (us : List Used). All (IsClosed bs by s) us) (sym (drop_all by.from (gives s) (omega arith))) (All-nil (IsClosed bs by s));
+    given = subst (λ (us : List Used). All (IsClosed bs by s) us) (sym (drop_all by.from (gives s) (omega arith))) (All-nil
+        (IsClosed bs by s));
     in_hand = λ k some. absurd (omega (arith, ap (occurs k) none));
   }

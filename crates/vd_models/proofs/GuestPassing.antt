@@ -92,7 +92,8 @@ module _ {P D : Type 0} {port : PortModel P} {d : DriverModel D} {l : LayoutMode
       let v' : DriverView = d.side.after v h.op h.access h.got in
       let framed : v'.frame ≡ v.frame = law.framed v h.op h.access h.got in
       let done : v'.done ≡ Offer c ∷ v.done = h.says.4 in
-      let none = chains_at d.words from.script from.returned v.frame v.done from.stage (d.begun from.end) c from.hand h.says.1 other x.held in
+      let none = chains_at d.words from.script from.returned v.frame v.done from.stage
+      (d.begun from.end) c from.hand h.says.1 other x.held in
       let free = free_of_chains d.words from.script from.returned v.frame v.done from.stage (d.begun from.end) from.hand none x.held in
       let back = all_back d.words from.script from.returned v.frame v.done from.stage (d.begun from.end) from.hand free x.held in
       let z : HasOffered from.script from.at from.offered from.returned v.frame v.done = x.chained none in
@@ -100,7 +101,8 @@ module _ {P D : Type 0} {port : PortModel P} {d : DriverModel D} {l : LayoutMode
       let at = at_offer (next_of d.words from.script from.at v.frame v.done) v.frame v.done c from.stage (subst
       (λ z. BegunIs from.stage z (next_of d.words from.script from.at v.frame v.done) v.frame v.done) h.says.1 x.begun) in
       let t : next_at from.script.runs from.at ≡ Some c = sym (next_is_chain d.words from.script from.at v.frame v.done none) ∙ at.1 in
-      let u = unarming from.stage (d.begun from.end) v.doing (next_of d.words from.script from.at v.frame v.done) v.frame v.done h.op v.armed (λ z. cc
+      let u = unarming from.stage (d.begun from.end) v.doing
+      (next_of d.words from.script from.at v.frame v.done) v.frame v.done h.op v.armed (λ z. cc
       (z, h.says.1)) (λ z. cc
       (z, h.says.1)) x.begun h.of_it x.armed in
       let nx = next_chain from.script from.at from.offered c x.settled z.left t in
@@ -178,7 +180,8 @@ module _ {P D : Type 0} {port : PortModel P} {d : DriverModel D} {l : LayoutMode
   used_fits k other opens h =
       let x = opens.drives in
       let c : List Piece = h.says.0 in
-      let none = chains_at d.words from.script from.returned v.frame v.done from.stage (d.begun from.end) c from.hand h.says.1 other x.held in
+      let none = chains_at d.words from.script from.returned v.frame v.done from.stage
+      (d.begun from.end) c from.hand h.says.1 other x.held in
       let t = at_offer (next_of d.words from.script from.at v.frame v.done) v.frame v.done c from.stage (subst
       (λ z. BegunIs from.stage z (next_of d.words from.script from.at v.frame v.done) v.frame v.done) h.says.1 x.begun) in
       let is : next_at from.script.runs from.at ≡ Some c = sym (next_is_chain d.words from.script from.at v.frame v.done none) ∙ t.1 in
@@ -202,7 +205,8 @@ module _ {P D : Type 0} {port : PortModel P} {d : DriverModel D} {l : LayoutMode
       let more : length r' ≡ length from.returned + 1 = ap length is_back ∙ length_push from.returned
       (record { number = k; len = len; ack = 0 }) in
       let many : length (offers v.done) ≡ from.offered = ap length z.offers ∙ length-take-le from.offered (chains from.script) z.some in
-      let u = unarming from.stage (d.begun from.end) v.doing (next_of d.words from.script from.at v.frame v.done) v.frame v.done h.op v.armed (λ z. cc
+      let u = unarming from.stage (d.begun from.end) v.doing
+      (next_of d.words from.script from.at v.frame v.done) v.frame v.done h.op v.armed (λ z. cc
       (z, said.begun)) (λ z. cc
       (z, said.begun)) x.begun h.of_it x.armed in
       let c = at_collect (next_of d.words from.script from.at v.frame v.done) v.frame v.done from.stage (subst
@@ -238,7 +242,8 @@ module _ {P D : Type 0} {port : PortModel P} {d : DriverModel D} {l : LayoutMode
                 (λ (z : List DriverDone). length (offers z)) done,
             ap (λ (z : List DriverDone). length (open_at z)) done,
           );
-          begun = subst (λ z. BegunIs (collected_stage t from.stage) z (next_of d.words from.script from.at v'.frame v'.done) v'.frame v'.done)
+          begun = subst (λ z. BegunIs (collected_stage t from.stage) z
+              (next_of d.words from.script from.at v'.frame v'.done) v'.frame v'.done)
               (sym said.idle) (collected_begun t from.stage
               (next_of d.words from.script from.at v'.frame v'.done) v'.frame v'.done c);
           done = done_is t from.stage (length r') (scripted from.script) is_done opens.live (omega

@@ -306,7 +306,8 @@ on_access : {P : Type 0} (port : PortModel P) {p q : P} (a b : Access) (r : ℕ)
 on_access port {p} {q} a b r moved is = subst (λ z. port.moves p op.Control z r q) is moved
 
 module _ {P D E : Type 0} {port : PortModel P} (d : DriverModel D) (e : DeviceModel E) (l : LayoutModel) (lay : IsLawfulLayout d e l)
-    (x : Driven D) {p q : P} (v : DriverView) (opens : DriveOpens d l x v) (a : Access) (r : ℕ) (moved : port.moves p op.Control a r q) where
+    (x : Driven D) {p q : P} (v : DriverView) (opens : DriveOpens d l x v) (a : Access) (r : ℕ)
+    (moved : port.moves p op.Control a r q) where
   pub first_turn : x.hand ≡ hand.Free → StoresFirst d x v a
       → IsDriveTurn port d l p q v x (put x.end x.script x.at x.offered x.returned x.stage hand.First) Worked
   first_turn free s =

@@ -135,7 +135,8 @@ module _ {P D : Type 0} {port : PortModel P} {d : DriverModel D} {l : LayoutMode
       } in
       let is : d.side.after v op.Control (Store place x) r ≡ z = law.controls.stored v place x r rests s in
       let c : IsSent d.words l from.script from.offered from.returned v.frame v.done = y.sent some in
-      control_turn opens (Store place x) r ((law.controls.stores v place x).1 (rests, s)) moved idle z (StoreCommand g s.half x) is refl refl
+      control_turn opens (Store place x) r ((law.controls.stores v place x).1 (rests, s)) moved idle z
+      (StoreCommand g s.half x) is refl refl
       refl from.stage from.returned h'
       (λ stands. record {
         stands = stands;
@@ -218,7 +219,8 @@ module _ {P D : Type 0} {port : PortModel P} {d : DriverModel D} {l : LayoutMode
       → IsDriveTurn port d l p q v from (put from.end from.script from.at from.offered rs' (collected_stage t from.stage) hand.Free) Worked
   acked_at opens n k h r place t ack at rs' back all moved =
       let y = opens.drives in
-      let held = subst (λ (z : Pending). HandIs d.words from.script from.returned v.frame v.done from.stage (d.begun from.end) z) ack y.held in
+      let held = subst (λ (z : Pending). HandIs d.words from.script from.returned v.frame v.done from.stage
+      (d.begun from.end) z) ack y.held in
       let x = held.0 in
       let idle = held.1 in
       let rests : v.doing ≡ now.Idle = law.at_rest from.end v y.stands idle in
@@ -276,7 +278,8 @@ module _ {P D : Type 0} {port : PortModel P} {d : DriverModel D} {l : LayoutMode
     -- the offer
     pub sent_at : (k : ℕ) (turns : Bool) → from.hand ≡ hand.Both → DriveOpens d l from v
         → IsDriverStep port d p q v from.end y (act.Offered k)
-        → IsDriveTurn port d l p q v from (put y from.script from.at (from.offered + 1) from.returned (offered_stage turns) hand.Free) Worked
+        → IsDriveTurn port d l p q v from (put y from.script from.at (from.offered + 1) from.returned
+        (offered_stage turns) hand.Free) Worked
     sent_at k turns both opens h =
         let x = opens.drives in
         let c : List Piece = h.says.0 in
@@ -317,7 +320,11 @@ module _ {P D : Type 0} {port : PortModel P} {d : DriverModel D} {l : LayoutMode
               ring = s.ring;
               plain = s.plain;
             });
-            held = (held.0.back ∙ sym (ap (λ (z : List DriverDone). length (collects z)) done), λ e. no_offer_published (d.begun y) h.says.2);
+            held = (
+              held.0.back ∙ sym (ap (λ (z : List DriverDone). length (collects z)) done),
+              λ e. no_offer_published
+                  (d.begun y) h.says.2,
+            );
             count = (law.places y v' h.now_stands).count;
             begun = offered_begun turns (d.begun y) (next_of d.words from.script from.at v'.frame v'.done) v'.frame v'.done h.says.2;
             done = less_live (offered_stage turns) (length from.returned) (scripted from.script) live.0 (live_less from.stage

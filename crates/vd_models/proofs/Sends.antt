@@ -124,7 +124,8 @@ sent_offered words s f o c places fits hand is h =
         | inr past ↦ (
             let at : n ≡ k = omega (arith, low, past, length_push (offers o) c) in
             let same : hand.bytes ≡ bytes = same_some hand.bytes bytes (sym hand.next ∙ ap (slice_get (commands s)) at ∙ get) in
-            subst (λ (j : ℕ). Carries words f (Offer c ∷ o) j bytes) at (subst (λ (b : List ℕ). Carries words f (Offer c ∷ o) n b) same (record {
+            subst (λ (j : ℕ). Carries words f (Offer c ∷ o) j bytes) at (subst (λ (b : List ℕ). Carries words f (Offer c ∷ o) n b) same
+            (record {
               is = chain_new o c ∙ is ∙ ap (λ h. command_chain words f h hand.bytes) (sym (head_new f o c places fits));
               first = command_new f o c 0 ∙ hand.stored 0 (omega arith);
               second = command_new f o c 1 ∙ hand.stored 1 (omega arith);

@@ -71,7 +71,8 @@ impl<L: Layout> Device<L> for FaultyDevice<L> {
       held = λ x w h. held_law L.Device.device x.inner.phase x.inner.journal x.inner.counts x.inner.settings w h;
       serves = λ x w a h is d. serves_law L.Device.device x.inner.phase x.inner.journal x.inner.counts x.inner.settings w a h is d;
       commanded = λ x w a h is c. commanded_law L.Device.device x.inner.phase x.inner.journal x.inner.counts x.inner.settings w a h is c;
-      done = λ x w a h is d. done_law L.Device.device L.Device.device_lawful x.inner.phase x.inner.journal x.inner.counts x.inner.settings w a h is d;
+      done = λ x w a h is d. done_law L.Device.device L.Device.device_lawful x.inner.phase x.inner.journal x.inner.counts
+          x.inner.settings w a h is d;
       armed = λ x w a h is. armed_law L.Device.device x.inner.phase x.inner.journal x.inner.counts x.inner.settings w a h is;
       pace = λ x w a h is. pace_law L.Device.device x.inner.phase x.inner.journal x.inner.counts x.inner.settings w a h is;
       pace_free = λ x is. x.inner.paced is;

@@ -105,7 +105,8 @@ module _ {L D E G X C : Type 0} (s : Setting D E G X C) (law : IsLawful s) (plan
       → IsShadowRing s.driver s.device s.layout plan q k ring
       → StoppedWith s plan q k words still relaying relayed guest device → Renews s.party (resets plan q k) device device1
       → InEpochWith s plan q true k 0 words' still' relaying' relayed' guest device'
-  held_shadows to words words' None still' relaying relaying' relayed relayed' guest device device1 device' end ring x is more mode same none
+  held_shadows to words words' None still' relaying relaying' relayed relayed' guest device device1 device' end ring x is more mode same
+      none
       has was own shadows fresh a kit p n = absurd p
   held_shadows to words words' (Some old) still' (Some y) relaying' relayed relayed' guest device device1 device' end ring x is more mode
       same none has was own shadows fresh a kit p n = absurd p

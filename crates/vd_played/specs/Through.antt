@@ -23,6 +23,7 @@ device_through f m = record {
   event_room = λ y. m.event_room (f y);
   chain_room = λ y. m.chain_room (f y);
   settings = λ y. m.settings (f y);
+  attached_with = λ y. m.attached_with (f y);
   faults = λ y. m.faults (f y);
   window = λ y. m.window (f y);
   carried = λ y. m.carried (f y);

@@ -82,7 +82,8 @@ module _ {Q D E : Type 0} (port : PortModel Q) (l : LayoutModel) (d : DriverMode
         got = got;
         was_next = next;
         moved = moved;
-        after = lay.driver_end.controls.stored v place word got (is_idle l d e lay x v h) (stores l d e lay x v h 0 place (omega arith) here);
+        after = lay.driver_end.controls.stored v place word got (is_idle l d e lay x v h) (stores l d e lay x v h 0 place
+            (omega arith) here);
         stands = lay.driver_end.control x v (Store place word) got h.drives next;
       }
 

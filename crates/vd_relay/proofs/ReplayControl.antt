@@ -112,7 +112,8 @@ module _ {Q D E : Type 0} (port : PortModel Q) (l : LayoutModel) (d : DriverMode
   next_second is = room_at (at_stage Second is).1 (idle_at Second is refl)
 
   -- an access of a word is no operation's
-  control_turn : (r' : Replay) (x' : D) (a : Access) (got : ℕ) (u : DriverView) → d.side.next v op.Control a → port.moves p op.Control a got q
+  control_turn : (r' : Replay) (x' : D) (a : Access) (got : ℕ) (u : DriverView) → d.side.next v op.Control a
+      → port.moves p op.Control a got q
       → d.side.after v op.Control a got ≡ u → length (offers u.done) ≡ length (offers v.done)
       → length (collects u.done) ≡ length (collects v.done) → Replays l d r' x' u
       → replay_owes d r'.winding r'.stage x' u + 1 ≤ replay_owes d r.winding r.stage x v → ReplayTurn port l d p q r r' x x' v Worked
@@ -246,7 +247,8 @@ module _ {Q D E : Type 0} (port : PortModel Q) (l : LayoutModel) (d : DriverMode
         carried = carried_stored cs v.frame v.done q0 1 w h.carried;
         acked = h.acked;
         op = subst (λ o. ShadowIs (stage.Offering 0 0) o) (sym begun) tt;
-        offer = subst (λ o. OffersIt o cs r.next) (sym begun) (λ a got_a. readable_control (d.words.command v.frame q0) (d.words.ack v.frame q0) len ∙ sized a got_a);
+        offer = subst (λ o. OffersIt o cs r.next) (sym begun) (λ a got_a. readable_control (d.words.command v.frame q0)
+            (d.words.ack v.frame q0) len ∙ sized a got_a);
         armed = unarmed_at Second is refl;
         shown = subst (λ o. ShadowShown o v.doing v.shown (d.left x')) (sym begun) tt;
         disarms = λ z. absurd (cc z);

@@ -32,158 +32,161 @@ arm_pays true n some = omega arith
 arm_pays false n some = omega arith
 
 module _ {Q D : Type 0} (port : PortModel Q) (l : LayoutModel) (d : DriverModel D) (ldr : IsLawfulDriver d) (p q : Q) (r : Replay) (x y : D)
-    (v : DriverView) (b : D) (h : Replays l d r y v) (less : replay_owes d r.winding r.stage y v ≤ replay_owes d r.winding r.stage x v) where
-  armed_at : (s : IsDriverStep port d p q v y b act.Armed) → ShadowArms DriverOp.arm v.doing v.armed
-      → IsSome (d.side.after v s.op s.access s.got).armed
-  armed_at s a =
-      let again : v.doing ≡ now.Arming = ((ldr.looks.armed v s.op s.access s.got s.was_next).0 (sym s.is_answer)).1 in
-      elim a [
-        | inl z ↦ absurd (cc (z, again))
-        | inr (inl z) ↦ (z.1.0, ldr.stays.armed v s.op s.access s.got s.was_next (sym s.is_answer) ∙ z.1.1)
-        | inr (inr z) ↦ absurd (cc (z, again))
-      ]
+    (v : DriverView) (b : D) (h : Replays l d r y v) (less : replay_owes d r.winding r.stage y v ≤ replay_owes d r.winding r.stage x v)
+  where
+    armed_at : (s : IsDriverStep port d p q v y b act.Armed) → ShadowArms DriverOp.arm v.doing v.armed
+        → IsSome (d.side.after v s.op s.access s.got).armed
+    armed_at s a =
+        let again : v.doing ≡ now.Arming = ((ldr.looks.armed v s.op s.access s.got s.was_next).0 (sym s.is_answer)).1 in
+        elim a [
+          | inl z ↦ absurd (cc (z, again))
+          | inr (inl z) ↦ (z.1.0, ldr.stays.armed v s.op s.access s.got s.was_next (sym s.is_answer) ∙ z.1.1)
+          | inr (inr z) ↦ absurd (cc (z, again))
+        ]
 
-  pub armed : r.winding ≡ false → IsDriverStep port d p q v y b act.Armed → ReplayTurn port l d p q r (to_stage r Hearing) x b v Worked
-  armed off s =
-      let v' : DriverView = d.side.after v s.op s.access s.got in
-      let cs = replay r.settings in
-      let e : r.stage ≡ Arming = at_arming r.stage (subst (λ o. ShadowIs (as_stage r.stage) o) s.says.0 h.op) in
-      let at : IsAt Arming cs r.next v.frame v.done = subst (λ (z : ReplayStage). IsAt z cs r.next v.frame v.done) e h.at in
-      let arms : ShadowArms DriverOp.arm v.doing v.armed = subst (λ o. ShadowArms o v.doing v.armed) s.says.0
-      (subst (λ (z : ReplayStage). ShadowArmed (as_stage z) (d.begun y) v.doing v.armed) e h.armed) in
-      made port l d ldr p q r x y v b h less act.Armed s (to_stage r Hearing) Worked
-      (settled port l d ldr p q r x y v b h less act.Armed s Hearing v.done s.says.2 (at, h.carried, h.acked) s.says.1 tt (armed_at s arms)
-      (λ z. absurd (cc z)))
-      (same_grown v.done v'.done s.says.2) (worked_only act.Armed (λ z. cc z)) (once port l d ldr p q r x y v b h less act.Armed Worked (λ z. cc z) (λ z. cc z)) (not_woken s.op act.Armed (λ z. cc z))
-      (omega (
-        arith,
-        s.left,
-        owes_idle port l d ldr p q r x y v b h less Hearing v' refl s.says.1,
-        ap (λ (z : ReplayStage). replay_owes d r.winding z y v) e,
-        ap (λ o. shadow_owes r.winding stage.ArmingShadow o v.doing false v.shown (d.left y)) s.says.0,
-        ap hear_owes off,
-        ap {B = ℕ} (λ (z : Bool). if z then 6 else 39) off,
-      ))
+    pub armed : r.winding ≡ false → IsDriverStep port d p q v y b act.Armed → ReplayTurn port l d p q r (to_stage r Hearing) x b v Worked
+    armed off s =
+        let v' : DriverView = d.side.after v s.op s.access s.got in
+        let cs = replay r.settings in
+        let e : r.stage ≡ Arming = at_arming r.stage (subst (λ o. ShadowIs (as_stage r.stage) o) s.says.0 h.op) in
+        let at : IsAt Arming cs r.next v.frame v.done = subst (λ (z : ReplayStage). IsAt z cs r.next v.frame v.done) e h.at in
+        let arms : ShadowArms DriverOp.arm v.doing v.armed = subst (λ o. ShadowArms o v.doing v.armed) s.says.0
+        (subst (λ (z : ReplayStage). ShadowArmed (as_stage z) (d.begun y) v.doing v.armed) e h.armed) in
+        made port l d ldr p q r x y v b h less act.Armed s (to_stage r Hearing) Worked
+        (settled port l d ldr p q r x y v b h less act.Armed s Hearing v.done s.says.2 (at, h.carried, h.acked) s.says.1 tt (armed_at s arms)
+        (λ z. absurd (cc z)))
+        (same_grown v.done v'.done s.says.2) (worked_only act.Armed (λ z. cc z)) (once port l d ldr p q r x y v b h less act.Armed Worked
+        (λ z. cc z) (λ z. cc z)) (not_woken s.op act.Armed (λ z. cc z))
+        (omega (
+          arith,
+          s.left,
+          owes_idle port l d ldr p q r x y v b h less Hearing v' refl s.says.1,
+          ap (λ (z : ReplayStage). replay_owes d r.winding z y v) e,
+          ap (λ o. shadow_owes r.winding stage.ArmingShadow o v.doing false v.shown (d.left y)) s.says.0,
+          ap hear_owes off,
+          ap {B = ℕ} (λ (z : Bool). if z then 6 else 39) off,
+        ))
 
-  -- in a wind-up it is disarmed again
-  pub armed_winding : r.winding ≡ true → IsDriverStep port d p q v y b act.Armed
-      → ReplayTurn port l d p q r (to_stage r Disarming) x b v Worked
-  armed_winding on s =
-      let v' : DriverView = d.side.after v s.op s.access s.got in
-      let cs = replay r.settings in
-      let e : r.stage ≡ Arming = at_arming r.stage (subst (λ o. ShadowIs (as_stage r.stage) o) s.says.0 h.op) in
-      let at : IsAt Arming cs r.next v.frame v.done = subst (λ (z : ReplayStage). IsAt z cs r.next v.frame v.done) e h.at in
-      let arms : ShadowArms DriverOp.arm v.doing v.armed = subst (λ o. ShadowArms o v.doing v.armed) s.says.0
-      (subst (λ (z : ReplayStage). ShadowArmed (as_stage z) (d.begun y) v.doing v.armed) e h.armed) in
-      made port l d ldr p q r x y v b h less act.Armed s (to_stage r Disarming) Worked
-      (settled port l d ldr p q r x y v b h less act.Armed s Disarming v.done s.says.2 (at, h.carried, h.acked) s.says.1 tt (armed_at s arms) (λ z. on))
-      (same_grown v.done v'.done s.says.2) (worked_only act.Armed (λ z. cc z))
-      (once port l d ldr p q r x y v b h less act.Armed Worked (λ z. cc z) (λ z. cc z)) (not_woken s.op act.Armed (λ z. cc z))
-      (omega (
-        arith,
-        s.left,
-        owes_idle port l d ldr p q r x y v b h less Disarming v' refl s.says.1,
-        ap (λ z. take_owes z false v'.shown) on,
-        ap (λ (z : ReplayStage). replay_owes d r.winding z y v) e,
-        ap (λ o. shadow_owes r.winding stage.ArmingShadow o v.doing false v.shown (d.left y)) s.says.0,
-        ap {B = ℕ} (λ (z : Bool). if z then 6 else 39) on,
-      ))
+    -- in a wind-up it is disarmed again
+    pub armed_winding : r.winding ≡ true → IsDriverStep port d p q v y b act.Armed
+        → ReplayTurn port l d p q r (to_stage r Disarming) x b v Worked
+    armed_winding on s =
+        let v' : DriverView = d.side.after v s.op s.access s.got in
+        let cs = replay r.settings in
+        let e : r.stage ≡ Arming = at_arming r.stage (subst (λ o. ShadowIs (as_stage r.stage) o) s.says.0 h.op) in
+        let at : IsAt Arming cs r.next v.frame v.done = subst (λ (z : ReplayStage). IsAt z cs r.next v.frame v.done) e h.at in
+        let arms : ShadowArms DriverOp.arm v.doing v.armed = subst (λ o. ShadowArms o v.doing v.armed) s.says.0
+        (subst (λ (z : ReplayStage). ShadowArmed (as_stage z) (d.begun y) v.doing v.armed) e h.armed) in
+        made port l d ldr p q r x y v b h less act.Armed s (to_stage r Disarming) Worked
+        (settled port l d ldr p q r x y v b h less act.Armed s Disarming v.done s.says.2 (at, h.carried, h.acked) s.says.1 tt
+        (armed_at s arms) (λ z. on))
+        (same_grown v.done v'.done s.says.2) (worked_only act.Armed (λ z. cc z))
+        (once port l d ldr p q r x y v b h less act.Armed Worked (λ z. cc z) (λ z. cc z)) (not_woken s.op act.Armed (λ z. cc z))
+        (omega (
+          arith,
+          s.left,
+          owes_idle port l d ldr p q r x y v b h less Disarming v' refl s.says.1,
+          ap (λ z. take_owes z false v'.shown) on,
+          ap (λ (z : ReplayStage). replay_owes d r.winding z y v) e,
+          ap (λ o. shadow_owes r.winding stage.ArmingShadow o v.doing false v.shown (d.left y)) s.says.0,
+          ap {B = ℕ} (λ (z : Bool). if z then 6 else 39) on,
+        ))
 
-  pub slept : IsDriverStep port d p q v y b act.Asleep → ReplayTurn port l d p q r r x b v Slept
-  slept s =
-      let v' : DriverView = d.side.after v s.op s.access s.got in
-      let cs = replay r.settings in
-      let e : r.stage ≡ Hearing = at_hearing r.stage (subst (λ o. ShadowIs (as_stage r.stage) o) s.says.0 h.op) in
-      let at : IsAt Hearing cs r.next v.frame v.done = subst (λ (z : ReplayStage). IsAt z cs r.next v.frame v.done) e h.at in
-      let hears : ShadowHears DriverOp.hear v.doing v.armed = subst (λ o. ShadowHears o v.doing v.armed) s.says.0
-      (subst (λ (z : ReplayStage). ShadowArmed (as_stage z) (d.begun y) v.doing v.armed) e h.armed) in
-      let look : v.doing ≡ now.Idle = ((ldr.looks.asleep v s.op s.access s.got s.was_next).0 (sym s.is_answer)).1 in
-      let same : v' ≡ v = ldr.stays.asleep v s.op s.access s.got s.was_next (sym s.is_answer) in
-      let some : IsSome v.armed = elim hears [ inl z ↦ z.1 | inr z ↦ absurd (cc (z, look)) ] in
-      subst (λ (z : ReplayStage). ReplayTurn port l d p q r (to_stage r z) x b v Slept) (sym e)
-      (made port l d ldr p q r x y v b h less act.Asleep s (to_stage r Hearing) Slept
-      (settled port l d ldr p q r x y v b h less act.Asleep s Hearing v.done s.says.2 (at, h.carried, h.acked) s.says.1 tt
-      (subst (λ (u : DriverView). IsSome u.armed) (sym same) some) (λ z. absurd (cc z)))
-      (same_grown v.done v'.done s.says.2) ((λ z. refl), λ z. refl)
-      (once port l d ldr p q r x y v b h less act.Asleep Slept (λ z. cc z) (λ z. cc z)) (not_woken s.op act.Asleep (λ z. cc z))
-      (omega (
-        arith,
-        owes_idle port l d ldr p q r x y v b h less Hearing v' refl s.says.1,
-        ap (λ (z : ReplayStage). replay_owes d r.winding z y v) e,
-        ap (λ o. shadow_owes r.winding stage.HearingShadow o v.doing false v.shown (d.left y)) s.says.0,
-        ap (shadow_hears r.winding) look,
-      )))
+    pub slept : IsDriverStep port d p q v y b act.Asleep → ReplayTurn port l d p q r r x b v Slept
+    slept s =
+        let v' : DriverView = d.side.after v s.op s.access s.got in
+        let cs = replay r.settings in
+        let e : r.stage ≡ Hearing = at_hearing r.stage (subst (λ o. ShadowIs (as_stage r.stage) o) s.says.0 h.op) in
+        let at : IsAt Hearing cs r.next v.frame v.done = subst (λ (z : ReplayStage). IsAt z cs r.next v.frame v.done) e h.at in
+        let hears : ShadowHears DriverOp.hear v.doing v.armed = subst (λ o. ShadowHears o v.doing v.armed) s.says.0
+        (subst (λ (z : ReplayStage). ShadowArmed (as_stage z) (d.begun y) v.doing v.armed) e h.armed) in
+        let look : v.doing ≡ now.Idle = ((ldr.looks.asleep v s.op s.access s.got s.was_next).0 (sym s.is_answer)).1 in
+        let same : v' ≡ v = ldr.stays.asleep v s.op s.access s.got s.was_next (sym s.is_answer) in
+        let some : IsSome v.armed = elim hears [ inl z ↦ z.1 | inr z ↦ absurd (cc (z, look)) ] in
+        subst (λ (z : ReplayStage). ReplayTurn port l d p q r (to_stage r z) x b v Slept) (sym e)
+        (made port l d ldr p q r x y v b h less act.Asleep s (to_stage r Hearing) Slept
+        (settled port l d ldr p q r x y v b h less act.Asleep s Hearing v.done s.says.2 (at, h.carried, h.acked) s.says.1 tt
+        (subst (λ (u : DriverView). IsSome u.armed) (sym same) some) (λ z. absurd (cc z)))
+        (same_grown v.done v'.done s.says.2) ((λ z. refl), λ z. refl)
+        (once port l d ldr p q r x y v b h less act.Asleep Slept (λ z. cc z) (λ z. cc z)) (not_woken s.op act.Asleep (λ z. cc z))
+        (omega (
+          arith,
+          owes_idle port l d ldr p q r x y v b h less Hearing v' refl s.says.1,
+          ap (λ (z : ReplayStage). replay_owes d r.winding z y v) e,
+          ap (λ o. shadow_owes r.winding stage.HearingShadow o v.doing false v.shown (d.left y)) s.says.0,
+          ap (shadow_hears r.winding) look,
+        )))
 
-  -- ---- awake
+    -- ---- awake
 
-  woken_to : (t : Turn) (s : IsDriverStep port d p q v y b act.Awake) → IsAt Collecting (replay r.settings) r.next v.frame v.done
-      → handled t ≡ 0 → t ≢ Slept → t ≢ Again → woke t ≡ driver_woken s.op act.Awake
-      → collect_owes r.winding false (d.side.after v s.op s.access s.got).shown + counted t
-      ≤ replay_owes d r.winding r.stage y v + 64 * woke t
-      → ReplayTurn port l d p q r (to_stage r Collecting) x b v t
-  woken_to t s at none ns na wakes paid =
-      let v' : DriverView = d.side.after v s.op s.access s.got in
-      made port l d ldr p q r x y v b h less act.Awake s (to_stage r Collecting) t
-      (settled port l d ldr p q r x y v b h less act.Awake s Collecting v.done s.says.2 (at, h.carried, h.acked) s.says.1 tt
-      (ldr.stays.awake v s.op s.access s.got s.was_next (sym s.is_answer)) (λ z. absurd (cc z)))
-      (omega (arith, same_grown v.done v'.done s.says.2, none)) ((λ z. absurd (ns z)), λ z. absurd (cc z))
-      (once port l d ldr p q r x y v b h less act.Awake t (λ z. cc z) na) wakes
-      (omega (arith, paid, none, owes_idle port l d ldr p q r x y v b h less Collecting v' refl s.says.1))
+    woken_to : (t : Turn) (s : IsDriverStep port d p q v y b act.Awake) → IsAt Collecting (replay r.settings) r.next v.frame v.done
+        → handled t ≡ 0 → t ≢ Slept → t ≢ Again → woke t ≡ driver_woken s.op act.Awake
+        → collect_owes r.winding false (d.side.after v s.op s.access s.got).shown + counted t
+        ≤ replay_owes d r.winding r.stage y v + 64 * woke t
+        → ReplayTurn port l d p q r (to_stage r Collecting) x b v t
+    woken_to t s at none ns na wakes paid =
+        let v' : DriverView = d.side.after v s.op s.access s.got in
+        made port l d ldr p q r x y v b h less act.Awake s (to_stage r Collecting) t
+        (settled port l d ldr p q r x y v b h less act.Awake s Collecting v.done s.says.2 (at, h.carried, h.acked) s.says.1 tt
+        (ldr.stays.awake v s.op s.access s.got s.was_next (sym s.is_answer)) (λ z. absurd (cc z)))
+        (omega (arith, same_grown v.done v'.done s.says.2, none)) ((λ z. absurd (ns z)), λ z. absurd (cc z))
+        (once port l d ldr p q r x y v b h less act.Awake t (λ z. cc z) na) wakes
+        (omega (arith, paid, none, owes_idle port l d ldr p q r x y v b h less Collecting v' refl s.says.1))
 
-  shown_at : (s : IsDriverStep port d p q v y b act.Awake) → s.op ≡ op.Arm → ShadowShown DriverOp.arm v.doing v.shown (d.left y)
-      → (d.side.after v s.op s.access s.got).shown ≡ true
-  shown_at s arm i = ldr.stays.shown v s.op s.access s.got s.was_next (subst (λ z. DriverGoes z) s.is_answer tt)
-      (elim ((ldr.looks.awake v s.op s.access s.got s.was_next).0 (sym s.is_answer)) [
-        | inl z ↦ elim z.0 [ inl a ↦ inr (inr (a.0, a.1)) | inr a ↦ absurd (cc (arm, a.0)) ]
-        | inr (inl z) ↦ inl (i (z ∙ ap now.Disarming arm))
-        | inr (inr z) ↦ absurd (cc (arm, z))
-      ])
+    shown_at : (s : IsDriverStep port d p q v y b act.Awake) → s.op ≡ op.Arm → ShadowShown DriverOp.arm v.doing v.shown (d.left y)
+        → (d.side.after v s.op s.access s.got).shown ≡ true
+    shown_at s arm i = ldr.stays.shown v s.op s.access s.got s.was_next (subst (λ z. DriverGoes z) s.is_answer tt)
+        (elim ((ldr.looks.awake v s.op s.access s.got s.was_next).0 (sym s.is_answer)) [
+          | inl z ↦ elim z.0 [ inl a ↦ inr (inr (a.0, a.1)) | inr a ↦ absurd (cc (arm, a.0)) ]
+          | inr (inl z) ↦ inl (i (z ∙ ap now.Disarming arm))
+          | inr (inr z) ↦ absurd (cc (arm, z))
+        ])
 
-  woken : (a : DriverOp) → d.begun y ≡ a → (s : IsDriverStep port d p q v y b act.Awake) → MayWake a → ShadowIs (as_stage r.stage) a
-      → ReplayTurn port l d p q r (to_stage r Collecting) x b v (replay_waking r.stage)
-  woken DriverOp.arm is s m g =
-      let v' : DriverView = d.side.after v s.op s.access s.got in
-      let e = at_arming r.stage g in
-      let of : s.op ≡ op.Arm = subst (λ o. IsDriverOp o s.op) is s.of_it in
-      let shown : v'.shown ≡ true = shown_at s of (subst (λ o. ShadowShown o v.doing v.shown (d.left y)) is h.shown) in
-      subst (λ (z : ReplayStage). ReplayTurn port l d p q r (to_stage r Collecting) x b v (replay_waking z)) (sym e)
-      (woken_to Worked s (subst (λ (z : ReplayStage). IsAt z (replay r.settings) r.next v.frame v.done) e h.at) refl (λ z. cc z) (λ z. cc z)
-      (sym (ap (λ o. driver_woken o act.Awake) of))
-      (omega (
-        arith,
-        s.left,
-        ap (λ z. collect_owes r.winding false z) shown,
-        arm_pays r.winding (d.left y) (omega (arith, s.left)),
-        ap (λ (z : ReplayStage). replay_owes d r.winding z y v) e,
-        ap (λ o. shadow_owes r.winding stage.ArmingShadow o v.doing false v.shown (d.left y)) is,
-      )))
-  woken DriverOp.hear is s m g =
-      let v' : DriverView = d.side.after v s.op s.access s.got in
-      let e = at_hearing r.stage g in
-      let of : s.op ≡ op.Hear = subst (λ o. IsDriverOp o s.op) is s.of_it in
-      subst (λ (z : ReplayStage). ReplayTurn port l d p q r (to_stage r Collecting) x b v (replay_waking z)) (sym e)
-      (woken_to Woke s (subst (λ (z : ReplayStage). IsAt z (replay r.settings) r.next v.frame v.done) e h.at) refl (λ z. cc z) (λ z. cc z)
-      (sym (ap (λ o. driver_woken o act.Awake) of)) (omega (arith, collect_most r.winding false v'.shown, most_few r.winding)))
-  woken DriverOp.disarm is s m g =
-      let v' : DriverView = d.side.after v s.op s.access s.got in
-      let e = at_disarming r.stage g in
-      let on : r.winding ≡ true = h.disarms e in
-      let of : s.op ≡ op.Disarm = subst (λ o. IsDriverOp o s.op) is s.of_it in
-      subst (λ (z : ReplayStage). ReplayTurn port l d p q r (to_stage r Collecting) x b v (replay_waking z)) (sym e)
-      (woken_to Worked s (subst (λ (z : ReplayStage). IsAt z (replay r.settings) r.next v.frame v.done) e h.at) refl (λ z. cc z) (λ z. cc z)
-      (sym (ap (λ o. driver_woken o act.Awake) of))
-      (omega (
-        arith,
-        ap (λ z. collect_owes z false v'.shown) on,
-        ap (λ (z : ReplayStage). replay_owes d r.winding z y v) e,
-        ap (λ o. shadow_owes r.winding stage.DisarmingShadow o v.doing false v.shown (d.left y)) is,
-        ap (λ z. take_owes z false v.shown) on,
-      )))
-  woken DriverOp.idle is s m g = absurd m
-  woken (DriverOp.offer c) is s m g = absurd m
-  woken DriverOp.collect is s m g = absurd m
-  woken DriverOp.signal is s m g = absurd m
+    woken : (a : DriverOp) → d.begun y ≡ a → (s : IsDriverStep port d p q v y b act.Awake) → MayWake a → ShadowIs (as_stage r.stage) a
+        → ReplayTurn port l d p q r (to_stage r Collecting) x b v (replay_waking r.stage)
+    woken DriverOp.arm is s m g =
+        let v' : DriverView = d.side.after v s.op s.access s.got in
+        let e = at_arming r.stage g in
+        let of : s.op ≡ op.Arm = subst (λ o. IsDriverOp o s.op) is s.of_it in
+        let shown : v'.shown ≡ true = shown_at s of (subst (λ o. ShadowShown o v.doing v.shown (d.left y)) is h.shown) in
+        subst (λ (z : ReplayStage). ReplayTurn port l d p q r (to_stage r Collecting) x b v (replay_waking z)) (sym e)
+        (woken_to Worked s (subst (λ (z : ReplayStage). IsAt z (replay r.settings) r.next v.frame v.done) e h.at) refl (λ z. cc z) (λ z. cc z)
+        (sym (ap (λ o. driver_woken o act.Awake) of))
+        (omega (
+          arith,
+          s.left,
+          ap (λ z. collect_owes r.winding false z) shown,
+          arm_pays r.winding (d.left y) (omega (arith, s.left)),
+          ap (λ (z : ReplayStage). replay_owes d r.winding z y v) e,
+          ap (λ o. shadow_owes r.winding stage.ArmingShadow o v.doing false v.shown (d.left y)) is,
+        )))
+    woken DriverOp.hear is s m g =
+        let v' : DriverView = d.side.after v s.op s.access s.got in
+        let e = at_hearing r.stage g in
+        let of : s.op ≡ op.Hear = subst (λ o. IsDriverOp o s.op) is s.of_it in
+        subst (λ (z : ReplayStage). ReplayTurn port l d p q r (to_stage r Collecting) x b v (replay_waking z)) (sym e)
+        (woken_to Woke s (subst (λ (z : ReplayStage). IsAt z (replay r.settings) r.next v.frame v.done) e h.at) refl (λ z. cc z) (λ z. cc z)
+        (sym (ap (λ o. driver_woken o act.Awake) of)) (omega (arith, collect_most r.winding false v'.shown, most_few r.winding)))
+    woken DriverOp.disarm is s m g =
+        let v' : DriverView = d.side.after v s.op s.access s.got in
+        let e = at_disarming r.stage g in
+        let on : r.winding ≡ true = h.disarms e in
+        let of : s.op ≡ op.Disarm = subst (λ o. IsDriverOp o s.op) is s.of_it in
+        subst (λ (z : ReplayStage). ReplayTurn port l d p q r (to_stage r Collecting) x b v (replay_waking z)) (sym e)
+        (woken_to Worked s (subst (λ (z : ReplayStage). IsAt z (replay r.settings) r.next v.frame v.done) e h.at) refl (λ z. cc z) (λ z. cc z)
+        (sym (ap (λ o. driver_woken o act.Awake) of))
+        (omega (
+          arith,
+          ap (λ z. collect_owes z false v'.shown) on,
+          ap (λ (z : ReplayStage). replay_owes d r.winding z y v) e,
+          ap (λ o. shadow_owes r.winding stage.DisarmingShadow o v.doing false v.shown (d.left y)) is,
+          ap (λ z. take_owes z false v.shown) on,
+        )))
+    woken DriverOp.idle is s m g = absurd m
+    woken (DriverOp.offer c) is s m g = absurd m
+    woken DriverOp.collect is s m g = absurd m
+    woken DriverOp.signal is s m g = absurd m
 
-  pub woken_at : IsDriverStep port d p q v y b act.Awake
-      → ReplayTurn port l d p q r (to_stage r Collecting) x b v (replay_waking r.stage)
-  woken_at s = woken (d.begun y) refl s s.says.0 h.op
+    pub woken_at : IsDriverStep port d p q v y b act.Awake
+        → ReplayTurn port l d p q r (to_stage r Collecting) x b v (replay_waking r.stage)
+    woken_at s = woken (d.begun y) refl s s.says.0 h.op

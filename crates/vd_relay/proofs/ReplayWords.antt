@@ -15,7 +15,8 @@ use Rattle.vd_layout.specs.Device.{DeviceModel}
 use Rattle.vd_layout.specs.Layout.{LayoutModel, IsLawfulLayout, IsMadeWith}
 use Rattle.vd_relay.specs.Replays.{IsShadowRing, HasNext}
 
-module _ {D E : Type 0} (l : LayoutModel) (d : DriverModel D) (e : DeviceModel E) (lay : IsLawfulLayout d e l) (x : D) (v : DriverView) where
+module _ {D E : Type 0} (l : LayoutModel) (d : DriverModel D) (e : DeviceModel E) (lay : IsLawfulLayout d e l) (x : D)
+    (v : DriverView) where
   pub made_with : (n : ℕ) (f : Features) → d.stands x v → IsShadowRing l v.frame → n ≡ d.size x → f ≡ d.features x
       → IsMadeWith l n f true v.frame
   made_with n f drives ring sized featured =

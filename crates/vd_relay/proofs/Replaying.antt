@@ -82,247 +82,253 @@ collect_grown k l o o' is = omega (
 )
 
 module _ {Q D : Type 0} (port : PortModel Q) (l : LayoutModel) (d : DriverModel D) (ldr : IsLawfulDriver d) (p q : Q) (r : Replay) (x y : D)
-    (v : DriverView) (b : D) (h : Replays l d r y v) (less : replay_owes d r.winding r.stage y v ≤ replay_owes d r.winding r.stage x v) where
-  pub made : (answer : DriverAct) (s : IsDriverStep port d p q v y b answer) (r' : Replay) (t : Turn)
-      → Replays l d r' b (d.side.after v s.op s.access s.got)
-      → length (offers (d.side.after v s.op s.access s.got).done) + length (collects (d.side.after v s.op s.access s.got).done)
-      ≡ length (offers v.done) + length (collects v.done) + handled t
-      → (t ≡ Slept) ↔ (answer ≡ act.Asleep) → (t ≡ Again) ↔ ((answer ≡ act.Nothing) × (r.winding ≡ true))
-      → woke t ≡ driver_woken s.op answer
-      → replay_owes d r'.winding r'.stage b (d.side.after v s.op s.access s.got) + counted t ≤ replay_owes d r.winding r.stage y v + 64 * (handled t + woke t)
-      → ReplayTurn port l d p q r r' x b v t
-  made answer s r' t replays grown sleeps agains wakes paid = record {
-    op = s.op;
-    access = s.access;
-    got = s.got;
-    was_next = s.was_next;
-    moved = s.moved;
-    replays = replays;
-    grown = grown;
-    slept = subst (λ z. (t ≡ Slept) ↔ (z ≡ act.Asleep)) s.is_answer sleeps;
-    again = subst (λ z. (t ≡ Again) ↔ ((z ≡ act.Nothing) × (r.winding ≡ true))) s.is_answer agains;
-    woke = wakes ∙ ap (driver_woken s.op) s.is_answer;
-    paid = omega (arith, paid, less);
-  }
+    (v : DriverView) (b : D) (h : Replays l d r y v) (less : replay_owes d r.winding r.stage y v ≤ replay_owes d r.winding r.stage x v)
+  where
+    pub made : (answer : DriverAct) (s : IsDriverStep port d p q v y b answer) (r' : Replay) (t : Turn)
+        → Replays l d r' b (d.side.after v s.op s.access s.got)
+        → length (offers (d.side.after v s.op s.access s.got).done) + length (collects (d.side.after v s.op s.access s.got).done)
+        ≡ length (offers v.done) + length (collects v.done) + handled t
+        → (t ≡ Slept) ↔ (answer ≡ act.Asleep) → (t ≡ Again) ↔ ((answer ≡ act.Nothing) × (r.winding ≡ true))
+        → woke t ≡ driver_woken s.op answer
+        → replay_owes d r'.winding r'.stage b (d.side.after v s.op s.access s.got) + counted t ≤ replay_owes d r.winding r.stage y v + 64 *
+        (handled t + woke t)
+        → ReplayTurn port l d p q r r' x b v t
+    made answer s r' t replays grown sleeps agains wakes paid = record {
+      op = s.op;
+      access = s.access;
+      got = s.got;
+      was_next = s.was_next;
+      moved = s.moved;
+      replays = replays;
+      grown = grown;
+      slept = subst (λ z. (t ≡ Slept) ↔ (z ≡ act.Asleep)) s.is_answer sleeps;
+      again = subst (λ z. (t ≡ Again) ↔ ((z ≡ act.Nothing) × (r.winding ≡ true))) s.is_answer agains;
+      woke = wakes ∙ ap (driver_woken s.op) s.is_answer;
+      paid = omega (arith, paid, less);
+    }
 
-  pub once : (answer : DriverAct) (t : Turn) → answer ≢ act.Nothing → t ≢ Again
-      → (t ≡ Again) ↔ ((answer ≡ act.Nothing) × (r.winding ≡ true))
-  once answer t n m = ((λ z. absurd (m z)), λ z. absurd (n z.0))
+    pub once : (answer : DriverAct) (t : Turn) → answer ≢ act.Nothing → t ≢ Again
+        → (t ≡ Again) ↔ ((answer ≡ act.Nothing) × (r.winding ≡ true))
+    once answer t n m = ((λ z. absurd (m z)), λ z. absurd (n z.0))
 
-  ring_after : (o : Op) (a : Access) (g : ℕ) → IsShadowRing l (d.side.after v o a g).frame
-  ring_after o a g = subst (λ (f : Frame). IsShadowRing l f) (sym (ldr.framed v o a g)) h.ring
+    ring_after : (o : Op) (a : Access) (g : ℕ) → IsShadowRing l (d.side.after v o a g).frame
+    ring_after o a g = subst (λ (f : Frame). IsShadowRing l f) (sym (ldr.framed v o a g)) h.ring
 
-  -- an operation has ended
-  pub settled : (answer : DriverAct) (s : IsDriverStep port d p q v y b answer) (st : ReplayStage) (o' : List DriverDone)
-      → (d.side.after v s.op s.access s.got).done ≡ o' → Sent st (replay r.settings) r.next v.frame o' → d.begun b ≡ DriverOp.idle
-      → ShadowIs (as_stage st) DriverOp.idle
-      → ShadowArmed (as_stage st) DriverOp.idle (d.side.after v s.op s.access s.got).doing (d.side.after v s.op s.access s.got).armed
-      → (st ≡ Disarming → r.winding ≡ true) → Replays l d (to_stage r st) b (d.side.after v s.op s.access s.got)
-  settled answer s st o' done sent idle is armed disarms =
-      let v' : DriverView = d.side.after v s.op s.access s.got in
-      let k = moved_to st (replay r.settings) r.next v.frame v'.frame o' v'.done (ldr.framed v s.op s.access s.got) done sent in
-      record {
-        drives = s.now_stands;
-        ring = ring_after s.op s.access s.got;
-        pairs = h.pairs;
-        counted = h.counted;
-        few = h.few;
-        at = k.0;
-        carried = k.1;
-        acked = k.2;
-        op = subst (λ o. ShadowIs (as_stage st) o) (sym idle) is;
-        offer = subst (λ o. OffersIt o (replay r.settings) r.next) (sym idle) tt;
-        armed = subst (λ o. ShadowArmed (as_stage st) o v'.doing v'.armed) (sym idle) armed;
-        shown = subst (λ o. ShadowShown o v'.doing v'.shown (d.left b)) (sym idle) tt;
-        disarms = disarms;
-      }
+    -- an operation has ended
+    pub settled : (answer : DriverAct) (s : IsDriverStep port d p q v y b answer) (st : ReplayStage) (o' : List DriverDone)
+        → (d.side.after v s.op s.access s.got).done ≡ o' → Sent st (replay r.settings) r.next v.frame o' → d.begun b ≡ DriverOp.idle
+        → ShadowIs (as_stage st) DriverOp.idle
+        → ShadowArmed (as_stage st) DriverOp.idle (d.side.after v s.op s.access s.got).doing (d.side.after v s.op s.access s.got).armed
+        → (st ≡ Disarming → r.winding ≡ true) → Replays l d (to_stage r st) b (d.side.after v s.op s.access s.got)
+    settled answer s st o' done sent idle is armed disarms =
+        let v' : DriverView = d.side.after v s.op s.access s.got in
+        let k = moved_to st (replay r.settings) r.next v.frame v'.frame o' v'.done (ldr.framed v s.op s.access s.got) done sent in
+        record {
+          drives = s.now_stands;
+          ring = ring_after s.op s.access s.got;
+          pairs = h.pairs;
+          counted = h.counted;
+          few = h.few;
+          at = k.0;
+          carried = k.1;
+          acked = k.2;
+          op = subst (λ o. ShadowIs (as_stage st) o) (sym idle) is;
+          offer = subst (λ o. OffersIt o (replay r.settings) r.next) (sym idle) tt;
+          armed = subst (λ o. ShadowArmed (as_stage st) o v'.doing v'.armed) (sym idle) armed;
+          shown = subst (λ o. ShadowShown o v'.doing v'.shown (d.left b)) (sym idle) tt;
+          disarms = disarms;
+        }
 
-  pub owes_idle : (st : ReplayStage) (u : DriverView) → is_control st ≡ false → d.begun b ≡ DriverOp.idle
-      → replay_owes d r.winding st b u ≡ shadow_owes r.winding (as_stage st) DriverOp.idle u.doing false u.shown (d.left b)
-  owes_idle st u off idle = owes_at d r.winding st b u off ∙ ap (λ o. shadow_owes r.winding (as_stage st) o u.doing false u.shown (d.left b)) idle
+    pub owes_idle : (st : ReplayStage) (u : DriverView) → is_control st ≡ false → d.begun b ≡ DriverOp.idle
+        → replay_owes d r.winding st b u ≡ shadow_owes r.winding (as_stage st) DriverOp.idle u.doing false u.shown (d.left b)
+    owes_idle st u off idle = owes_at d r.winding st b u off ∙ ap (λ o. shadow_owes r.winding (as_stage st) o u.doing false u.shown
+        (d.left b)) idle
 
-  -- ---- an access that ends no operation
+    -- ---- an access that ends no operation
 
-  pub moved_on : is_control r.stage ≡ false → IsDriverStep port d p q v y b act.Moved → ReplayTurn port l d p q r r x b v Worked
-  moved_on off s =
-      let v' : DriverView = d.side.after v s.op s.access s.got in
-      let done : v'.done ≡ v.done = s.says.1 in
-      let g = went r.winding (hand_of (d.begun y)) s.op v v' false (d.left y) (d.left b) (as_stage r.stage) (d.begun y) (d.begun b) h.op s.of_it
-      h.armed (offers_own (d.begun y)) h.shown s.says.0 s.left (going port d ldr p q y v b s) in
-      let k = moved_to r.stage (replay r.settings) r.next v.frame v'.frame v.done v'.done (ldr.framed v s.op s.access s.got) done
-      (h.at, h.carried, h.acked) in
-      made act.Moved s r Worked (record {
-        drives = s.now_stands;
-        ring = ring_after s.op s.access s.got;
-        pairs = h.pairs;
-        counted = h.counted;
-        few = h.few;
-        at = k.0;
-        carried = k.1;
-        acked = k.2;
-        op = g.is;
-        offer = offer_goes (d.begun y) (d.begun b) (replay r.settings) r.next s.says.0 h.offer;
-        armed = g.armed;
-        shown = g.shown;
-        disarms = h.disarms;
-      }) (same_grown v.done v'.done done) (worked_only act.Moved (λ z. cc z)) (once act.Moved Worked (λ z. cc z) (λ z. cc z)) (not_woken s.op act.Moved (λ z. cc z))
-      (omega (arith, g.paid, owes_at d r.winding r.stage b v' off, owes_at d r.winding r.stage y v off))
+    pub moved_on : is_control r.stage ≡ false → IsDriverStep port d p q v y b act.Moved → ReplayTurn port l d p q r r x b v Worked
+    moved_on off s =
+        let v' : DriverView = d.side.after v s.op s.access s.got in
+        let done : v'.done ≡ v.done = s.says.1 in
+        let g = went r.winding (hand_of (d.begun y)) s.op v v' false (d.left y) (d.left b) (as_stage r.stage) (d.begun y)
+        (d.begun b) h.op s.of_it
+        h.armed (offers_own (d.begun y)) h.shown s.says.0 s.left (going port d ldr p q y v b s) in
+        let k = moved_to r.stage (replay r.settings) r.next v.frame v'.frame v.done v'.done (ldr.framed v s.op s.access s.got) done
+        (h.at, h.carried, h.acked) in
+        made act.Moved s r Worked (record {
+          drives = s.now_stands;
+          ring = ring_after s.op s.access s.got;
+          pairs = h.pairs;
+          counted = h.counted;
+          few = h.few;
+          at = k.0;
+          carried = k.1;
+          acked = k.2;
+          op = g.is;
+          offer = offer_goes (d.begun y) (d.begun b) (replay r.settings) r.next s.says.0 h.offer;
+          armed = g.armed;
+          shown = g.shown;
+          disarms = h.disarms;
+        }) (same_grown v.done v'.done done) (worked_only act.Moved (λ z. cc z)) (once act.Moved Worked (λ z. cc z) (λ z. cc z))
+        (not_woken s.op act.Moved (λ z. cc z))
+        (omega (arith, g.paid, owes_at d r.winding r.stage b v' off, owes_at d r.winding r.stage y v off))
 
-  -- ---- an offer
+    -- ---- an offer
 
-  published_is : (o : DriverOp) → DriverPublished o → (ShadowIs (stage.Collecting false) o) × (OffersIt o (replay r.settings) r.next)
-      × ((u : _) (g : Bool) (n : ℕ) → ShadowShown o u g n)
-  published_is o (inl i) = subst (λ z. (ShadowIs (stage.Collecting false) z) × (OffersIt z (replay r.settings) r.next)
-      × ((u : _) (g : Bool) (n : ℕ) → ShadowShown z u g n)) (sym i) (tt, tt, λ u g n. tt)
-  published_is o (inr i) = subst (λ z. (ShadowIs (stage.Collecting false) z) × (OffersIt z (replay r.settings) r.next)
-      × ((u : _) (g : Bool) (n : ℕ) → ShadowShown z u g n)) (sym i) (tt, tt, λ u g n. tt)
+    published_is : (o : DriverOp) → DriverPublished o → (ShadowIs (stage.Collecting false) o) × (OffersIt o (replay r.settings) r.next)
+        × ((u : _) (g : Bool) (n : ℕ) → ShadowShown o u g n)
+    published_is o (inl i) = subst (λ z. (ShadowIs (stage.Collecting false) z) × (OffersIt z (replay r.settings) r.next)
+        × ((u : _) (g : Bool) (n : ℕ) → ShadowShown z u g n)) (sym i) (tt, tt, λ u g n. tt)
+    published_is o (inr i) = subst (λ z. (ShadowIs (stage.Collecting false) z) × (OffersIt z (replay r.settings) r.next)
+        × ((u : _) (g : Bool) (n : ℕ) → ShadowShown z u g n)) (sym i) (tt, tt, λ u g n. tt)
 
-  published_owes : (o : DriverOp) (u : DriverView) (n : ℕ) → DriverPublished o
-      → shadow_owes r.winding (stage.Collecting false) o u.doing false u.shown n ≤ n + 48
-  published_owes o u n (inl i) = omega (
-    arith,
-    ap (λ z. shadow_owes r.winding (stage.Collecting false) z u.doing false u.shown n) i,
-    collect_most r.winding false u.shown,
-    most_few r.winding,
-  )
-  published_owes o u n (inr i) = omega (
-    arith,
-    ap (λ z. shadow_owes r.winding (stage.Collecting false) z u.doing false u.shown n) i,
-    most_few r.winding,
-  )
+    published_owes : (o : DriverOp) (u : DriverView) (n : ℕ) → DriverPublished o
+        → shadow_owes r.winding (stage.Collecting false) o u.doing false u.shown n ≤ n + 48
+    published_owes o u n (inl i) = omega (
+      arith,
+      ap (λ z. shadow_owes r.winding (stage.Collecting false) z u.doing false u.shown n) i,
+      collect_most r.winding false u.shown,
+      most_few r.winding,
+    )
+    published_owes o u n (inr i) = omega (
+      arith,
+      ap (λ z. shadow_owes r.winding (stage.Collecting false) z u.doing false u.shown n) i,
+      most_few r.winding,
+    )
 
-  pub offered : (k : ℕ) → IsDriverStep port d p q v y b (act.Offered k) → ReplayTurn port l d p q r (to_stage r Collecting) x b v Handled
-  offered k s =
-      let v' : DriverView = d.side.after v s.op s.access s.got in
-      let c : List Piece = s.says.0 in
-      let cs = replay r.settings in
-      let e : r.stage ≡ Offering = at_offering c r.stage (subst (λ o. ShadowIs (as_stage r.stage) o) s.says.1 h.op) in
-      let of : s.op ≡ op.Offer = subst (λ o. IsDriverOp o s.op) s.says.1 s.of_it in
-      let at : IsAt Offering cs r.next v.frame v.done = subst (λ (z : ReplayStage). IsAt z cs r.next v.frame v.done) e h.at in
-      let unarmed : v.armed ≡ None = subst (λ (z : ReplayStage). ShadowArmed (as_stage z) (d.begun y) v.doing v.armed) e h.armed in
-      let its : (a : Command) → slice_get cs r.next ≡ Some a → readable c ≡ length (spelled a) =
-      subst (λ o. OffersIt o cs r.next) s.says.1 h.offer in
-      let sent : Sent Collecting cs r.next v.frame (Offer c ∷ v.done) = (
-        (at.0, awaits_offered v.done c r.next at.1),
-        carried_offered cs v.frame v.done c r.next at.1.offered h.carried at.2 at.3 its,
-        h.acked,
-      ) in
-      let m = moved_to Collecting cs r.next v.frame v'.frame (Offer c ∷ v.done) v'.done (ldr.framed v s.op s.access s.got) s.says.4 sent in
-      let i = published_is (d.begun b) s.says.2 in
-      made (act.Offered k) s (to_stage r Collecting) Handled (record {
-        drives = s.now_stands;
-        ring = ring_after s.op s.access s.got;
-        pairs = h.pairs;
-        counted = h.counted;
-        few = h.few;
-        at = m.0;
-        carried = m.1;
-        acked = m.2;
-        op = i.0;
-        offer = i.1;
-        armed = ldr.stays_unarmed v s.op s.access s.got (λ z. cc (of, z)) unarmed;
-        shown = i.2 v'.doing v'.shown (d.left b);
-        disarms = λ z. absurd (cc z);
-      }) (offer_grown c v.done v'.done s.says.4) (handled_only (act.Offered k) (λ z. cc z)) (once (act.Offered k) Handled (λ z. cc z) (λ z. cc z)) (not_woken s.op (act.Offered k) (λ z. cc z))
-      (omega (
-        arith,
-        s.left,
-        published_owes (d.begun b) v' (d.left b) s.says.2,
-        ap (λ (z : ReplayStage). replay_owes d r.winding z y v) e,
-        ap (λ o. shadow_owes r.winding (stage.Offering 0 0) o v.doing false v.shown (d.left y)) s.says.1,
-      ))
+    pub offered : (k : ℕ) → IsDriverStep port d p q v y b (act.Offered k) → ReplayTurn port l d p q r (to_stage r Collecting) x b v Handled
+    offered k s =
+        let v' : DriverView = d.side.after v s.op s.access s.got in
+        let c : List Piece = s.says.0 in
+        let cs = replay r.settings in
+        let e : r.stage ≡ Offering = at_offering c r.stage (subst (λ o. ShadowIs (as_stage r.stage) o) s.says.1 h.op) in
+        let of : s.op ≡ op.Offer = subst (λ o. IsDriverOp o s.op) s.says.1 s.of_it in
+        let at : IsAt Offering cs r.next v.frame v.done = subst (λ (z : ReplayStage). IsAt z cs r.next v.frame v.done) e h.at in
+        let unarmed : v.armed ≡ None = subst (λ (z : ReplayStage). ShadowArmed (as_stage z) (d.begun y) v.doing v.armed) e h.armed in
+        let its : (a : Command) → slice_get cs r.next ≡ Some a → readable c ≡ length (spelled a) =
+        subst (λ o. OffersIt o cs r.next) s.says.1 h.offer in
+        let sent : Sent Collecting cs r.next v.frame (Offer c ∷ v.done) = (
+          (at.0, awaits_offered v.done c r.next at.1),
+          carried_offered cs v.frame v.done c r.next at.1.offered h.carried at.2 at.3 its,
+          h.acked,
+        ) in
+        let m = moved_to Collecting cs r.next v.frame v'.frame (Offer c ∷ v.done) v'.done (ldr.framed v s.op s.access s.got) s.says.4 sent in
+        let i = published_is (d.begun b) s.says.2 in
+        made (act.Offered k) s (to_stage r Collecting) Handled (record {
+          drives = s.now_stands;
+          ring = ring_after s.op s.access s.got;
+          pairs = h.pairs;
+          counted = h.counted;
+          few = h.few;
+          at = m.0;
+          carried = m.1;
+          acked = m.2;
+          op = i.0;
+          offer = i.1;
+          armed = ldr.stays_unarmed v s.op s.access s.got (λ z. cc (of, z)) unarmed;
+          shown = i.2 v'.doing v'.shown (d.left b);
+          disarms = λ z. absurd (cc z);
+        }) (offer_grown c v.done v'.done s.says.4) (handled_only (act.Offered k) (λ z. cc z)) (once (act.Offered k) Handled (λ z. cc z)
+        (λ z. cc z)) (not_woken s.op (act.Offered k) (λ z. cc z))
+        (omega (
+          arith,
+          s.left,
+          published_owes (d.begun b) v' (d.left b) s.says.2,
+          ap (λ (z : ReplayStage). replay_owes d r.winding z y v) e,
+          ap (λ o. shadow_owes r.winding (stage.Offering 0 0) o v.doing false v.shown (d.left y)) s.says.1,
+        ))
 
-  -- ---- a collect
+    -- ---- a collect
 
-  pub collected : (k n m : ℕ) → IsDriverStep port d p q v y b (act.Collected k n m)
-      → ReplayTurn port l d p q r (to_stage r (Loading m)) x b v Handled
-  collected k n m s =
-      let v' : DriverView = d.side.after v s.op s.access s.got in
-      let cs = replay r.settings in
-      let one : CollectedOne k n m (d.begun y) (d.begun b) v.frame v.done v'.done =
-      says_collected k n m (d.begun y) (d.begun b) v.frame v.done v'.done s.says in
-      let e : r.stage ≡ Collecting = at_collecting r.stage (subst (λ o. ShadowIs (as_stage r.stage) o) one.begun h.op) in
-      let of : s.op ≡ op.Collect = subst (λ o. IsDriverOp o s.op) one.begun s.of_it in
-      let at : IsAt Collecting cs r.next v.frame v.done = subst (λ (z : ReplayStage). IsAt z cs r.next v.frame v.done) e h.at in
-      let unarmed : v.armed ≡ None = subst (λ (z : ReplayStage). ShadowArmed (as_stage z) (d.begun y) v.doing v.armed) e h.armed in
-      let some : 1 ≤ occurs k (open_at v.done) = occurs_from k (open_at v.done) one.was_open in
-      let is : r.next ≡ k = is_number v.done r.next k at.1.one some in
-      let inside : m < v.frame.size = omega (arith, one.is_head, head_inside v.frame v.done k (ldr.places y v h.drives) some) in
-      let sent : Sent (Loading m) cs r.next v.frame (Collect (entry k n ∷ []) ∷ v.done) = (
-        (
-          at.0,
-          between_collected v.done r.next k n at.1 is,
-          ap (λ (j : ℕ). Some j) (sym is),
-          one.is_head ∙ ap (λ (j : ℕ). head v.frame v.done j) (sym is),
-          inside,
-        ),
-        carried_collected cs v.frame v.done k n h.carried,
-        h.acked,
-      ) in
-      made (act.Collected k n m) s (to_stage r (Loading m)) Handled
-      (settled (act.Collected k n m) s (Loading m) (Collect (entry k n ∷ []) ∷ v.done) one.done sent one.idle tt
-      (ldr.stays_unarmed v s.op s.access s.got (λ z. cc (of, z)) unarmed) (λ z. absurd (cc z)))
-      (collect_grown k n v.done v'.done one.done) (handled_only (act.Collected k n m) (λ z. cc z))
-      (once (act.Collected k n m) Handled (λ z. cc z) (λ z. cc z))
-      (not_woken s.op (act.Collected k n m) (λ z. cc z)) (omega arith)
+    pub collected : (k n m : ℕ) → IsDriverStep port d p q v y b (act.Collected k n m)
+        → ReplayTurn port l d p q r (to_stage r (Loading m)) x b v Handled
+    collected k n m s =
+        let v' : DriverView = d.side.after v s.op s.access s.got in
+        let cs = replay r.settings in
+        let one : CollectedOne k n m (d.begun y) (d.begun b) v.frame v.done v'.done =
+        says_collected k n m (d.begun y) (d.begun b) v.frame v.done v'.done s.says in
+        let e : r.stage ≡ Collecting = at_collecting r.stage (subst (λ o. ShadowIs (as_stage r.stage) o) one.begun h.op) in
+        let of : s.op ≡ op.Collect = subst (λ o. IsDriverOp o s.op) one.begun s.of_it in
+        let at : IsAt Collecting cs r.next v.frame v.done = subst (λ (z : ReplayStage). IsAt z cs r.next v.frame v.done) e h.at in
+        let unarmed : v.armed ≡ None = subst (λ (z : ReplayStage). ShadowArmed (as_stage z) (d.begun y) v.doing v.armed) e h.armed in
+        let some : 1 ≤ occurs k (open_at v.done) = occurs_from k (open_at v.done) one.was_open in
+        let is : r.next ≡ k = is_number v.done r.next k at.1.one some in
+        let inside : m < v.frame.size = omega (arith, one.is_head, head_inside v.frame v.done k (ldr.places y v h.drives) some) in
+        let sent : Sent (Loading m) cs r.next v.frame (Collect (entry k n ∷ []) ∷ v.done) = (
+          (
+            at.0,
+            between_collected v.done r.next k n at.1 is,
+            ap (λ (j : ℕ). Some j) (sym is),
+            one.is_head ∙ ap (λ (j : ℕ). head v.frame v.done j) (sym is),
+            inside,
+          ),
+          carried_collected cs v.frame v.done k n h.carried,
+          h.acked,
+        ) in
+        made (act.Collected k n m) s (to_stage r (Loading m)) Handled
+        (settled (act.Collected k n m) s (Loading m) (Collect (entry k n ∷ []) ∷ v.done) one.done sent one.idle tt
+        (ldr.stays_unarmed v s.op s.access s.got (λ z. cc (of, z)) unarmed) (λ z. absurd (cc z)))
+        (collect_grown k n v.done v'.done one.done) (handled_only (act.Collected k n m) (λ z. cc z))
+        (once (act.Collected k n m) Handled (λ z. cc z) (λ z. cc z))
+        (not_woken s.op (act.Collected k n m) (λ z. cc z)) (omega arith)
 
-  -- ---- a collect that shows nothing
+    -- ---- a collect that shows nothing
 
-  unshown : (s : IsDriverStep port d p q v y b act.Nothing) → (z : Bool) → v.shown ≡ z → IsOwn port d.side p v → z ≡ false
-  unshown s false is own = refl
-  unshown s true is own =
-      let n = (ldr.looks.nothing v s.op s.access s.got s.was_next).0 (sym s.is_answer) in
-      let t : d.shows v s.got ≡ true = ldr.stays.again v s.op s.access s.got s.was_next
-      (own.told s.op s.access s.was_next s.got q s.moved) (inl (n.0, n.1)) is in
-      absurd (cc (t, n.2))
+    unshown : (s : IsDriverStep port d p q v y b act.Nothing) → (z : Bool) → v.shown ≡ z → IsOwn port d.side p v → z ≡ false
+    unshown s false is own = refl
+    unshown s true is own =
+        let n = (ldr.looks.nothing v s.op s.access s.got s.was_next).0 (sym s.is_answer) in
+        let t : d.shows v s.got ≡ true = ldr.stays.again v s.op s.access s.got s.was_next
+        (own.told s.op s.access s.was_next s.got q s.moved) (inl (n.0, n.1)) is in
+        absurd (cc (t, n.2))
 
-  look_owes : (s : IsDriverStep port d p q v y b act.Nothing) → r.stage ≡ Collecting → IsOwn port d.side p v
-      → replay_owes d r.winding r.stage y v ≡ collect_owes r.winding false false
-  look_owes s e own = ap (λ (z : ReplayStage). replay_owes d r.winding z y v) e
-      ∙ ap (λ o. shadow_owes r.winding (stage.Collecting false) o v.doing false v.shown (d.left y)) s.says.0
-      ∙ ap (λ z. collecting_owes r.winding false z (d.left y)) (unshown s v.shown refl own)
+    look_owes : (s : IsDriverStep port d p q v y b act.Nothing) → r.stage ≡ Collecting → IsOwn port d.side p v
+        → replay_owes d r.winding r.stage y v ≡ collect_owes r.winding false false
+    look_owes s e own = ap (λ (z : ReplayStage). replay_owes d r.winding z y v) e
+        ∙ ap (λ o. shadow_owes r.winding (stage.Collecting false) o v.doing false v.shown (d.left y)) s.says.0
+        ∙ ap (λ z. collecting_owes r.winding false z (d.left y)) (unshown s v.shown refl own)
 
-  pub found_none : r.winding ≡ false → IsOwn port d.side p v → IsDriverStep port d p q v y b act.Nothing
-      → ReplayTurn port l d p q r (to_stage r Arming) x b v Worked
-  found_none off own s =
-      let v' : DriverView = d.side.after v s.op s.access s.got in
-      let cs = replay r.settings in
-      let e : r.stage ≡ Collecting = at_collecting r.stage (subst (λ o. ShadowIs (as_stage r.stage) o) s.says.0 h.op) in
-      let of : s.op ≡ op.Collect = subst (λ o. IsDriverOp o s.op) s.says.0 s.of_it in
-      let at : IsAt Collecting cs r.next v.frame v.done = subst (λ (z : ReplayStage). IsAt z cs r.next v.frame v.done) e h.at in
-      let unarmed : v.armed ≡ None = subst (λ (z : ReplayStage). ShadowArmed (as_stage z) (d.begun y) v.doing v.armed) e h.armed in
-      made act.Nothing s (to_stage r Arming) Worked
-      (settled act.Nothing s Arming v.done s.says.2 (at, h.carried, h.acked) s.says.1 tt
-      (ldr.stays_unarmed v s.op s.access s.got (λ z. cc (of, z)) unarmed) (λ z. absurd (cc z)))
-      (same_grown v.done v'.done s.says.2) (worked_only act.Nothing (λ z. cc z))
-      ((λ z. absurd (cc z)), λ z. absurd (cc (off, z.1))) (not_woken s.op act.Nothing (λ z. cc z))
-      (omega (
-        arith,
-        owes_idle Arming v' refl s.says.1,
-        ap {B = ℕ} (λ (z : Bool). if z then 6 else 42) off,
-        look_owes s e own,
-        ap (λ z. collect_owes z false false) off,
-      ))
+    pub found_none : r.winding ≡ false → IsOwn port d.side p v → IsDriverStep port d p q v y b act.Nothing
+        → ReplayTurn port l d p q r (to_stage r Arming) x b v Worked
+    found_none off own s =
+        let v' : DriverView = d.side.after v s.op s.access s.got in
+        let cs = replay r.settings in
+        let e : r.stage ≡ Collecting = at_collecting r.stage (subst (λ o. ShadowIs (as_stage r.stage) o) s.says.0 h.op) in
+        let of : s.op ≡ op.Collect = subst (λ o. IsDriverOp o s.op) s.says.0 s.of_it in
+        let at : IsAt Collecting cs r.next v.frame v.done = subst (λ (z : ReplayStage). IsAt z cs r.next v.frame v.done) e h.at in
+        let unarmed : v.armed ≡ None = subst (λ (z : ReplayStage). ShadowArmed (as_stage z) (d.begun y) v.doing v.armed) e h.armed in
+        made act.Nothing s (to_stage r Arming) Worked
+        (settled act.Nothing s Arming v.done s.says.2 (at, h.carried, h.acked) s.says.1 tt
+        (ldr.stays_unarmed v s.op s.access s.got (λ z. cc (of, z)) unarmed) (λ z. absurd (cc z)))
+        (same_grown v.done v'.done s.says.2) (worked_only act.Nothing (λ z. cc z))
+        ((λ z. absurd (cc z)), λ z. absurd (cc (off, z.1))) (not_woken s.op act.Nothing (λ z. cc z))
+        (omega (
+          arith,
+          owes_idle Arming v' refl s.says.1,
+          ap {B = ℕ} (λ (z : Bool). if z then 6 else 42) off,
+          look_owes s e own,
+          ap (λ z. collect_owes z false false) off,
+        ))
 
-  -- in a wind-up it looks again
-  pub found_again : r.winding ≡ true → IsOwn port d.side p v → IsDriverStep port d p q v y b act.Nothing
-      → ReplayTurn port l d p q r (to_stage r Collecting) x b v Again
-  found_again on own s =
-      let v' : DriverView = d.side.after v s.op s.access s.got in
-      let cs = replay r.settings in
-      let e : r.stage ≡ Collecting = at_collecting r.stage (subst (λ o. ShadowIs (as_stage r.stage) o) s.says.0 h.op) in
-      let of : s.op ≡ op.Collect = subst (λ o. IsDriverOp o s.op) s.says.0 s.of_it in
-      let at : IsAt Collecting cs r.next v.frame v.done = subst (λ (z : ReplayStage). IsAt z cs r.next v.frame v.done) e h.at in
-      let unarmed : v.armed ≡ None = subst (λ (z : ReplayStage). ShadowArmed (as_stage z) (d.begun y) v.doing v.armed) e h.armed in
-      made act.Nothing s (to_stage r Collecting) Again
-      (settled act.Nothing s Collecting v.done s.says.2 (at, h.carried, h.acked) s.says.1 tt
-      (ldr.stays_unarmed v s.op s.access s.got (λ z. cc (of, z)) unarmed) (λ z. absurd (cc z)))
-      (same_grown v.done v'.done s.says.2) ((λ z. absurd (cc z)), λ z. absurd (cc z)) ((λ z. (refl, on)), λ z. refl)
-      (not_woken s.op act.Nothing (λ z. cc z))
-      (omega (
-        arith,
-        owes_idle Collecting v' refl s.says.1,
-        ap (λ z. collect_owes z false v'.shown) on,
-        look_owes s e own,
-        ap (λ z. collect_owes z false false) on,
-      ))
+    -- in a wind-up it looks again
+    pub found_again : r.winding ≡ true → IsOwn port d.side p v → IsDriverStep port d p q v y b act.Nothing
+        → ReplayTurn port l d p q r (to_stage r Collecting) x b v Again
+    found_again on own s =
+        let v' : DriverView = d.side.after v s.op s.access s.got in
+        let cs = replay r.settings in
+        let e : r.stage ≡ Collecting = at_collecting r.stage (subst (λ o. ShadowIs (as_stage r.stage) o) s.says.0 h.op) in
+        let of : s.op ≡ op.Collect = subst (λ o. IsDriverOp o s.op) s.says.0 s.of_it in
+        let at : IsAt Collecting cs r.next v.frame v.done = subst (λ (z : ReplayStage). IsAt z cs r.next v.frame v.done) e h.at in
+        let unarmed : v.armed ≡ None = subst (λ (z : ReplayStage). ShadowArmed (as_stage z) (d.begun y) v.doing v.armed) e h.armed in
+        made act.Nothing s (to_stage r Collecting) Again
+        (settled act.Nothing s Collecting v.done s.says.2 (at, h.carried, h.acked) s.says.1 tt
+        (ldr.stays_unarmed v s.op s.access s.got (λ z. cc (of, z)) unarmed) (λ z. absurd (cc z)))
+        (same_grown v.done v'.done s.says.2) ((λ z. absurd (cc z)), λ z. absurd (cc z)) ((λ z. (refl, on)), λ z. refl)
+        (not_woken s.op act.Nothing (λ z. cc z))
+        (omega (
+          arith,
+          owes_idle Collecting v' refl s.says.1,
+          ap (λ z. collect_owes z false v'.shown) on,
+          look_owes s e own,
+          ap (λ z. collect_owes z false false) on,
+        ))

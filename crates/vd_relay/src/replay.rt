@@ -200,7 +200,8 @@ impl Replay {
     pub fn step<L: Layout, Q: Port>(&mut self, shadow: &mut L::Driver, port: &mut Q) -> Turn
         requires at { is_over self.old.stage ≡ false }
         requires arms { self.old.winding ≡ true → self.old.stage ≡ Arming → ¬ (L.Driver.driver.begun shadow.old ≡ DriverOp.idle) }
-        requires own { (v : DriverView) × Replays L.layout L.Driver.driver self.old shadow.old v × IsOwn Q.port L.Driver.driver.side port.old v }
+        requires own { (v : DriverView) × Replays L.layout L.Driver.driver self.old shadow.old v
+            × IsOwn Q.port L.Driver.driver.side port.old v }
         ensures turn { (v : DriverView) → Replays L.layout L.Driver.driver self.old shadow.old v
             → IsOwn Q.port L.Driver.driver.side port.old v
             → ReplayTurn Q.port L.layout L.Driver.driver port.old port.new self.old self.new shadow.old shadow.new v result }
@@ -217,7 +218,8 @@ impl Replay {
     /// Stores the first word of the next command.
     fn store_first<L: Layout, Q: Port>(&mut self, shadow: &L::Driver, port: &mut Q) -> Turn
         requires at { self.old.stage ≡ First }
-        requires own { (v : DriverView) × Replays L.layout L.Driver.driver self.old shadow.now v × IsOwn Q.port L.Driver.driver.side port.old v }
+        requires own { (v : DriverView) × Replays L.layout L.Driver.driver self.old shadow.now v
+            × IsOwn Q.port L.Driver.driver.side port.old v }
         ensures turn { (v : DriverView) → Replays L.layout L.Driver.driver self.old shadow.now v
             → IsOwn Q.port L.Driver.driver.side port.old v
             → ReplayTurn Q.port L.layout L.Driver.driver port.old port.new self.old self.new shadow.now shadow.now v result }
@@ -233,7 +235,8 @@ impl Replay {
     /// Stores the second word of the next command, and begins its offer.
     fn store_second<L: Layout, Q: Port>(&mut self, shadow: &mut L::Driver, port: &mut Q) -> Turn
         requires at { self.old.stage ≡ Second }
-        requires own { (v : DriverView) × Replays L.layout L.Driver.driver self.old shadow.old v × IsOwn Q.port L.Driver.driver.side port.old v }
+        requires own { (v : DriverView) × Replays L.layout L.Driver.driver self.old shadow.old v
+            × IsOwn Q.port L.Driver.driver.side port.old v }
         ensures turn { (v : DriverView) → Replays L.layout L.Driver.driver self.old shadow.old v
             → IsOwn Q.port L.Driver.driver.side port.old v
             → ReplayTurn Q.port L.layout L.Driver.driver port.old port.new self.old self.new shadow.old shadow.new v result }
@@ -252,7 +255,8 @@ impl Replay {
     /// Loads the ack of the command. A replay's commands are valid, so it isn't looked at.
     fn load<L: Layout, Q: Port>(&mut self, shadow: &L::Driver, port: &mut Q, head: u32) -> Turn
         requires at { self.old.stage ≡ Loading head }
-        requires own { (v : DriverView) × Replays L.layout L.Driver.driver self.old shadow.now v × IsOwn Q.port L.Driver.driver.side port.old v }
+        requires own { (v : DriverView) × Replays L.layout L.Driver.driver self.old shadow.now v
+            × IsOwn Q.port L.Driver.driver.side port.old v }
         ensures turn { (v : DriverView) → Replays L.layout L.Driver.driver self.old shadow.now v
             → IsOwn Q.port L.Driver.driver.side port.old v
             → ReplayTurn Q.port L.layout L.Driver.driver port.old port.new self.old self.new shadow.now shadow.now v result }
@@ -288,7 +292,8 @@ impl Replay {
     fn operate<L: Layout, Q: Port>(&mut self, shadow: &mut L::Driver, port: &mut Q) -> Turn
         requires at { is_control self.old.stage ≡ false }
         requires arms { self.old.winding ≡ true → self.old.stage ≡ Arming → ¬ (L.Driver.driver.begun shadow.old ≡ DriverOp.idle) }
-        requires own { (v : DriverView) × Replays L.layout L.Driver.driver self.old shadow.old v × IsOwn Q.port L.Driver.driver.side port.old v }
+        requires own { (v : DriverView) × Replays L.layout L.Driver.driver self.old shadow.old v
+            × IsOwn Q.port L.Driver.driver.side port.old v }
         ensures turn { (v : DriverView) → Replays L.layout L.Driver.driver self.old shadow.old v
             → IsOwn Q.port L.Driver.driver.side port.old v
             → ReplayTurn Q.port L.layout L.Driver.driver port.old port.new self.old self.new shadow.old shadow.new v result }

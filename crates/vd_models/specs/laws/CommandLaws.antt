@@ -48,10 +48,11 @@ first_chains : (bs : List Begun) (by : Attached) (hand : Hand) (s : List DeviceD
 first_chains bs by hand s after v = (
   chains_of (waiting hand),
   sym (
-    sym v.chains ∙ ap chains_of (drop-append-le by.at (map plain bs) (waiting hand) (omega (arith, after, length-map bs plain)))
-        ∙ map-append (λ (b : Begun). b.chain) (drop by.at (map plain bs)) (waiting hand)
-        ∙ ap (λ (cs : List (List Piece)). cs ++ chains_of (waiting hand)) (ap chains_of (drop-map plain by.at bs) ∙ plain_chains (drop by.at bs))
-  ),
+      sym v.chains ∙ ap chains_of (drop-append-le by.at (map plain bs) (waiting hand) (omega (arith, after, length-map bs plain)))
+      ∙ map-append (λ (b : Begun). b.chain) (drop by.at (map plain bs)) (waiting hand)
+      ∙ ap (λ (cs : List (List Piece)). cs ++ chains_of (waiting hand)) (ap chains_of (drop-map plain by.at bs) ∙ plain_chains
+      (drop by.at bs))
+      ),
 )
 
 hand_waits : (words : ControlWords) (f : Frame) (hand : Hand) (bs : List Begun) (by : Attached) (s : List DeviceDone) (k : ℕ)

@@ -101,7 +101,8 @@ module _ {E : Type 0} (e : DeviceModel E) where
   serves_law (phase.Free b) j c now w a h is d = absurd h
   serves_law (phase.Serving s) j c now w a h is d = subst (λ (b : Attached). IsServing j.begun.items b w.done)
       (same_by s.by a is) h.serves.serving
-  serves_law (phase.Commanding k) j c now w a h is d = absurd (d (ap (λ (b : Attached). b.queue) (sym (same_by k.session.by a is)) ∙ h.for_control))
+  serves_law (phase.Commanding k) j c now w a h is d = absurd (d (ap (λ (b : Attached). b.queue) (sym (same_by k.session.by a is))
+      ∙ h.for_control))
 
   pub commanded_law : (p : Phase E) (j : Journal) (c : Counts) (now : Settings) (w : DeviceView) (a : Attached)
       → Holds e p j c now w → attached_of p ≡ Some a → IsControl a.queue
@@ -130,7 +131,6 @@ module _ {E : Type 0} (e : DeviceModel E) where
         before = l.0;
         rests = l.1;
       }
-
   done_law law (phase.Commanding k) j c now w a h is d =
       let s = k.session in
       let v = h.commands.serves in
@@ -161,9 +161,14 @@ module _ {E : Type 0} (e : DeviceModel E) where
   gave_law law (phase.Commanding k) j c now w a h is d =
       let v = subst (λ (b : Attached). IsServing (seen j.begun.items k.hand) b w.done) (same_by k.session.by a is)
       h.commands.serves.serving in
-      omega (arith, v.as_many, v.before, seen_length j.begun.items k.hand,
-          done_free k.hand k.session.stage (e.begun k.session.end) h.commands.at d,
-          (done_law law (phase.Commanding k) j c now w a h is d).as_many)
+      omega (
+        arith,
+        v.as_many,
+        v.before,
+        seen_length j.begun.items k.hand,
+        done_free k.hand k.session.stage (e.begun k.session.end) h.commands.at d,
+        (done_law law (phase.Commanding k) j c now w a h is d).as_many,
+      )
 
   pub armed_law : (p : Phase E) (j : Journal) (c : Counts) (now : Settings) (w : DeviceView) (a : Attached)
       → Holds e p j c now w → attached_of p ≡ Some a
@@ -176,7 +181,6 @@ module _ {E : Type 0} (e : DeviceModel E) where
       (all_of s.by) t w.armed some v.armed v.stage in
       let g = whole j.begun.items s.by s.held.items w.frame w.done f.0 v.held in
       (g.0, subst (λ (b : Attached). length j.begun.items < all_of b) (same_by s.by a is) f.1)
-
   armed_law (phase.Commanding k) j c now w a h is t some =
       let s = k.session in
       let v = h.commands.serves in

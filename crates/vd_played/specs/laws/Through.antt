@@ -69,6 +69,7 @@ module _ {E X Y C : Type 0} (e : DeviceModel E) (f : Y → X) (m : DeviceParty X
   lawful_device law = record {
     held = λ y. law.held (f y);
     serves = λ y. law.serves (f y);
+    commanded = λ y. law.commanded (f y);
     done = λ y. law.done (f y);
     armed = λ y. law.armed (f y);
     pace = λ y. law.pace (f y);
@@ -110,6 +111,7 @@ module _ {E X Y C : Type 0} (e : DeviceModel E) (f : Y → X) (m : DeviceParty X
     noted =
         noted _ x y a.noted;
     settings = a.settings;
+    attached_with = a.attached_with;
   }
 
   pub attaches_by : (t : Terms) (control : Y) (end : E) (x y : Y) → IsAttach e m t (Some (f control)) end (f x) (f y)
@@ -122,6 +124,7 @@ module _ {E X Y C : Type 0} (e : DeviceModel E) (f : Y → X) (m : DeviceParty X
     live = a.live;
     noted = noted _ x y a.noted;
     settings = a.settings;
+    attached_with = a.attached_with;
   }
 
   pub refuses : (x y : Y) → IsRefused m (f x) (f y) → IsRefused (device_through f m) x y
@@ -143,6 +146,8 @@ module _ {E X Y C : Type 0} (e : DeviceModel E) (f : Y → X) (m : DeviceParty X
     events = s.events;
     grows = s.grows;
     settings = s.settings;
+    set = s.set;
+    attached_with = s.attached_with;
     faults = s.faults;
     window = s.window;
     carried =
@@ -175,6 +180,7 @@ module _ {E X Y C : Type 0} (e : DeviceModel E) (f : Y → X) (m : DeviceParty X
     stands = s.stands;
     rests = s.rests;
     served = s.served;
+    commanded = s.commanded;
     attached = s.attached;
     noted =
         noted _ x y s.noted;

@@ -76,5 +76,6 @@ returns-in-Loaded-clause-turn g c = λ w opens own.
 pub returns-in-Executed-clause-turn : goal.returns-in-Executed-clause-turn
 returns-in-Executed-clause-turn g c = λ w opens own.
     let is : c.args.hand.now ≡ Executed c.in-Executed.place c.in-Executed.ack = sym c.replace.ensures.value ∙ c.in-Executed.is in
-    rw is (rw c.replace.ensures.after (ack_stored g.met.L.Layout.lawful.device_end c.args.session.now c.args.begun.now c.in-Executed.place c.in-Executed.ack c.access.result
+    rw is (rw c.replace.ensures.after (ack_stored g.met.L.Layout.lawful.device_end c.args.session.now c.args.begun.now
+    c.in-Executed.place c.in-Executed.ack c.access.result
     (subst (λ (h : Hand). OpensCommands g.L.Device.DeviceEnd.device c.args.session.now h c.args.begun.now w) is opens) c.access.ensures))

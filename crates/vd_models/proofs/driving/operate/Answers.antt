@@ -57,7 +57,8 @@ pub returns-then-len-loaded-clause-turn : goal.returns-then-len-loaded-clause-tu
 returns-then-len-loaded-clause-turn g c = λ v opens own due.
     let l = c.args.loaded.now in
     let len : c.len.result ≡ length c.keep.new.list.items = omega (arith, c.len.ensures, c.keep.new.list.ok) in
-    let none = empty_of c.as_slice-in-Collected.result.now l.script.commands c.is_empty.result c.as_slice-in-Collected.ensures c.is_empty.ensures
+    let none = empty_of c.as_slice-in-Collected.result.now l.script.commands c.is_empty.result c.as_slice-in-Collected.ensures
+    c.is_empty.ensures
     c.if-is_empty.true in
     from_begun c.args.loaded.now c.args.end.now c.begin_drive.new.end c.begin_drive.ensures.next opens due
     (λ o. collected_at g.met.L.Layout.lawful.driver_end _ c.keep.new.list.items
@@ -69,7 +70,8 @@ pub returns-else-len-loaded-clause-turn : goal.returns-else-len-loaded-clause-tu
 returns-else-len-loaded-clause-turn g c = λ v opens own due.
     let l = c.args.loaded.now in
     let len : c.len.result ≡ length c.keep.new.list.items = omega (arith, c.len.ensures, c.keep.new.list.ok) in
-    let none = empty_of c.as_slice-in-Collected.result.now l.script.commands c.is_empty.result c.as_slice-in-Collected.ensures c.is_empty.ensures
+    let none = empty_of c.as_slice-in-Collected.result.now l.script.commands c.is_empty.result c.as_slice-in-Collected.ensures
+    c.is_empty.ensures
     c.if-is_empty.true in
     from_begun c.args.loaded.now c.args.end.now c.begin_drive.new.end c.begin_drive.ensures.next opens due
     (λ o. collected_at g.met.L.Layout.lawful.driver_end _ c.keep.new.list.items
@@ -81,7 +83,8 @@ returns-else-len-loaded-clause-turn g c = λ v opens own due.
 pub returns-else-is_empty-clause-turn : goal.returns-else-is_empty-clause-turn
 returns-else-is_empty-clause-turn g c = λ v opens own due.
     let l = c.args.loaded.now in
-    let some = full_of c.as_slice-in-Collected.result.now l.script.commands c.is_empty.result c.as_slice-in-Collected.ensures c.is_empty.ensures
+    let some = full_of c.as_slice-in-Collected.result.now l.script.commands c.is_empty.result c.as_slice-in-Collected.ensures
+    c.is_empty.ensures
     c.if-is_empty.false in
     from_begun c.args.loaded.now c.args.end.now c.begin_drive.new.end c.begin_drive.ensures.next opens due
     (λ o. received_at g.met.L.Layout.lawful.driver_end _ c.in-Collected.number c.in-Collected.len c.in-Collected.head some o

@@ -14,7 +14,8 @@ command_store-requires-clause-ready g c =
     let lay = g.met.L.Layout.lawful in
     let x = drive c.args.end.now c.args.loaded.now in
     let r = c.requires.opens in
-    let room = subst (λ (z : List Piece). HasRoom r.0.frame r.0.done z) c.control_chain.ensures ((c.room.ensures r.0 r.1.drives.stands).0 c.if-room.true) in (
+    let room = subst (λ (z : List Piece). HasRoom r.0.frame r.0.done z) c.control_chain.ensures
+    ((c.room.ensures r.0 r.1.drives.stands).0 c.if-room.true) in (
       r.0,
       ready_by d e l lay x r.0 r.1 0 (held_none d e l lay x r.0 r.1 c.in-Some.command.now c.in-Some.ensures c.len.result
           c.len.ensures.value room) c.requires.idle,
@@ -27,7 +28,8 @@ returns-in-Some g c = λ v h.
     let l = g.L.Layout.layout in
     let lay = g.met.L.Layout.lawful in
     let x = drive c.args.end.now c.args.loaded.now in
-    let room = subst (λ (z : List Piece). HasRoom v.frame v.done z) c.control_chain.ensures ((c.room.ensures v h.drives.stands).0 c.if-room.true) in
+    let room = subst (λ (z : List Piece). HasRoom v.frame v.done z) c.control_chain.ensures
+    ((c.room.ensures v h.drives.stands).0 c.if-room.true) in
     let held = held_none d e l lay x v h c.in-Some.command.now c.in-Some.ensures c.len.result c.len.ensures.value room in
     stores_first d e l lay x v h c.in-Some.command.now c.command_store.result c.in-Some.ensures c.len.result c.len.ensures.value room
     c.requires.idle c.requires.offering

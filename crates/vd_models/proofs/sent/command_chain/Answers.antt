@@ -15,5 +15,6 @@ pub returns : goal.returns
 returns g c = λ v r.
     let at = c.next_head-head.ensures v r.stands in
     let p = ready_places g.met.L.Layout.lawful c.next_head-head.result v at r in
-    chain_at g.L.Driver.DriverEnd.driver c.next_head-head.result c.command_place.result c.ack_place.result c.args.len c.control_chain.result v at
+    chain_at g.L.Driver.DriverEnd.driver c.next_head-head.result c.command_place.result c.ack_place.result c.args.len
+    c.control_chain.result v at
     (c.command_place.ensures v p) (c.ack_place.ensures v p) c.control_chain.ensures

@@ -15,19 +15,22 @@ overflow_add-result g c =
     omega (
       arith,
       second_fits g.met.L.Layout.lawful c.command_place-place.result r.0
-          (command_at g.L.Driver.DriverEnd.driver c.next_head.result c.command_place-place.result r.0 at (c.command_place-place.ensures r.0 p)) r.1,
+          (command_at g.L.Driver.DriverEnd.driver c.next_head.result c.command_place-place.result r.0 at
+          (c.command_place-place.ensures r.0 p)) r.1,
     )
 
 pub returns-then-second : goal.returns-then-second
 returns-then-second g c = λ v r.
     let at = c.next_head.ensures v r.stands in
     let p = ready_places g.met.L.Layout.lawful c.next_head.result v at r in
-    let is = command_at g.L.Driver.DriverEnd.driver c.next_head.result c.command_place-place.result v at (c.command_place-place.ensures v p) in
+    let is = command_at g.L.Driver.DriverEnd.driver c.next_head.result c.command_place-place.result v at
+    (c.command_place-place.ensures v p) in
     rw c.if-second.true (rw is (rw c.words_of-words.ensures.second refl))
 
 pub returns-else-second : goal.returns-else-second
 returns-else-second g c = λ v r.
     let at = c.next_head.ensures v r.stands in
     let p = ready_places g.met.L.Layout.lawful c.next_head.result v at r in
-    let is = command_at g.L.Driver.DriverEnd.driver c.next_head.result c.command_place-place.result v at (c.command_place-place.ensures v p) in
+    let is = command_at g.L.Driver.DriverEnd.driver c.next_head.result c.command_place-place.result v at
+    (c.command_place-place.ensures v p) in
     rw c.if-second.false (rw is (rw c.words_of-words.ensures.first refl))

@@ -34,13 +34,15 @@ returns-in-Nothing-clause-turn g c = λ w opens own. from_begun c.args.session.n
 pub returns-in-Awake-clause-turn : goal.returns-in-Awake-clause-turn
 returns-in-Awake-clause-turn g c = λ w opens own. from_begun c.args.session.now c.begin_next.new.session c.begin_next.ensures.next
     c.begin_next.ensures.held (more_is _ _ c.args.session.now.by c.args.begun.now.items c.len.ensures.value refl) opens
-    (λ o. rw c.after_waking-session.ensures (rw c.waking-turn.ensures (turned _ _ _ (woken_at g.met.L.Layout.lawful.device_end _ c.armed.result o
+    (λ o. rw c.after_waking-session.ensures (rw c.waking-turn.ensures (turned _ _ _
+    (woken_at g.met.L.Layout.lawful.device_end _ c.armed.result o
     (c.in-Awake.ensures w o.serves.stands own) (sym c.armed.ensures)))))
 
 pub returns-in-Taken-clause-turn : goal.returns-in-Taken-clause-turn
 returns-in-Taken-clause-turn g c = λ w opens own. from_begun c.args.session.now c.begin_next.new.session c.begin_next.ensures.next
     c.begin_next.ensures.held (more_is _ _ c.args.session.now.by c.args.begun.now.items c.len.ensures.value refl) opens
-    (λ o. rw c.after_take-session.ensures (turned _ _ _ (took g.met.L.Layout.lawful.device_end _ c.note.new.held c.note.new.begun c.in-Taken.number
+    (λ o. rw c.after_take-session.ensures (turned _ _ _
+    (took g.met.L.Layout.lawful.device_end _ c.note.new.held c.note.new.begun c.in-Taken.number
     c.in-Taken.chain _ o (c.in-Taken.ensures w o.serves.stands own) c.note.ensures.held c.note.ensures.begun c.note.ensures.room
     (λ z. sym (full_is _ _ _ _ _ _ c.is_full.ensures c.len-in-Taken.ensures.value (ap all_of (sym c.begin_next.ensures.by))) ∙ z))))
 

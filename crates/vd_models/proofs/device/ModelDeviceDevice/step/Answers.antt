@@ -55,7 +55,8 @@ returns-in-Serving g c = λ w holds own.
       };
       grows = t.3.grows;
       acts = t.3.acts;
-      finished = finished_at c.move_of.result c.serve-turn.result c.is_done-done.result _ c.move_of.ensures c.is_done-done.ensures t.3.slept;
+      finished = finished_at c.move_of.result c.serve-turn.result c.is_done-done.result _ c.move_of.ensures c.is_done-done.ensures
+          t.3.slept;
       looked = looked_at c.move_of.result c.serve-turn.result c.is_done-done.result _ c.move_of.ensures t.3.looked;
       rested = t.3.rested;
       accesses = c.note.ensures.accesses ∙ ap (λ k. raised k m.counts.accesses)

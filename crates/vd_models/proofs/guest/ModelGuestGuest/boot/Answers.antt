@@ -37,7 +37,8 @@ returns g c =
             (subst (λ
             (rs : List Run). IsSettled rs c.settle-at.result) c.as_slice.ensures c.settle-at.ensures.settled)
             c.first_stage-stage.ensures stands
-            (subst (λ (z : Script). CanBoot g.L.Layout.layout z v) (sym (same_script y.script s (sym (ap (λ p. script_of (loaded_of p)) is_y) ∙ is))) can);
+            (subst (λ (z : Script). CanBoot g.L.Layout.layout z v) (sym (same_script y.script s (sym (ap (λ p. script_of
+            (loaded_of p)) is_y) ∙ is))) can);
         paid = first_paid d (drive c.args.end l) v m.counts _ refl c.requires.idle quiet;
       };
       script = sym (ap (λ p. script_of (loaded_of p)) is_y);

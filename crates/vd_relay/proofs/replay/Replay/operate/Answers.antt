@@ -33,7 +33,8 @@ returns-else-self-clause-turn g c = λ v h own.
 pub returns-then-self-2-clause-turn : goal.returns-then-self-2-clause-turn
 returns-then-self-2-clause-turn g c = λ v h own.
     let k = c.begin.ensures.begun v h in
-    armed_winding g.Q.Port.port g.L.Layout.layout g.L.Driver.DriverEnd.driver g.met.L.Layout.lawful.driver_end c.args.port.now c.step.new.port
+    armed_winding g.Q.Port.port g.L.Layout.layout g.L.Driver.DriverEnd.driver g.met.L.Layout.lawful.driver_end c.args.port.now
+    c.step.new.port
     c.args.self.now c.args.shadow.now c.begin.new.shadow v c.step.new.self k.replays k.owes c.if-self-2.true
     (c.in-Armed.ensures v k.replays.drives own)
 

@@ -33,7 +33,8 @@ begin_offer-requires-clause-may g c =
       o.1.drives,
       subst (λ z. MayOffer d.words o.0 z) (sym is)
           (may_offer_here g.Q.Port.port l d e lay c.args.port.now c.args.port.now c.args.self.now c.args.shadow.now o.0 o.1 c.len.result
-          c.requires.at (omega (arith, few.0, len)) (omega (arith, few.1, len)) (subst (λ z. IsChain z) is c.next_chain-chain.ensures.lawful)),
+          c.requires.at (omega (arith, few.0, len)) (omega (arith, few.1, len)) (subst
+          (λ z. IsChain z) is c.next_chain-chain.ensures.lawful)),
     )
 
 pub returns-clause-turn : goal.returns-clause-turn
