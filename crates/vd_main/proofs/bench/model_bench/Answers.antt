@@ -2,7 +2,7 @@ use Rattle.std.proofs.Common.{◌≡◌, ◌+◌, [], None, ◌∙◌, ap, lengt
 use Rattle.std.proofs.lemmas.List.{length_push}
 use Rattle.std.proofs.lemmas.List.Elements.{All-push}
 use Rattle.vd_models.specs.Driving.{loaded_of, script_of}
-use Rattle.vd_models.specs.Serving.{attached_of}
+use Rattle.vd_models.specs.Phases.{attached_of}
 use Rattle.vd_main.proofs.Empty.{empty_guests, empty_devices}
 use Rattle.vd_main.proofs.bench.model_bench.Goals as goal
 

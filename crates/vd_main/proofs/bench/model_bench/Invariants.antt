@@ -1,7 +1,7 @@
 use Rattle.std.proofs.Common.{◌≡◌, [], None, length}
 use Rattle.std.specs.List.{All}
 use Rattle.vd_models.specs.Driving.{loaded_of, script_of}
-use Rattle.vd_models.specs.Serving.{attached_of}
+use Rattle.vd_models.specs.Phases.{attached_of}
 use Rattle.vd_main.proofs.bench.model_bench.Given as goal
 
 abbrev pub invariant-loop-made : goal.invariant-loop-made

@@ -41,7 +41,7 @@ returns g c =
       words = words_are _ 0 _ c.in_ok-words.ensures.0 (c.in_ok-words.ensures.1 ∙ ap (λ n. replicate n 0) (c.words.ensures f with));
       shadow = words_are _ 16 _ c.in_ok-shadow_words.ensures.0
           (c.in_ok-shadow_words.ensures.1 ∙ ap (λ n. replicate n 0) (c.words-3.ensures h other));
-      drives = c.boot.ensures.holds view c.in_ok-script.script (c.in_ok-load.ensures.ok.1) (fresh.drives f with) (can_boot f
+      drives = c.boot.ensures.holds view c.in_ok-script.script (c.in_ok-load.ensures.ok.1) (fresh.drives f with) (can_boot l f
           (l.width f) c.in_ok-script.script c.args.count c.args.chain.now c.in_ok-script.ensures
           (may_stand_in f ms c.args.chain.now small.0 small.1 small.2 small.3 refl (c.if-not-is_mapped.ensures.all refl)) refl);
       serves = c.if-not-attach.ensures.holds refl shadow_device_view (shadow.serves h other) refl;
@@ -102,7 +102,7 @@ invariant_of-result g c =
       ring = subst (λ (us : List ℕ). l.ring us view device_view) (sym words) (law.opens c.args.size c.args.f false f c.requires.can with);
       shadow_ring = subst (λ (us : List ℕ). l.ring us shadow_view shadow_device_view) (sym shadow_words)
           (law.opens c.args.size c.args.f false h c.requires.can other);
-      drives = c.boot.ensures.holds view c.in_ok-script.script (c.in_ok-load.ensures.ok.1) (fresh.drives f with) (can_boot f
+      drives = c.boot.ensures.holds view c.in_ok-script.script (c.in_ok-load.ensures.ok.1) (fresh.drives f with) (can_boot l f
           (l.width f) c.in_ok-script.script c.args.count c.args.chain.now c.in_ok-script.ensures
           (may_stand_in f ms c.args.chain.now small.0 small.1 small.2 small.3 refl (c.if-not-is_mapped.ensures.all refl)) refl);
       serves = c.if-not-attach.ensures.holds refl shadow_device_view (shadow.serves h other) refl;
