@@ -240,7 +240,7 @@ module _ {X C : Type 0} (l : LayoutModel) (m : DeviceParty X C) (v : DriverView)
     grows = prefix_through (m.begun x) (m.begun y) (m.begun z) a.grows b.grows;
     settings = λ by is for. b.settings by (a.attached ∙ is) for ∙ a.settings by is for;
     set = λ by is for. set_through (length (m.begun x)) (m.begun y) (m.begun z) (m.settings x) (m.settings y) (m.settings z)
-    (prefix_low (m.begun x) (m.begun y) a.grows) b.grows (a.set by is for) (b.set by (a.attached ∙ is) for);
+        (prefix_low (m.begun x) (m.begun y) a.grows) b.grows (a.set by is for) (b.set by (a.attached ∙ is) for);
     attached_with = b.attached_with ∙ a.attached_with;
     faults = b.faults ∙ a.faults;
     window = b.window ∙ a.window;

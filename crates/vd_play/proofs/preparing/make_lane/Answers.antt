@@ -76,8 +76,13 @@ returns-clause-ok g c =
           c.in_ok-driver.driver c.in_ok-driver.end _ _ _ _ _ queue can c.in_ok-words.ensures.0 words c.in_ok-driver.ensures
           c.requires.guest (c.in_ok-load.ensures.ok.1 ∙ ap Some (sym here)) c.load.ensures.counts c.boot.ensures c.requires.device
           c.reserve.ensures.same c.in_ok-reserve.ensures.window
-          (omega (arith, c.in_ok-reserve.ensures.room.0, c.event_count-events.ensures, ap length c.as_slice-3.ensures,
-              ap renewals c.as_slice-3.ensures))
+          (omega (
+            arith,
+            c.in_ok-reserve.ensures.room.0,
+            c.event_count-events.ensures,
+            ap length c.as_slice-3.ensures,
+            ap renewals c.as_slice-3.ensures,
+          ))
           (omega (arith, c.in_ok-reserve.ensures.room.1, many));
       kits = c.in_ok-kits.ensures;
     }
