@@ -18,6 +18,7 @@ use vd_model::Return;
 use vd_words::{Access, Op, Port};
 
 /// The next command, where one is left.
+#[inline]
 pub(crate) fn next_command(loaded: &Loaded) -> Option<&ArrayVec<u8, 10>>
     ensures { option_copied result ≡ slice_get loaded.now.script.commands loaded.now.offered }
 {
@@ -47,6 +48,7 @@ fn room_store<L: Layout>(end: &L::Driver, loaded: &Loaded) -> Option<Access>
 }
 
 /// The store of the next command's first word, where an offer comes next and has room.
+#[inline(always)]
 fn first_store<L: Layout>(end: &L::Driver, loaded: &Loaded) -> Option<Access>
     requires { (v : DriverView) × DriveOpens L.Driver.driver L.layout (drive end.now loaded.now) v }
     ensures { (v : DriverView) → DriveOpens L.Driver.driver L.layout (drive end.now loaded.now) v
@@ -72,6 +74,7 @@ fn second_store<L: Layout>(end: &L::Driver, loaded: &Loaded) -> Access
 }
 
 /// The store of a word of the next command, or the load of an ack, that comes next, where one does.
+#[inline(always)]
 pub(crate) fn control_access<L: Layout>(end: &L::Driver, loaded: &Loaded) -> Option<Access>
     requires { (v : DriverView) × DriveOpens L.Driver.driver L.layout (drive end.now loaded.now) v }
     ensures { (v : DriverView) → DriveOpens L.Driver.driver L.layout (drive end.now loaded.now) v
