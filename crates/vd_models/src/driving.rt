@@ -135,6 +135,7 @@ fn waking(stage: GuestStage) -> Turn
 }
 
 /// Begins the offer of the command whose words are stored.
+#[inline(never)]
 fn begin_command<L: Layout>(end: &mut L::Driver, loaded: &Loaded)
     requires can { CanBegin L.Driver.driver L.layout (drive end.old loaded.now) }
     requires idle { L.Driver.driver.begun end.old ≡ DriverOp.idle }
@@ -150,6 +151,7 @@ fn begin_command<L: Layout>(end: &mut L::Driver, loaded: &Loaded)
 }
 
 /// Begins the offer of the next chain or command where it has room, and else a collect. A command's words are stored before.
+#[inline(always)]
 fn begin_next<L: Layout>(end: &mut L::Driver, loaded: &Loaded)
     requires can { CanBegin L.Driver.driver L.layout (drive end.old loaded.now) }
     requires idle { L.Driver.driver.begun end.old ≡ DriverOp.idle }
@@ -167,7 +169,7 @@ fn begin_next<L: Layout>(end: &mut L::Driver, loaded: &Loaded)
 }
 
 /// Begins the next operation where none is in progress.
-#[inline]
+#[inline(always)]
 fn begin_drive<L: Layout>(end: &mut L::Driver, loaded: &Loaded)
     requires { CanBegin L.Driver.driver L.layout (drive end.old loaded.now) }
     ensures busy { ¬ (L.Driver.driver.begun end.new ≡ DriverOp.idle) }

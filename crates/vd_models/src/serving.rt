@@ -137,7 +137,7 @@ pub(crate) fn waking(stage: Stage) -> Turn
 }
 
 /// Begins the next operation where none is in progress. `more` tells whether there are chains still to begin.
-#[inline]
+#[inline(always)]
 pub(crate) fn begin_next<L: Layout>(session: &mut Session<L::Device>, more: bool)
     requires { CanBegin L.Device.device session.old more }
     ensures busy { ¬ (L.Device.device.begun session.new.end ≡ DeviceOp.idle) }
