@@ -36,6 +36,13 @@ occurs_map f k (x ∷ xs) = elim (cases_eq x k) [
 pub occurs_map_front : (f : ℕ → ℕ) (k : ℕ) (xs ys : List ℕ) → 1 ≤ occurs k xs → 1 ≤ occurs (f k) (map f (xs ++ ys))
 occurs_map_front f k xs ys some = omega (arith, occurs_map f k (xs ++ ys), occurs-append k xs ys)
 
+pub occurs_shift : (b k : ℕ) (xs : List ℕ) → occurs (b + k) (map (λ j. b + j) xs) ≡ occurs k xs
+occurs_shift b k [] = refl
+occurs_shift b k (x ∷ xs) = elim (cases_eq x k) [
+  | inl e ↦ omega (arith, one_same x k e, one_same (b + x) (b + k) (ap (λ (j : ℕ). b + j) e), occurs_shift b k xs)
+  | inr ne ↦ omega (arith, one_other x k ne, one_other (b + x) (b + k) (λ h. ne (omega arith)), occurs_shift b k xs)
+]
+
 pub needs_moved : (f : Features) (ms : List Mapping) (c : List Piece) → needs f (moved ms c) ≡ needs f c
 needs_moved f ms c = ap (λ n. if f.indirect then 1 else n) (length-map c (moved_piece ms))
 
