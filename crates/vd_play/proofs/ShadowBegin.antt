@@ -25,7 +25,7 @@ use Rattle.vd_bus.specs.Pace.{attaches}
 use Rattle.vd_relay.specs.declared.counts.Counts.{Counts}
 use Rattle.vd_relay.specs.declared.state.State.{State}
 use Rattle.vd_relay.specs.Pairing.{ArePaired}
-use Rattle.vd_relay.specs.Relay.{Holds, start}
+use Rattle.vd_relay.specs.Moving.{Holds, start}
 use Rattle.vd_relay.specs.Stages.{is_rested}
 use Rattle.vd_relay.specs.Tie.{Start}
 use Rattle.vd_switch.specs.Account.{IsBegunBefore}

@@ -18,9 +18,9 @@ use Rattle.vd_relay.specs.declared.counts.Counts.{Counts}
 use Rattle.vd_relay.specs.declared.stage.Stage.{Stage}
 use Rattle.vd_relay.specs.declared.stage.Stage.TheVariants as stage
 use Rattle.vd_relay.specs.declared.state.State.{State}
-use Rattle.vd_relay.specs.Relay.{Stands}
+use Rattle.vd_relay.specs.Moving.{Stands}
 use Rattle.vd_relay.specs.Stages.{is_hearing, BeforeRest, InHand, BackIs}
-use Rattle.vd_relay.specs.Tie.{Start}
+use Rattle.vd_relay.specs.Tie.{Start, moves}
 use Rattle.vd_relay.proofs.Ties.{taken_count, given_count}
 use Rattle.vd_switch.specs.Sleeping.{Sleeps}
 use Rattle.vd_switch.proofs.AtRest.{at_rest}
@@ -94,13 +94,13 @@ sleeps_both e d z r v w sv sw h hearing off idle guest shadow =
       shadow_armed = (shadow.at, shadow.armed);
       offered = omega (
         arith,
-        taken_count z r.table h.acts sv.frame sv.done h.hand h.back h.tied,
+        taken_count (moves z) r.table h.acts sv.frame sv.done h.hand h.back h.tied,
         ap (λ (s : List DeviceDone). length (takes s)) empty.1,
         ap (λ (cs : List (List Piece)). length cs) empty.0,
       );
       given = omega (
         arith,
-        given_count z r.table h.acts sv.frame sv.done h.hand h.back h.tied,
+        given_count (moves z) r.table h.acts sv.frame sv.done h.hand h.back h.tied,
         ap (λ (s : List DeviceDone). length (gives s)) empty.1,
         ap (λ (us : List Used). length us) back,
       );

@@ -15,7 +15,7 @@ use Rattle.vd_bus.specs.Device.{IsSuspend, lens_of}
 use Rattle.vd_bus.specs.Pace.{attaches}
 use Rattle.vd_relay.specs.declared.counts.Counts.{Counts}
 use Rattle.vd_relay.specs.declared.state.State.{State}
-use Rattle.vd_relay.specs.Relay.{Holds}
+use Rattle.vd_relay.specs.Moving.{Holds}
 use Rattle.vd_relay.specs.Stages.{is_rested}
 use Rattle.vd_relay.specs.Tie.{Start}
 use Rattle.vd_switch.specs.ShadowingLanes as switch

@@ -7,7 +7,7 @@ use Rattle.vd_ring.specs.declared.driver.DriverView.{DriverView}
 use Rattle.vd_ring.specs.declared.device.DeviceView.{DeviceView}
 use Rattle.vd_ring.specs.History.{gives}
 use Rattle.vd_bus.specs.Device.{IsSuspend}
-use Rattle.vd_relay.specs.Relay.{Holds}
+use Rattle.vd_relay.specs.Moving.{Holds}
 use Rattle.vd_relay.specs.Stages.{is_rested}
 use Rattle.vd_relay.specs.Tie.{Start}
 use Rattle.vd_switch.specs.declared.shadowing.Shadowing.{Shadowing}

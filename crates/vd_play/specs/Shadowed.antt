@@ -11,7 +11,7 @@ use Rattle.vd_bus.specs.Device.{lens_of}
 use Rattle.vd_bus.specs.Orders.{IsData}
 use Rattle.vd_relay.specs.declared.counts.Counts.{Counts}
 use Rattle.vd_relay.specs.declared.state.State.{State}
-use Rattle.vd_relay.specs.Relay.{Holds}
+use Rattle.vd_relay.specs.Moving.{Holds}
 use Rattle.vd_relay.specs.Stages.{is_rested}
 use Rattle.vd_relay.specs.Tie.{Start, since}
 use Rattle.vd_switch.specs.ShadowingLanes as switch

@@ -2,7 +2,7 @@
 ghost use Rattle.std.specs.Prelude.{◌≡◌, ℕ, ◌≤◌, Bool, true, is_some, None, IsSomeAnd, option_map};
 ghost use Rattle.vd_ring.specs.declared.device.DeviceView.{DeviceView};
 ghost use Rattle.vd_ring.specs.declared.driver.DriverView.{DriverView};
-ghost use Rattle.vd_relay.specs.Relay.{Holds};
+ghost use Rattle.vd_relay.specs.Moving.{Holds};
 ghost use Rattle.vd_relay.specs.Stages.{is_rested};
 ghost use Rattle.vd_relay.specs.Tie.{Start};
 ghost use Rattle.vd_machine.specs.File.{Plan};

@@ -1,8 +1,11 @@
+pub mod Ways
 pub mod Tie
 pub mod Pairing
 pub mod Stages
 pub mod Pace
 pub mod Relay
+pub mod Carriers
+pub mod Moving
 pub mod Replays
 pub mod Accesses
 pub mod Carrying

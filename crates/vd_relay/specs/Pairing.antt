@@ -22,3 +22,14 @@ pub record ArePaired (ms : List Mapping) (f g : Frame) : Type 0 where
   pub shadow_plain : g.control ≡ false
   pub guest : f.ring < 16
   pub shadow : 16 ≤ g.ring
+
+-- both are rings of a control queue, without bounds, of one size and one feature set
+pub record AreControls (f g : Frame) : Type 0 where
+  pub guest_control : f.control ≡ true
+  pub shadow_control : g.control ≡ true
+  pub guest_free : f.bounds ≡ None
+  pub free : g.bounds ≡ None
+  pub size : g.size ≡ f.size
+  pub features : g.features ≡ f.features
+  pub guest : f.ring < 16
+  pub shadow : 16 ≤ g.ring

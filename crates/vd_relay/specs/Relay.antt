@@ -1,22 +1,19 @@
 -- What a relay holds at each stage, and what one step of it is.
-use Rattle.std.specs.Prelude.{◌≡◌, ◌⊎◌, ◌↔◌, ℕ, ◌+◌, ◌*◌, ◌≤◌, Bool, true, false, List, [], ◌∷◌, ◌++◌, length, map, IsTrue, if◌then◌else◌, Option, None, replicate}
+use Rattle.std.specs.Prelude.{◌≡◌, ◌⊎◌, ◌↔◌, ℕ, ◌+◌, ◌*◌, ◌≤◌, Bool, true, false, List, [], ◌∷◌, ◌++◌, length, IsTrue, if◌then◌else◌, Option, None, replicate}
 use Rattle.std.specs.List.{Contains}
 use Rattle.vd_model.specs.declared.chain.Piece.{Piece}
-use Rattle.vd_model.specs.declared.map.Mapping.{Mapping}
 use Rattle.vd_words.specs.declared.access.Access.{Access}
 use Rattle.vd_words.specs.declared.access.Op.{Op}
 use Rattle.vd_words.specs.Model.{PortModel}
-use Rattle.vd_words.specs.Own.{IsOwn}
 use Rattle.vd_ring.specs.declared.act.DriverAct.TheVariants as driver_act
 use Rattle.vd_ring.specs.declared.act.DeviceAct.TheVariants as device_act
 use Rattle.vd_ring.specs.declared.device.DeviceNow.TheVariants as device
 use Rattle.vd_ring.specs.declared.driver.DriverNow.TheVariants as driver
 use Rattle.vd_ring.specs.declared.frame.Used.{Used}
-use Rattle.vd_ring.specs.declared.driver.DriverDone.{DriverDone}
 use Rattle.vd_ring.specs.declared.driver.DriverView.{DriverView}
 use Rattle.vd_ring.specs.declared.device.DeviceDone.{DeviceDone}
 use Rattle.vd_ring.specs.declared.device.DeviceView.{DeviceView}
-use Rattle.vd_ring.specs.History.{offers, collects, takes, gives, running, occurs, IsWhole}
+use Rattle.vd_ring.specs.History.{offers, collects, open_at, takes, gives, running, occurs, IsWhole}
 use Rattle.vd_ring.specs.Sleep.{driver_woken, device_woken}
 use Rattle.vd_layout.specs.Begun.{DriverOp, DeviceOp}
 use Rattle.vd_layout.specs.Driver.{DriverModel}
@@ -30,17 +27,17 @@ use Rattle.vd_relay.specs.declared.counts.Turn.TheVariants.{Slept, Again}
 use Rattle.vd_relay.specs.declared.stage.Stage.{Stage}
 use Rattle.vd_relay.specs.declared.stage.Stage.TheVariants as stage
 use Rattle.vd_relay.specs.declared.state.State.{State}
-use Rattle.vd_relay.specs.Pairing.{ArePaired}
 use Rattle.vd_relay.specs.Pace.{raised, counted, handled, woke, guest_handled, shadow_handled, guest_owes, shadow_owes, KeepsPace}
 use Rattle.vd_relay.specs.Stages.{is_rested, is_shadow, is_hearing, roused, GuestIs, ShadowIs, TakesFrom, OffersHand, InHand, OfferIs, BackIs, EndsIs, BeforeRest, GuestArmed, ShadowArmed, GuestShown, ShadowShown}
-use Rattle.vd_relay.specs.Tie.{Start, IsTied, shift, since}
+use Rattle.vd_relay.specs.Tie.{Course, IsTied, guests, returned}
+use Rattle.vd_relay.specs.Ways.{Way, Pairs, Follows, sent, came}
 
 -- the relay's ends stand for these views, and its acts on the two rings are tied
-pub record Stands {E D : Type 0} (e : DeviceModel E) (d : DriverModel D) (z : Start) (r : State E D) (w : DeviceView) (v : DriverView)
+pub record Stands {E D : Type 0} (e : DeviceModel E) (d : DriverModel D) (z : Course) (r : State E D) (w : DeviceView) (v : DriverView)
     : Type 0 where
   pub serves : e.stands r.guest w
   pub drives : d.stands r.shadow v
-  pub paired : ArePaired z.map w.frame v.frame
+  pub paired : Pairs z.way w.frame v.frame
   pub rests : e.resting r.guest ≡ is_rested r.stage
   pub acts : List DeviceDone
   pub before : BeforeRest r.stage acts w.done
@@ -52,7 +49,7 @@ pub record Stands {E D : Type 0} (e : DeviceModel E) (d : DriverModel D) (z : St
   pub takes : TakesFrom (e.begun r.guest) hand
   pub offers : OffersHand (d.begun r.shadow) hand
   pub in_hand : InHand r.stage r.winding hand
-  pub offer : OfferIs r.stage (since z) v.frame v.done
+  pub offer : OfferIs r.stage (guests z) v.frame v.done
   pub to_give : BackIs (e.begun r.guest) back
   pub ends : EndsIs r.stage r.winding r.target acts v.done
   pub guest_armed : GuestArmed r.stage (e.begun r.guest) w.doing w.armed
@@ -71,7 +68,7 @@ abbrev pub HearsNone : {E D : Type 0} → DeviceModel E → DriverModel D → St
 HearsNone e d r = r.winding ≡ true → is_hearing r.stage ≡ true → e.begun r.guest ≡ DeviceOp.idle → d.begun r.shadow ≡ DriverOp.idle → ⊥
 
 -- it keeps its pace. Between two steps an end that hears is in its disarming store, and a wind-up is to hear no bell
-pub record Holds {E D : Type 0} (e : DeviceModel E) (d : DriverModel D) (z : Start) (r : State E D) (c : Counts) (w : DeviceView)
+pub record Holds {E D : Type 0} (e : DeviceModel E) (d : DriverModel D) (z : Course) (r : State E D) (c : Counts) (w : DeviceView)
     (v : DriverView) : Type 0 where
   pub stands : Stands e d z r w v
   pub pace : KeepsPace c (owes e d r w v)
@@ -93,7 +90,7 @@ pub record IsRoused {E D : Type 0} (e : DeviceModel E) (d : DriverModel D) (r : 
   pub exact : IsTrue finished ↔ IsFinished r w v
 
 -- it stands on between the same views, and owes no more
-pub record Stays {E D : Type 0} (e : DeviceModel E) (d : DriverModel D) (z : Start) (r r' : State E D) (w : DeviceView) (v : DriverView)
+pub record Stays {E D : Type 0} (e : DeviceModel E) (d : DriverModel D) (z : Course) (r r' : State E D) (w : DeviceView) (v : DriverView)
     : Type 0 where
   pub stands : Stands e d z r' w v
   pub owes : owes e d r' w v ≤ owes e d r w v
@@ -107,9 +104,9 @@ abbrev pub IsQuiet : {E D : Type 0} → DriverModel D → State E D → State E 
 IsQuiet d r r' = r.winding ≡ true → (x : List Piece) → d.begun r'.shadow ≡ DriverOp.offer x → d.begun r.shadow ≡ DriverOp.offer x
 
 -- on the guest's ring nothing is given, or one chain that runs, with the number and length of one collected on the shadow ring
-abbrev pub GivesOne : ℕ → List DeviceDone → List DriverDone → List DeviceDone → Type 0
-GivesOne b s o s' = (gives s' ≡ gives s)
-    ⊎ ((u : Used) × (gives s' ≡ gives s ++ u ∷ []) × (1 ≤ occurs u.number (running s)) × Contains (map (shift b) (collects o)) u)
+abbrev pub GivesOne : List Used → List DeviceDone → List DeviceDone → Type 0
+GivesOne returned s s' = (gives s' ≡ gives s)
+    ⊎ ((u : Used) × (gives s' ≡ gives s ++ u ∷ []) × (1 ≤ occurs u.number (running s)) × Contains returned u)
 
 -- a look at the one bell, after which the other's is next: no operation is in progress
 pub record IsGlance {E D : Type 0} (from to : Stage) (e : DeviceModel E) (d : DriverModel D) (r r' : State E D) : Type 0 where
@@ -119,7 +116,7 @@ pub record IsGlance {E D : Type 0} (from to : Stage) (e : DeviceModel E) (d : Dr
   pub shadow_idle : d.begun r'.shadow ≡ DriverOp.idle
 
 -- an access on the guest's ring
-pub record GuestTurn {P E D : Type 0} (port : PortModel P) (e : DeviceModel E) (d : DriverModel D) (z : Start) (p q : P)
+pub record GuestTurn {P E D : Type 0} (port : PortModel P) (e : DeviceModel E) (d : DriverModel D) (z : Course) (p q : P)
     (r r' : State E D) (w : DeviceView) (v : DriverView) (t : Turn) : Type 0 where
   pub op : Op
   pub access : Access
@@ -127,7 +124,7 @@ pub record GuestTurn {P E D : Type 0} (port : PortModel P) (e : DeviceModel E) (
   pub was_next : e.side.next w op access
   pub moved : port.moves p op access got q
   pub stands : Stands e d z r' (e.side.after w op access got) v
-  pub bag : GivesOne (since z) w.done v.done (e.side.after w op access got).done
+  pub bag : GivesOne (returned z v.done) w.done (e.side.after w op access got).done
   pub handled : Rattle.vd_relay.specs.Pace.handled t ≡ guest_handled (e.act w op access got)
   pub woke : Rattle.vd_relay.specs.Pace.woke t ≡ device_woken op (e.act w op access got)
   pub slept : (t ≡ Slept) ↔ (e.act w op access got ≡ device_act.Asleep)
@@ -143,7 +140,7 @@ pub record GuestTurn {P E D : Type 0} (port : PortModel P) (e : DeviceModel E) (
       ≤ owes e d r w v + 64 * (Rattle.vd_relay.specs.Pace.handled t + Rattle.vd_relay.specs.Pace.woke t)
 
 -- an access on the shadow ring
-pub record ShadowTurn {P E D : Type 0} (port : PortModel P) (e : DeviceModel E) (d : DriverModel D) (z : Start) (p q : P)
+pub record ShadowTurn {P E D : Type 0} (port : PortModel P) (e : DeviceModel E) (d : DriverModel D) (z : Course) (p q : P)
     (r r' : State E D) (w : DeviceView) (v : DriverView) (t : Turn) : Type 0 where
   pub op : Op
   pub access : Access
@@ -172,7 +169,7 @@ abbrev pub GuestWaits : {E D : Type 0} → DeviceModel E → State E D → State
 GuestWaits e r r' = (e.begun r.guest ≡ DeviceOp.idle) × (e.begun r'.guest ≡ DeviceOp.hear → ⊥)
 
 -- one access, on one of the two ports
-abbrev pub OneTurn : {P Q E D : Type 0} → PortModel P → PortModel Q → DeviceModel E → DriverModel D → Start → P → P → Q → Q → State E D
+abbrev pub OneTurn : {P Q E D : Type 0} → PortModel P → PortModel Q → DeviceModel E → DriverModel D → Course → P → P → Q → Q → State E D
     → State E D → DeviceView → DriverView → Turn → Type 0
 OneTurn p q e d z a a' b b' r r' w v t = ((b' ≡ b) × ShadowWaits d r r' × GuestTurn p e d z a a' r r' w v t)
     ⊎ ((a' ≡ a) × GuestWaits e r r' × ShadowTurn q e d z b b' r r' w v t)
@@ -197,7 +194,7 @@ pub record IsLook {E D : Type 0} (from to : Stage) (e : DeviceModel E) (d : Driv
   pub live : r.winding ≡ false
 
 -- an access on the guest's ring, and how it is counted. What was taken and given grows by it; a rest takes back what was not given
-pub record OnGuest {P E D : Type 0} (port : PortModel P) (e : DeviceModel E) (d : DriverModel D) (z : Start) (p q : P)
+pub record OnGuest {P E D : Type 0} (port : PortModel P) (e : DeviceModel E) (d : DriverModel D) (z : Course) (p q : P)
     (r r' : State E D) (c c' : Counts) (w : DeviceView) (v : DriverView) (said : Move) : Type 0 where
   pub op : Op
   pub access : Access
@@ -205,7 +202,7 @@ pub record OnGuest {P E D : Type 0} (port : PortModel P) (e : DeviceModel E) (d 
   pub was_next : e.side.next w op access
   pub moved : port.moves p op access got q
   pub holds : Holds e d z r' c' (e.side.after w op access got) v
-  pub bag : GivesOne (since z) w.done v.done (e.side.after w op access got).done
+  pub bag : GivesOne (returned z v.done) w.done (e.side.after w op access got).done
   pub grown : length (takes w.done) + length (gives w.done) + guest_handled (e.act w op access got)
       ≤ (if is_rested r'.stage then length (takes w.done) else length (takes (e.side.after w op access got).done))
       + length (gives (e.side.after w op access got).done)
@@ -216,7 +213,7 @@ pub record OnGuest {P E D : Type 0} (port : PortModel P) (e : DeviceModel E) (d 
   pub counts : AreCounted c c' (unless slept) (guest_handled (e.act w op access got)) (device_woken op (e.act w op access got))
 
 -- an access on the shadow ring: a collect that shows nothing, and that the wind-up makes again, isn't counted
-pub record OnShadow {P E D : Type 0} (port : PortModel P) (e : DeviceModel E) (d : DriverModel D) (z : Start) (p q : P)
+pub record OnShadow {P E D : Type 0} (port : PortModel P) (e : DeviceModel E) (d : DriverModel D) (z : Course) (p q : P)
     (r r' : State E D) (c c' : Counts) (w : DeviceView) (v : DriverView) (said : Move) : Type 0 where
   pub op : Op
   pub access : Access
@@ -235,7 +232,7 @@ pub record OnShadow {P E D : Type 0} (port : PortModel P) (e : DeviceModel E) (d
   pub counts : AreCounted c c' (unless left_out) (shadow_handled (d.act v op access got)) (driver_woken op (d.act v op access got))
 
 -- exactly one access, on one of the two ports
-pub record IsRelayStep {P Q E D : Type 0} (p : PortModel P) (q : PortModel Q) (e : DeviceModel E) (d : DriverModel D) (z : Start)
+pub record IsRelayStep {P Q E D : Type 0} (p : PortModel P) (q : PortModel Q) (e : DeviceModel E) (d : DriverModel D) (z : Course)
     (a a' : P) (b b' : Q) (w : DeviceView) (v : DriverView) (r r' : State E D) (c c' : Counts) (said : Move) : Type 0 where
   pub made : ((b' ≡ b) × OnGuest p e d z a a' r r' c c' w v said) ⊎ ((a' ≡ a) × OnShadow q e d z b b' r r' c c' w v said)
   pub kept : IsKept r r'
@@ -247,38 +244,29 @@ pub record IsRelayStep {P Q E D : Type 0} (p : PortModel P) (q : PortModel Q) (e
 
 -- ---- the first, and the last
 
--- the ends of a new relay are free, and the table empty
-pub record IsOpen {E D : Type 0} (e : DeviceModel E) (d : DriverModel D) (ms : List Mapping) (a : E) (c : D) (table : List (Option Origin))
+-- where it takes over
+abbrev pub start : Way → DeviceView → Course
+start way w = record { takes = takes w.done; gives = gives w.done; way = way }
+
+-- the guest's end of a relay that begins to carry is free, no chain stands on the shadow ring but what was replayed, and the table is
+-- empty
+pub record Begins {E D : Type 0} (e : DeviceModel E) (d : DriverModel D) (way : Way) (a : E) (c : D) (table : List (Option Origin))
     (w : DeviceView) (v : DriverView) : Type 0 where
   pub serves : e.stands a w
   pub drives : d.stands c v
-  pub paired : ArePaired ms w.frame v.frame
+  pub paired : Pairs way w.frame v.frame
   pub outstanding : length (takes w.done) ≡ length (gives w.done)
-  pub fresh : v.done ≡ []
+  pub none_open : open_at v.done ≡ []
+  pub none_sent : sent way v.done ≡ []
+  pub none_came : came way v.done ≡ []
+  pub follows : Follows way v.done
   pub empty : table ≡ replicate v.frame.size None
 
--- where it takes over
-abbrev pub start : List Mapping → DeviceView → Start
-start ms w = record { takes = takes w.done; gives = gives w.done; map = ms }
-
 -- the guest's end rests, and all that was collected on the shadow ring was given on the guest's
-pub record HandsBack {E D : Type 0} (e : DeviceModel E) (d : DriverModel D) (z : Start) (a : E) (c : D) (target : ℕ) (w : DeviceView)
+pub record HandsBack {E D : Type 0} (e : DeviceModel E) (d : DriverModel D) (z : Course) (a : E) (c : D) (target : ℕ) (w : DeviceView)
     (v : DriverView) : Type 0 where
   pub serves : e.stands a w
   pub drives : d.stands c v
   pub rests : e.resting a ≡ true
-  pub given : gives w.done ≡ z.gives ++ map (shift (since z)) (collects v.done)
+  pub given : gives w.done ≡ z.gives ++ returned z v.done
   pub collected : target ≤ length (collects v.done)
-
--- ---- a relay that may make a step
-
-abbrev pub CanStep : {P Q E D : Type 0} → PortModel P → PortModel Q → DeviceModel E → DriverModel D → List Mapping → P → Q → State E D
-    → Counts
-    → Type 0
-CanStep p q e d ms a b r c = (z : Start) × (w : DeviceView) × (v : DriverView) × Holds e d z r c w v × (ms ≡ z.map)
-    × IsOwn p e.side a w × IsOwn q d.side b v
-
-abbrev pub CanTurn : {P Q E D : Type 0} → PortModel P → PortModel Q → DeviceModel E → DriverModel D → List Mapping → P → Q → State E D
-    → Type 0
-CanTurn p q e d ms a b r = (z : Start) × (w : DeviceView) × (v : DriverView) × Stands e d z r w v × (ms ≡ z.map)
-    × IsOwn p e.side a w × IsOwn q d.side b v

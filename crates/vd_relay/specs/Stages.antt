@@ -1,5 +1,5 @@
 -- The stages of a relay: which operations go with each, what is in hand and what is to be given, and which ends are armed.
-use Rattle.std.specs.Prelude.{◌≡◌, ◌⊎◌, ℕ, ◌+◌, ◌≤◌, Bool, true, false, Option, Some, None, List, [], ◌∷◌, length}
+use Rattle.std.specs.Prelude.{◌≡◌, ◌⊎◌, ℕ, ◌≤◌, Bool, true, false, Option, Some, None, List, [], ◌∷◌, length}
 use Rattle.vd_model.specs.declared.chain.Piece.{Piece}
 use Rattle.vd_words.specs.declared.access.Op.TheVariants as op
 use Rattle.vd_ring.specs.declared.frame.Frame.{Frame}
@@ -84,9 +84,9 @@ InHand _ false hand = hand ≡ []
 InHand _ true hand = length hand ≤ 1
 
 -- the number on the guest's ring and the head of the chain that is offered
-abbrev pub OfferIs : Stage → ℕ → Frame → List DriverDone → Type 0
-OfferIs (stage.Offering number head) b g o = (number ≡ b + length (offers o)) × (head ≡ next_head g o)
-OfferIs _ b g o = Unit {0}
+abbrev pub OfferIs : Stage → (ℕ → ℕ) → Frame → List DriverDone → Type 0
+OfferIs (stage.Offering number head) guests g o = (number ≡ guests (length (offers o))) × (head ≡ next_head g o)
+OfferIs _ guests g o = Unit {0}
 
 -- what is to be given
 abbrev pub BackIs : DeviceOp → List Used → Type 0

@@ -13,7 +13,7 @@ use Rattle.vd_layout.specs.Device.{DeviceModel}
 use Rattle.vd_layout.specs.Layout.{LayoutModel}
 use Rattle.vd_relay.specs.declared.counts.Counts.{Counts}
 use Rattle.vd_relay.specs.declared.state.State.{State}
-use Rattle.vd_relay.specs.Relay.{Holds, IsRelayStep, OnGuest, OnShadow}
+use Rattle.vd_relay.specs.Moving.{Holds, IsRelayStep, OnGuest, OnShadow}
 use Rattle.vd_relay.specs.Tie.{Start}
 use Rattle.vd_relayed.specs.Bridges.{Parts}
 use Rattle.vd_relayed.specs.Ports.{RelayOn}

@@ -17,7 +17,7 @@ use Rattle.vd_bus.specs.Guest.{GuestParty}
 use Rattle.vd_control.specs.declared.settings.Settings.{Settings}
 use Rattle.vd_relay.specs.declared.counts.Counts.{Counts}
 use Rattle.vd_relay.specs.declared.state.State.{State}
-use Rattle.vd_relay.specs.Relay.{Holds}
+use Rattle.vd_relay.specs.Moving.{Holds}
 use Rattle.vd_relay.specs.Stages.{is_rested}
 use Rattle.vd_relay.specs.Tie.{Start}
 
@@ -65,7 +65,7 @@ pub record IsNew {D E G V C : Type 0} (d : DriverModel D) (e : DeviceModel E) (l
   pub shadow : b.shadow ≡ fresh_words l second
   pub drives : g.holds b.guest (fresh_driver first (l.width first))
   pub serves : m.holds b.device (fresh_device second (l.width second))
-  pub relays : Holds e d (Rattle.vd_relay.specs.Relay.start ms (fresh_device first (l.width first))) b.state b.counts
+  pub relays : Holds e d (Rattle.vd_relay.specs.Moving.start ms (fresh_device first (l.width first))) b.state b.counts
       (fresh_device first (l.width first)) (fresh_driver second (l.width second))
   pub script : g.script b.guest ≡ Some (record { runs = record { count = count; chain = chain } ∷ []; commands = [] })
   pub offered : g.offered b.guest ≡ 0

@@ -11,7 +11,7 @@ use Rattle.vd_bus.specs.Device.{DeviceParty, IsDeviceAccess}
 use Rattle.vd_bus.specs.Guest.{GuestParty, IsGuestAccess}
 use Rattle.vd_relay.specs.declared.counts.Counts.{Counts}
 use Rattle.vd_relay.specs.declared.state.State.{State}
-use Rattle.vd_relay.specs.Relay.{Holds, IsRelayStep}
+use Rattle.vd_relay.specs.Moving.{Holds, IsRelayStep}
 use Rattle.vd_relay.specs.Tie.{Start}
 
 pub record GuestOn {P D G : Type 0} (port : PortModel P) (d : DriverModel D) (l : LayoutModel) (g : GuestParty G) (p p' : P)

@@ -11,7 +11,7 @@ use Rattle.vd_layout.specs.Device.{DeviceModel}
 use Rattle.vd_layout.specs.Layout.{LayoutModel}
 use Rattle.vd_bus.specs.Device.{DeviceParty, IsDeviceAccess}
 use Rattle.vd_bus.specs.Guest.{GuestParty, IsGuestAccess}
-use Rattle.vd_relay.specs.Relay.{Holds, IsRelayStep}
+use Rattle.vd_relay.specs.Moving.{Holds, IsRelayStep}
 use Rattle.vd_relay.specs.Stages.{is_rested}
 use Rattle.vd_relay.specs.Tie.{Start}
 use Rattle.vd_relayed.specs.Bridges.{Parts}

@@ -14,9 +14,9 @@ use Rattle.vd_layout.specs.Device.{DeviceModel, IsLawfulDevice}
 use Rattle.vd_relay.specs.declared.stage.Stage.{Stage}
 use Rattle.vd_relay.specs.declared.stage.Stage.TheVariants as stage
 use Rattle.vd_relay.specs.declared.state.State.{State}
-use Rattle.vd_relay.specs.Relay.{Stands}
+use Rattle.vd_relay.specs.Moving.{Stands}
 use Rattle.vd_relay.specs.Stages.{IsSome, is_hearing, BeforeRest, InHand, BackIs, GuestArmed, ShadowArmed}
-use Rattle.vd_relay.specs.Tie.{Start}
+use Rattle.vd_relay.specs.Tie.{Start, moves}
 use Rattle.vd_relay.proofs.Ties.{taken_count, given_count}
 use Rattle.vd_switch.specs.Sleeping.{Sleeps}
 
@@ -71,13 +71,13 @@ module _ {E D : Type 0} (e : DeviceModel E) (d : DriverModel D) (law : IsLawfulD
         shadow_armed = heard.shadow;
         offered = omega (
           arith,
-          taken_count z r.table h.acts v.frame v.done h.hand h.back h.tied,
+          taken_count (moves z) r.table h.acts v.frame v.done h.hand h.back h.tied,
           ap (λ (s : List DeviceDone). length (takes s)) heard.same,
           ap (λ (cs : List (List Piece)). length cs) heard.none,
         );
         given = omega (
           arith,
-          given_count z r.table h.acts v.frame v.done h.hand h.back h.tied,
+          given_count (moves z) r.table h.acts v.frame v.done h.hand h.back h.tied,
           ap (λ (s : List DeviceDone). length (gives s)) heard.same,
           ap (λ (us : List Used). length us) back,
         );

@@ -32,7 +32,7 @@ use Rattle.vd_bus.specs.Device.{IsJournalled, chains_of, lens_of}
 use Rattle.vd_relay.specs.declared.stage.Stage.{Stage}
 use Rattle.vd_relay.specs.declared.stage.Stage.TheVariants as stage
 use Rattle.vd_model.specs.Moved.{moved, moved_back}
-use Rattle.vd_relay.specs.Tie.{Start, since, shift}
+use Rattle.vd_relay.specs.Tie.{Start, moves, since, shift}
 use Rattle.vd_relay.specs.declared.state.State.{State}
 use Rattle.vd_relay.specs.Stages.{BeforeRest, GuestIs, BackIs, EndsIs, is_rested}
 use Rattle.vd_layout.specs.Begun.{DeviceOp}
@@ -118,7 +118,7 @@ module _ {E D : Type 0} (e : DeviceModel E) (d : DriverModel D) (l : LayoutModel
       (rested_back r.stage (e.begun r.guest) h.relays.back is h.relays.guest h.relays.to_give) in
       omega (
         arith,
-        given_count z r.table h.relays.acts sv.frame sv.done h.relays.hand h.relays.back h.relays.tied,
+        given_count (moves z) r.table h.relays.acts sv.frame sv.done h.relays.hand h.relays.back h.relays.tied,
         none,
         at.1,
         winding.target,

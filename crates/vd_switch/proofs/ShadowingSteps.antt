@@ -21,7 +21,8 @@ use Rattle.vd_bus.specs.Orders.{IsData}
 use Rattle.vd_relay.specs.Tie.{Start, since}
 use Rattle.vd_relay.specs.declared.state.State.{State}
 use Rattle.vd_relay.specs.declared.counts.Counts.{Counts}
-use Rattle.vd_relay.specs.Relay.{IsRelayStep, OnGuest, OnShadow, GivesOne, IsKept}
+use Rattle.vd_relay.specs.Moving.{IsRelayStep, OnGuest, OnShadow, GivesOne}
+use Rattle.vd_relay.specs.Relay.{IsKept}
 use Rattle.vd_switch.specs.Account.{lane_account}
 use Rattle.vd_switch.specs.ShadowingLanes.{IsShadowing, IsWinding, lane_begun}
 use Rattle.vd_switch.specs.ShadowingSteps.{RelayStepped, DeviceStepped, GuestStepped}

@@ -20,9 +20,9 @@ use Rattle.vd_bus.specs.declared.device.Attached.{Attached}
 use Rattle.vd_bus.specs.Device.{IsServing, IsBegun, IsJournalled, chains_of}
 use Rattle.vd_relay.specs.declared.stage.Stage.{Stage}
 use Rattle.vd_relay.specs.declared.stage.Stage.TheVariants as stage
-use Rattle.vd_relay.specs.Tie.{Start, since, numbered}
+use Rattle.vd_relay.specs.Tie.{Start, moves, since, numbered}
 use Rattle.vd_relay.specs.declared.state.State.{State}
-use Rattle.vd_relay.specs.Relay.{Stands}
+use Rattle.vd_relay.specs.Moving.{Stands}
 use Rattle.vd_relay.specs.Stages.{BeforeRest, GuestIs, BackIs}
 use Rattle.vd_layout.specs.Begun.{DeviceOp}
 use Rattle.vd_relay.proofs.Shifts.{occurs_shift}
@@ -70,7 +70,7 @@ module _ {E D : Type 0} (e : DeviceModel E) (d : DriverModel D) (l : LayoutModel
       ap
           (λ (s : List DeviceDone). length
           (gives s)) acts,
-      given_count z r.table h.relays.acts sv.frame sv.done h.relays.hand h.relays.back h.relays.tied,
+      given_count (moves z) r.table h.relays.acts sv.frame sv.done h.relays.hand h.relays.back h.relays.tied,
       ap
           (λ (us : List Used). length us) back,
       as_many,

@@ -17,7 +17,7 @@ use Rattle.vd_bus.specs.Device.{IsServing}
 use Rattle.vd_model.specs.Moved.{moved, moved_back}
 use Rattle.vd_relay.specs.Tie.{Start, HoldsOpen, shift, since}
 use Rattle.vd_relay.specs.declared.state.State.{State}
-use Rattle.vd_relay.specs.Relay.{Stands}
+use Rattle.vd_relay.specs.Moving.{Stands}
 use Rattle.vd_relay.specs.Stages.{is_rested}
 use Rattle.vd_switch.specs.Account.{IsBegunBefore, lane_account}
 
@@ -70,4 +70,4 @@ pub record KeepsShadowing {E D : Type 0} (z : Start) (old : List (List Piece × 
       × (chain sv.done i ≡ moved z.map (chain v.done (since z + i)))
   -- what was given past those before is, with its lengths, a prefix of what was collected from the shadow ring
   pub given : IsPrefix (drop (since z) (gives w.done)) (map (shift (since z)) (collects sv.done))
-  pub table : HoldsOpen r.table (since z) sv.frame sv.done
+  pub table : HoldsOpen r.table (λ k. since z + k) sv.frame sv.done

@@ -9,7 +9,7 @@ use Rattle.vd_table.specs.declared.Origin.{Origin}
 use Rattle.vd_relay.specs.declared.counts.Counts.{Counts}
 use Rattle.vd_relay.specs.declared.state.State.{State}
 use Rattle.vd_relay.specs.Pairing.{ArePaired}
-use Rattle.vd_relay.specs.Relay.{Holds, start}
+use Rattle.vd_relay.specs.Moving.{Holds, start}
 use Rattle.vd_relay.specs.Stages.{is_rested}
 
 -- it rests or is fresh

@@ -13,7 +13,7 @@ ghost use Rattle.vd_bus.specs.declared.device.Attached.{Attached};
 ghost use Rattle.vd_relay.specs.declared.state.State.{State};
 ghost use Rattle.vd_relay.specs.declared.counts.Counts.{Counts};
 ghost use Rattle.vd_layout.specs.Begun.{DeviceOp, DriverOp};
-ghost use Rattle.vd_relay.specs.Relay.{Stands, IsRelayStep};
+ghost use Rattle.vd_relay.specs.Moving.{Stands, IsRelayStep};
 ghost use Rattle.vd_relay.specs.Stages.{is_hearing};
 ghost use Rattle.vd_ring.specs.Signals.{nothing};
 ghost use Rattle.vd_ring.specs.Sleep.{DriverWaits, DeviceWaits, driver_owed};

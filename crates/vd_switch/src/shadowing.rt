@@ -7,7 +7,7 @@ ghost use Rattle.vd_ring.specs.History.{gives};
 ghost use Rattle.vd_bus.specs.Device.{IsSuspend};
 ghost use Rattle.vd_relay.specs.Stages.{is_rested};
 ghost use Rattle.vd_relay.specs.Tie.{Start};
-ghost use Rattle.vd_relay.specs.Relay.{Holds, CanStep, IsRelayStep, HandsBack};
+ghost use Rattle.vd_relay.specs.Moving.{Holds, CanStep, IsRelayStep, HandsBack};
 
 use crate::still::Still;
 use vd_bus::Device;

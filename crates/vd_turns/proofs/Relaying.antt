@@ -27,7 +27,8 @@ use Rattle.vd_relay.specs.declared.stage.Stage.{Stage}
 use Rattle.vd_relay.specs.declared.stage.Stage.TheVariants as stage
 use Rattle.vd_relay.specs.declared.state.State.{State}
 use Rattle.vd_relay.specs.Pace.{guest_handled, shadow_handled}
-use Rattle.vd_relay.specs.Relay.{IsRelayStep, OnGuest, OnShadow, IsFinished, unless}
+use Rattle.vd_relay.specs.Moving.{IsRelayStep, OnGuest, OnShadow}
+use Rattle.vd_relay.specs.Relay.{IsFinished, unless}
 use Rattle.vd_relay.specs.Stages.{is_rested, BackIs, BeforeRest, EndsIs}
 use Rattle.vd_relay.specs.Tie.{Start}
 use Rattle.vd_switch.specs.ShadowingLanes.{IsShadowing, IsWinding}

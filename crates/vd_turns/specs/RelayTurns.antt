@@ -21,7 +21,8 @@ use Rattle.vd_relay.specs.declared.counts.Counts.{Counts}
 use Rattle.vd_relay.specs.declared.stage.Stage.{Stage}
 use Rattle.vd_relay.specs.declared.stage.Stage.TheVariants as stage
 use Rattle.vd_relay.specs.declared.state.State.{State}
-use Rattle.vd_relay.specs.Relay.{Holds, IsKept}
+use Rattle.vd_relay.specs.Moving.{Holds}
+use Rattle.vd_relay.specs.Relay.{IsKept}
 use Rattle.vd_relay.specs.Stages.{is_rested}
 use Rattle.vd_relay.specs.Tie.{Start}
 use Rattle.vd_switch.specs.ShadowingLanes.{IsShadowing}

@@ -5,7 +5,7 @@ ghost use Rattle.vd_model.specs.declared.record.Begun.{Begun};
 ghost use Rattle.vd_ring.specs.declared.device.DeviceView.{DeviceView};
 ghost use Rattle.vd_ring.specs.declared.driver.DriverView.{DriverView};
 ghost use Rattle.vd_bus.specs.declared.device.Attached.{Attached};
-ghost use Rattle.vd_relay.specs.Relay.{Holds};
+ghost use Rattle.vd_relay.specs.Moving.{Holds};
 ghost use Rattle.vd_relay.specs.Stages.{is_rested};
 ghost use Rattle.vd_relay.specs.Tie.{Start};
 ghost use Rattle.vd_switch.specs.ShadowingLanes.{IsShadowing};

@@ -7,7 +7,7 @@ use Rattle.vd_ring.specs.Fresh.{fresh_driver, fresh_device}
 use Rattle.vd_layout.specs.Layout.{IsMadeWith}
 use Rattle.vd_layout.specs.Both.{plain_frame}
 use Rattle.vd_models.specs.laws.Pairs.{can_boot}
-use Rattle.vd_relay.specs.Relay.{start}
+use Rattle.vd_relay.specs.Moving.{start}
 use Rattle.vd_relayed.specs.Bridges.{guest_frame, shadow_frame}
 use Rattle.vd_relayed.proofs.Covering.{covers_own, may_stand_in}
 use Rattle.vd_relayed.proofs.Opening.{words_are}

@@ -1,5 +1,5 @@
 use Rattle.std.proofs.Common.{None, replicate, ap, sym, ◌∙◌, subst}
-use Rattle.vd_relay.specs.Relay.{Holds, start}
+use Rattle.vd_relay.specs.Moving.{Holds, start}
 use Rattle.vd_relay.specs.Stages.{is_rested}
 use Rattle.vd_switch.proofs.StillEnds.{still_of}
 use Rattle.vd_switch.proofs.still.Still.to_shadow.Goals as goal
