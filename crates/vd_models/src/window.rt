@@ -38,6 +38,7 @@ pub(crate) fn next(held: &HeapCircularBuffer<Held>, in_order: bool) -> Held
 }
 
 /// Takes out the chain that was given.
+#[inline(never)]
 pub(crate) fn drop_next(held: &mut HeapCircularBuffer<Held>, in_order: bool)
     ensures { held.new ≡ buffer (rest_held in_order held.old.items) held.old.capacity }
 {
@@ -58,8 +59,8 @@ pub(crate) fn hold(held: &mut HeapCircularBuffer<Held>, chain: Held)
     }
 }
 
-/// Records a chain that was taken, and holds it.
-#[inline(always)]
+/// Records a chain that was taken, and holds it. Out of line: the steps that take none then needn't clear a chain.
+#[inline(never)]
 pub(crate) fn note(
     number: u32,
     chain: Chain,

@@ -10,6 +10,7 @@ use vd_model::Mode;
 /// A line of at most 120 bytes.
 pub type Line = ArrayString<120>;
 
+#[inline(always)]
 fn push_number(line: &mut Line, number: u64)
     requires { array_string_len line.old + 20 ≤ 120 }
     ensures bytes { line.new.bytes ≡ line.old.bytes ++ decimal number }
