@@ -1,5 +1,5 @@
 -- A new relay, and a relay that begins to wind up.
-use Rattle.std.proofs.Common.{◌≡◌, ℕ, zero, suc, ◌≤◌, Bool, true, false, Option, None, List, [], ◌++◌, length, replicate, if◌then◌else◌, refl, sym, ◌∙◌, ap, subst, arith}
+use Rattle.std.proofs.Common.{◌≡◌, ℕ, zero, suc, ◌≤◌, Bool, true, false, Option, None, List, [], ◌++◌, length, map, replicate, if◌then◌else◌, refl, sym, ◌∙◌, ap, subst, arith}
 use Rattle.std.proofs.lemmas.List.{append-nil, length-replicate, nil_from_length}
 use Rattle.vd_model.specs.declared.chain.Piece.{Piece}
 use Rattle.vd_model.specs.declared.map.Mapping.{Mapping}
@@ -13,7 +13,7 @@ use Rattle.vd_ring.specs.declared.device.DeviceDone.{DeviceDone}
 use Rattle.vd_ring.specs.declared.device.DeviceNow.{DeviceNow}
 use Rattle.vd_ring.specs.declared.device.DeviceNow.TheVariants as guest_now
 use Rattle.vd_ring.specs.declared.device.DeviceView.{DeviceView}
-use Rattle.vd_ring.specs.History.{takes, gives, running}
+use Rattle.vd_ring.specs.History.{offers, collects, open_at, takes, gives, running, occurs}
 use Rattle.vd_layout.specs.Begun.{DriverOp, DeviceOp}
 use Rattle.vd_layout.specs.Driver.{DriverModel, IsLawfulDriver}
 use Rattle.vd_layout.specs.Device.{DeviceModel, IsLawfulDevice}
@@ -25,8 +25,11 @@ use Rattle.vd_relay.specs.declared.stage.Stage.TheVariants as stage
 use Rattle.vd_relay.specs.declared.state.State.{State}
 use Rattle.vd_relay.specs.Pace.{guest_owes, shadow_owes, idle_owes, take_owes, collect_owes, guest_hears, shadow_hears, hear_owes, KeepsPace}
 use Rattle.vd_relay.specs.Stages.{is_rested, is_shadow, is_hearing, InHand, EndsIs, BackIs}
-use Rattle.vd_relay.specs.Tie.{Start, IsTied}
-use Rattle.vd_relay.specs.Relay.{Stands, Holds, IsRoused, IsOpen, HandsBack, owes, start}
+use Rattle.vd_relay.specs.Tie.{Course, IsTied}
+use Rattle.vd_relay.specs.Ways.{Way, moving, sent, came, numbered_by, shift_by, Follows}
+use Rattle.vd_relay.specs.Moving.{IsOpen}
+use Rattle.vd_relay.specs.Relay.{Stands, Holds, IsRoused, Begins, HandsBack, owes, start}
+use Rattle.vd_relay.proofs.Ways.{matches_none}
 use Rattle.vd_relay.proofs.Origins.{is_none}
 use Rattle.vd_relay.proofs.Calm.{Free, FewInHand, at_stage, hand_to, settled, freed, owes_idle, stands_roused, winding_small, roused_live, roused_deaf}
 
@@ -35,25 +38,25 @@ row_none zero h = refl
 row_none (suc n) zero = refl
 row_none (suc n) (suc h) = row_none n h
 
-tied_new : (s : List DeviceDone) (ms : List Mapping) (g : Frame) (o : List DriverDone) (t : List (Option Origin)) → running s ≡ []
-    → length (takes s) ≡ length (gives s) → o ≡ [] → t ≡ replicate g.size None
-    → IsTied (record { takes = takes s; gives = gives s; map = ms }) t [] [] s g o
-tied_new s ms g o t none even fresh empty =
-    subst (λ (p : List DriverDone). IsTied (record { takes = takes s; gives = gives s; map = ms }) t [] [] s g p) (sym fresh) record {
-      past = [];
-      got = [];
-      takes = sym (append-nil (takes s));
-      gives = sym (append-nil (gives s));
-      even = even;
-      offered = refl;
-      given = refl;
-      runs = none;
-      holds = record {
-        sized = ap (λ (x : List (Option Origin)). length x) empty ∙ length-replicate g.size None;
-        stored = λ k some. absurd (omega arith);
-        only = λ h some. absurd (is_none (row t h) some (ap (λ (x : List (Option Origin)). row x h) empty ∙ row_none g.size h));
-      };
-    }
+tied_new : (s : List DeviceDone) (way : Way) (g : Frame) (o : List DriverDone) (t : List (Option Origin)) → running s ≡ []
+    → length (takes s) ≡ length (gives s) → open_at o ≡ [] → sent way o ≡ [] → came way o ≡ [] → Follows way o → t ≡ replicate g.size None
+    → IsTied (record { takes = takes s; gives = gives s; way = way }) t [] [] s g o
+tied_new s way g o t none even none_open none_sent none_came follows empty = record {
+  past = [];
+  got = [];
+  takes = sym (append-nil (takes s));
+  gives = sym (append-nil (gives s));
+  even = even;
+  offered = matches_none way (sent way o ++ []) (append-nil (sent way o) ∙ none_sent);
+  given = ap (λ (us : List Used). map (shift_by way (length (gives s))) us) none_came;
+  runs = none ∙ sym (ap (λ (ks : List ℕ). map (numbered_by way (length (gives s))) ks) (append-nil (open_at o) ∙ none_open));
+  holds = record {
+    sized = ap (λ (x : List (Option Origin)). length x) empty ∙ length-replicate g.size None;
+    stored = λ k some. absurd (omega (arith, some, ap (λ (ks : List ℕ). occurs k ks) none_open));
+    only = λ h some. absurd (is_none (row t h) some (ap (λ (x : List (Option Origin)). row x h) empty ∙ row_none g.size h));
+  };
+  follows = follows;
+}
 
 module _ {E D : Type 0} (e : DeviceModel E) (d : DriverModel D) (law : IsLawfulDevice e) (ldr : IsLawfulDriver d) where
   few_none : (y : Bool) → FewInHand y []
@@ -65,36 +68,54 @@ module _ {E D : Type 0} (e : DeviceModel E) (d : DriverModel D) (law : IsLawfulD
   small false true = omega arith
   small false false = omega arith
 
-  pub opened : (a : E) (c : D) (t : List (Option Origin)) (ms : List Mapping) (w : DeviceView) (v : DriverView) → e.begun a ≡ DeviceOp.idle
-      → e.resting a ≡ false → e.armed a ≡ false → d.begun c ≡ DriverOp.idle → d.armed c ≡ false → IsOpen e d ms a c t w v
-      → Holds e d (start ms w) (record { guest = a; shadow = c; table = t; stage = stage.Taking; winding = false; target = 0 })
+  -- a relay that begins to carry
+  pub begun : (a : E) (c : D) (t : List (Option Origin)) (way : Way) (w : DeviceView) (v : DriverView) → e.begun a ≡ DeviceOp.idle
+      → e.resting a ≡ false → e.armed a ≡ false → d.begun c ≡ DriverOp.idle → d.armed c ≡ false → Begins e d way a c t w v
+      → Holds e d (start way w) (record { guest = a; shadow = c; table = t; stage = stage.Taking; winding = false; target = 0 })
       (record { accesses = 0; handled = 0; heard = 0 }) w v
-  opened a c t ms w v idle awake unarmed free apart o =
+  begun a c t way w v idle awake unarmed free apart o =
       let r : State E D = record { guest = a; shadow = c; table = t; stage = stage.Taking; winding = false; target = 0 } in
       let none : running w.done ≡ [] = nil_from_length (running w.done) (omega (arith, o.outstanding, (law.runs a w o.serves).count)) in
-      let f : Free e d (start ms w) r w v = record {
+      let f : Free e d (start way w) r w v = record {
         serves = o.serves;
         drives = o.drives;
         paired = o.paired;
         awake = awake;
         hand = [];
-        tied = tied_new w.done ms v.frame v.done t none o.outstanding o.fresh o.empty;
+        tied = tied_new w.done way v.frame v.done t none o.outstanding o.none_open o.none_sent o.none_came o.follows o.empty;
         few = refl;
         guest_idle = idle;
         shadow_idle = free;
       } in
       record {
-        stands = settled e d law ldr (start ms w) r w v stage.Taking refl f tt (law.not_armed a w o.serves unarmed)
+        stands = settled e d law ldr (start way w) r w v stage.Taking refl f tt (law.not_armed a w o.serves unarmed)
             (ldr.unarmed c v o.drives apart);
         pace = λ i j k. omega (
           arith,
-          owes_idle e d law ldr (start ms w) r w v stage.Taking f,
+          owes_idle e d law ldr (start way w) r w v stage.Taking f,
           small w.shown v.shown,
         );
         hears_guest = λ hears x. cc (hears, idle);
         hears_shadow = λ hears x. cc (hears, free);
         leaves = λ on. absurd (cc on);
       }
+
+  -- a new relay of a data queue
+  pub opened : (a : E) (c : D) (t : List (Option Origin)) (ms : List Mapping) (w : DeviceView) (v : DriverView) → e.begun a ≡ DeviceOp.idle
+      → e.resting a ≡ false → e.armed a ≡ false → d.begun c ≡ DriverOp.idle → d.armed c ≡ false → IsOpen e d ms a c t w v
+      → Holds e d (start (moving ms) w) (record { guest = a; shadow = c; table = t; stage = stage.Taking; winding = false; target = 0 })
+      (record { accesses = 0; handled = 0; heard = 0 }) w v
+  opened a c t ms w v idle awake unarmed free apart o = begun a c t (moving ms) w v idle awake unarmed free apart (record {
+    serves = o.serves;
+    drives = o.drives;
+    paired = o.paired;
+    outstanding = o.outstanding;
+    none_open = ap open_at o.fresh;
+    none_sent = ap offers o.fresh;
+    none_came = ap collects o.fresh;
+    follows = tt;
+    empty = o.empty;
+  })
 
   -- ---- the begin of a wind-up
 
@@ -229,7 +250,7 @@ module _ {E D : Type 0} (e : DeviceModel E) (d : DriverModel D) (law : IsLawfulD
     target = given;
   }
 
-  pub wound : (z : Start) (r : State E D) (given : ℕ) (w : DeviceView) (v : DriverView) → r.winding ≡ false → Stands e d z r w v
+  pub wound : (z : Course) (r : State E D) (given : ℕ) (w : DeviceView) (v : DriverView) → r.winding ≡ false → Stands e d z r w v
       → Stands e d z (winding_to r given) w v
   wound z r given w v off h = record {
     serves = h.serves;
@@ -269,7 +290,7 @@ module _ {E D : Type 0} (e : DeviceModel E) (d : DriverModel D) (law : IsLawfulD
   pub pace_to : (c : Counts) (i j : ℕ) → i ≤ j → KeepsPace c j → KeepsPace c i
   pace_to c i j less pace = λ a b q. omega (arith, less, pace a b q)
 
-  pub wound_holds : (z : Start) (r : State E D) (c : Counts) (given : ℕ) (w : DeviceView) (v : DriverView) → r.winding ≡ false
+  pub wound_holds : (z : Course) (r : State E D) (c : Counts) (given : ℕ) (w : DeviceView) (v : DriverView) → r.winding ≡ false
       → (is_hearing r.stage ≡ true → e.begun r.guest ≡ DeviceOp.idle → d.begun r.shadow ≡ DriverOp.idle → ⊥) → Holds e d z r c w v
       → Holds e d z (winding_to r given) c w v
   wound_holds z r c given w v off leaves h = record {
@@ -309,7 +330,7 @@ module _ {E D : Type 0} (e : DeviceModel E) (d : DriverModel D) (law : IsLawfulD
   hearing_owes stage.Rested g s i = absurd (cc i)
 
   -- a sleeper is roused
-  pub wound_awake : (z : Start) (r : State E D) (c : Counts) (given : ℕ) (st : Stage) (w : DeviceView) (v : DriverView) → r.winding ≡ false
+  pub wound_awake : (z : Course) (r : State E D) (c : Counts) (given : ℕ) (st : Stage) (w : DeviceView) (v : DriverView) → r.winding ≡ false
       → is_hearing r.stage ≡ true → e.begun r.guest ≡ DeviceOp.idle → d.begun r.shadow ≡ DriverOp.idle
       → IsRoused e d (winding_to r given) w v st → Holds e d z r c w v → Holds e d z (at_stage (winding_to r given) st) c w v
   wound_awake z r c given st w v off hears gi si a h =
@@ -349,7 +370,7 @@ module _ {E D : Type 0} (e : DeviceModel E) (d : DriverModel D) (law : IsLawfulD
   rested_at stage.DisarmingShadow i = absurd (cc i)
   rested_at stage.Resting i = absurd (cc i)
 
-  pub handed_back : (z : Start) (r : State E D) (w : DeviceView) (v : DriverView) → is_rested r.stage ≡ true → Stands e d z r w v
+  pub handed_back : (z : Course) (r : State E D) (w : DeviceView) (v : DriverView) → is_rested r.stage ≡ true → Stands e d z r w v
       → HandsBack e d z r.guest r.shadow r.target w v
   handed_back z r w v rests h =
       let is = rested_at r.stage rests in

@@ -14,10 +14,10 @@ use Rattle.vd_layout.specs.laws.Unarmed.{device_unarmed, driver_unarmed}
 use Rattle.vd_relay.specs.declared.stage.Stage.{Stage}
 use Rattle.vd_relay.specs.declared.stage.Stage.TheVariants as stage
 use Rattle.vd_relay.specs.declared.state.State.{State}
-use Rattle.vd_relay.specs.Pairing.{ArePaired}
+use Rattle.vd_relay.specs.Ways.{Pairs}
 use Rattle.vd_relay.specs.Pace.{idle_owes, take_owes, guest_owes, shadow_owes}
 use Rattle.vd_relay.specs.Stages.{is_rested, is_shadow, is_open, is_hearing, roused, GuestIs, ShadowIs, TakesFrom, OffersHand, InHand, OfferIs, BackIs, EndsIs, BeforeRest, GuestArmed, ShadowArmed, GuestShown, ShadowShown}
-use Rattle.vd_relay.specs.Tie.{Start, IsTied, since}
+use Rattle.vd_relay.specs.Tie.{Course, IsTied, guests}
 use Rattle.vd_relay.specs.Relay.{Stands, Stays, owes, IsRoused, IsFinished}
 
 -- nothing is in progress at such a stage
@@ -173,7 +173,7 @@ hand_to stage.Resting false hand i = i
 hand_to stage.Rested true hand i = i
 hand_to stage.Rested false hand i = i
 
-pub offers_none : (st : Stage) (b : ℕ) (g : Frame) (o : List DriverDone) → is_calm st ≡ true → OfferIs st b g o
+pub offers_none : (st : Stage) (b : ℕ → ℕ) (g : Frame) (o : List DriverDone) → is_calm st ≡ true → OfferIs st b g o
 offers_none (stage.Offering n h) b g o c = absurd (cc)
 offers_none stage.Taking b g o c = tt
 offers_none (stage.Collecting n) b g o c = tt
@@ -189,11 +189,11 @@ offers_none stage.Rested b g o c = tt
 
 -- ---- what it holds, whatever comes next
 
-pub record Free {E D : Type 0} (e : DeviceModel E) (d : DriverModel D) (z : Start) (r : State E D) (w : DeviceView) (v : DriverView)
+pub record Free {E D : Type 0} (e : DeviceModel E) (d : DriverModel D) (z : Course) (r : State E D) (w : DeviceView) (v : DriverView)
     : Type 0 where
   pub serves : e.stands r.guest w
   pub drives : d.stands r.shadow v
-  pub paired : ArePaired z.map w.frame v.frame
+  pub paired : Pairs z.way w.frame v.frame
   pub awake : e.resting r.guest ≡ false
   pub hand : List (List Piece)
   pub tied : IsTied z r.table hand [] w.done v.frame v.done
@@ -201,7 +201,7 @@ pub record Free {E D : Type 0} (e : DeviceModel E) (d : DriverModel D) (z : Star
   pub guest_idle : e.begun r.guest ≡ DeviceOp.idle
   pub shadow_idle : d.begun r.shadow ≡ DriverOp.idle
 
-module _ {E D : Type 0} (e : DeviceModel E) (d : DriverModel D) (law : IsLawfulDevice e) (ldr : IsLawfulDriver d) (z : Start)
+module _ {E D : Type 0} (e : DeviceModel E) (d : DriverModel D) (law : IsLawfulDevice e) (ldr : IsLawfulDriver d) (z : Course)
     (r : State E D) (w : DeviceView) (v : DriverView) where
   -- it may stand at the stage
   pub settled : (st : Stage) → is_calm st ≡ true → Free e d z r w v → EndsIs st r.winding r.target w.done v.done
@@ -222,7 +222,7 @@ module _ {E D : Type 0} (e : DeviceModel E) (d : DriverModel D) (law : IsLawfulD
     takes = subst (λ o. TakesFrom o f.hand) (sym f.guest_idle) tt;
     offers = subst (λ o. OffersHand o f.hand) (sym f.shadow_idle) tt;
     in_hand = hand_to st r.winding f.hand f.few;
-    offer = offers_none st (since z) v.frame v.done calm;
+    offer = offers_none st (guests z) v.frame v.done calm;
     to_give = subst (λ o. BackIs o []) (sym f.guest_idle) refl;
     ends = ends;
     guest_armed = subst (λ o. GuestArmed st o w.doing w.armed) (sym f.guest_idle) ga;
@@ -289,7 +289,7 @@ winding_small false false false g s = omega arith
 winding_small false false true g s = omega arith
 
 -- in a wind-up it owes no more than at the stage in whose place it goes on
-module _ {E D : Type 0} (e : DeviceModel E) (d : DriverModel D) (law : IsLawfulDevice e) (ldr : IsLawfulDriver d) (z : Start)
+module _ {E D : Type 0} (e : DeviceModel E) (d : DriverModel D) (law : IsLawfulDevice e) (ldr : IsLawfulDriver d) (z : Course)
     (r : State E D) (w : DeviceView) (v : DriverView) (f : Free e d z r w v) (finished : Bool) where
   abbrev pub next_owes : (g s : Bool) → ℕ
   next_owes g s = idle_owes true (roused (e.armed r.guest) (d.armed r.shadow) true finished) g s
@@ -356,7 +356,7 @@ roused_takes false false true true w is = cc
 
 -- ---- a wind-up between two operations
 
-module _ {E D : Type 0} (e : DeviceModel E) (d : DriverModel D) (law : IsLawfulDevice e) (ldr : IsLawfulDriver d) (z : Start)
+module _ {E D : Type 0} (e : DeviceModel E) (d : DriverModel D) (law : IsLawfulDevice e) (ldr : IsLawfulDriver d) (z : Course)
     (r : State E D) (w : DeviceView) (v : DriverView) (st : Stage) where
   pub turns : Stands e d z r w v → r.winding ≡ true → is_open r.stage ≡ true → e.begun r.guest ≡ DeviceOp.idle
       → d.begun r.shadow ≡ DriverOp.idle → IsRoused e d r w v st → Stays e d z r (at_stage r st) w v

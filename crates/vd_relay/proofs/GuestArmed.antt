@@ -13,7 +13,7 @@ use Rattle.vd_relay.specs.declared.stage.Stage.TheVariants as stage
 use Rattle.vd_relay.specs.declared.state.State.{State}
 use Rattle.vd_relay.specs.Pace.{guest_owes}
 use Rattle.vd_relay.specs.Stages.{GuestIs, BackIs, IsSome, GuestArms}
-use Rattle.vd_relay.specs.Tie.{Start}
+use Rattle.vd_relay.specs.Tie.{Course}
 use Rattle.vd_relay.specs.Relay.{Stands, GuestTurn}
 use Rattle.vd_relay.proofs.Calm.{at_stage, settled, owes_idle}
 use Rattle.vd_relay.proofs.Ops.{at_guest_arm}
@@ -22,7 +22,7 @@ use Rattle.vd_relay.proofs.GuestTurns.{bag_same, made_at, next_at, not_woken, to
 use Rattle.vd_relay.proofs.GuestFree.{freed_at}
 
 module _ {P E D : Type 0} (port : PortModel P) (e : DeviceModel E) (d : DriverModel D) (law : IsLawfulDevice e) (ldr : IsLawfulDriver d)
-    (z : Start) (p q : P) (r : State E D) (w : DeviceView) (v : DriverView) (b : E) where
+    (z : Course) (p q : P) (r : State E D) (w : DeviceView) (v : DriverView) (b : E) where
   armed_at : (s : IsDeviceStep port e p q w r.guest b act.Armed) → GuestArms DeviceOp.arm w.doing w.armed
       → IsSome (e.side.after w s.op s.access s.got).armed
   armed_at s a =

@@ -17,7 +17,7 @@ use Rattle.vd_relay.specs.declared.stage.Stage.TheVariants as stage
 use Rattle.vd_relay.specs.declared.state.State.{State}
 use Rattle.vd_relay.specs.Pace.{guest_owes}
 use Rattle.vd_relay.specs.Stages.{BackIs, GuestShown}
-use Rattle.vd_relay.specs.Tie.{Start}
+use Rattle.vd_relay.specs.Tie.{Course}
 use Rattle.vd_relay.specs.Relay.{Stands, GuestTurn, IsRoused}
 use Rattle.vd_relay.proofs.Calm.{at_stage, stands_roused, roused_most}
 use Rattle.vd_relay.proofs.GuestTurns.{next_at, with_guest}
@@ -33,7 +33,7 @@ most_at true n h = h
 most_at false n h = omega (arith, h)
 
 module _ {P E D : Type 0} (port : PortModel P) (e : DeviceModel E) (d : DriverModel D) (law : IsLawfulDevice e) (ldr : IsLawfulDriver d)
-    (z : Start) (p q : P) (r : State E D) (w : DeviceView) (v : DriverView) (b : E) where
+    (z : Course) (p q : P) (r : State E D) (w : DeviceView) (v : DriverView) (b : E) where
   -- an arming that ends with Awake was shown a chain
   shown_at : (s : IsDeviceStep port e p q w r.guest b act.Awake) → s.op ≡ op.Arm → GuestShown DeviceOp.arm w.doing w.shown (e.left r.guest)
       → (e.side.after w s.op s.access s.got).shown ≡ true

@@ -17,7 +17,7 @@ use Rattle.vd_relay.specs.declared.stage.Stage.TheVariants as stage
 use Rattle.vd_relay.specs.declared.state.State.{State}
 use Rattle.vd_relay.specs.Pace.{guest_owes, idle_owes, take_owes}
 use Rattle.vd_relay.specs.Stages.{roused, BackIs}
-use Rattle.vd_relay.specs.Tie.{Start}
+use Rattle.vd_relay.specs.Tie.{Course}
 use Rattle.vd_relay.specs.Relay.{Stands, GuestTurn, IsRoused}
 use Rattle.vd_relay.proofs.Calm.{at_stage, stands_roused}
 use Rattle.vd_relay.proofs.GuestTurns.{next_at, with_guest}
@@ -41,7 +41,7 @@ disarmed_small false false true false g g' s a f = omega arith
 disarmed_small false false true true g g' s a f = omega arith
 
 module _ {P E D : Type 0} (port : PortModel P) (e : DeviceModel E) (d : DriverModel D) (law : IsLawfulDevice e) (ldr : IsLawfulDriver d)
-    (z : Start) (p q : P) (r : State E D) (w : DeviceView) (v : DriverView) (b : E) where
+    (z : Course) (p q : P) (r : State E D) (w : DeviceView) (v : DriverView) (b : E) where
   -- what was shown stays shown
   still_shown : (s : IsDeviceStep port e p q w r.guest b act.Awake) → w.shown ≡ true → (e.side.after w s.op s.access s.got).shown ≡ true
   still_shown s is = law.stays.shown w s.op s.access s.got s.was_next (subst (λ y. DeviceGoes y) s.is_answer tt) (inl is)

@@ -12,14 +12,14 @@ use Rattle.vd_layout.specs.Device.{DeviceModel, IsLawfulDevice, IsDeviceStep}
 use Rattle.vd_relay.specs.declared.stage.Stage.{Stage}
 use Rattle.vd_relay.specs.declared.state.State.{State}
 use Rattle.vd_relay.specs.Stages.{is_shadow}
-use Rattle.vd_relay.specs.Tie.{Start, IsTied}
+use Rattle.vd_relay.specs.Tie.{Course, IsTied}
 use Rattle.vd_relay.specs.Relay.{Stands}
 use Rattle.vd_relay.proofs.Calm.{Free, at_stage, hand_at, done_calm, not_offering, is_calm}
 use Rattle.vd_relay.proofs.Ops.{shadow_idle}
 use Rattle.vd_relay.proofs.GuestTurns.{framed_at, with_guest}
 
 module _ {P E D : Type 0} (port : PortModel P) (e : DeviceModel E) (d : DriverModel D) (law : IsLawfulDevice e) (ldr : IsLawfulDriver d)
-    (z : Start) (p q : P) (r : State E D) (w : DeviceView) (v : DriverView) (b : E) where
+    (z : Course) (p q : P) (r : State E D) (w : DeviceView) (v : DriverView) (b : E) where
   pub shadow_free : (st : Stage) → is_shadow st ≡ false → (h : Stands e d z (at_stage r st) w v) → d.begun r.shadow ≡ DriverOp.idle
   shadow_free st side h = shadow_idle st (d.begun r.shadow) side h.shadow
 

@@ -22,7 +22,7 @@ use Rattle.vd_relay.specs.declared.stage.Stage.TheVariants as stage
 use Rattle.vd_relay.specs.declared.state.State.{State}
 use Rattle.vd_relay.specs.Pace.{guest_owes, take_owes}
 use Rattle.vd_relay.specs.Stages.{GuestIs, TakesFrom, BackIs, GuestShown}
-use Rattle.vd_relay.specs.Tie.{Start, IsTied}
+use Rattle.vd_relay.specs.Tie.{Course, IsTied}
 use Rattle.vd_relay.specs.Relay.{Stands, GuestTurn}
 use Rattle.vd_relay.proofs.Ties.{tied_given}
 use Rattle.vd_relay.proofs.Calm.{at_stage}
@@ -53,7 +53,7 @@ published_takes o hand (inr i) = subst (λ x. (GuestIs stage.Taking x) × (Takes
     signal_few false n = omega arith
 
 module _ {P E D : Type 0} (port : PortModel P) (e : DeviceModel E) (d : DriverModel D) (law : IsLawfulDevice e) (ldr : IsLawfulDriver d)
-    (z : Start) (p q : P) (r : State E D) (w : DeviceView) (v : DriverView) (b : E) where
+    (z : Course) (p q : P) (r : State E D) (w : DeviceView) (v : DriverView) (b : E) where
   gives_now : (k : ℕ) → (h : Stands e d z (at_stage r stage.Giving) w v) → IsDeviceStep port e p q w r.guest b (act.Given k)
       → GuestTurn port e d z p q (at_stage r stage.Giving) (next_at r b stage.Taking) w v Handled
   gives_now k h s =

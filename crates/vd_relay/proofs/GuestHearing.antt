@@ -16,7 +16,7 @@ use Rattle.vd_relay.specs.declared.stage.Stage.TheVariants as stage
 use Rattle.vd_relay.specs.declared.state.State.{State}
 use Rattle.vd_relay.specs.Pace.{guest_owes, guest_hears}
 use Rattle.vd_relay.specs.Stages.{heard_next, GuestIs, BackIs, GuestHears, IsSome}
-use Rattle.vd_relay.specs.Tie.{Start}
+use Rattle.vd_relay.specs.Tie.{Course}
 use Rattle.vd_relay.specs.Relay.{Stands, GuestTurn, IsRoused}
 use Rattle.vd_relay.proofs.Calm.{at_stage, settled, owes_idle, stands_roused, hear_most}
 use Rattle.vd_relay.proofs.Ops.{at_guest_hear}
@@ -43,7 +43,7 @@ hears_some true now.Resting = omega arith
 hears_some false now.Resting = omega arith
 
 module _ {P E D : Type 0} (port : PortModel P) (e : DeviceModel E) (d : DriverModel D) (law : IsLawfulDevice e) (ldr : IsLawfulDriver d)
-    (z : Start) (p q : P) (r : State E D) (w : DeviceView) (v : DriverView) (b : E) where
+    (z : Course) (p q : P) (r : State E D) (w : DeviceView) (v : DriverView) (b : E) where
   pub hearing_woke : (st' : Stage) → e.begun r.guest ≡ DeviceOp.hear → (h : Stands e d z (at_stage r stage.HearingGuest) w v)
       → (s : IsDeviceStep port e p q w r.guest b act.Awake)
       → IsRoused e d (with_guest r b) (e.side.after w s.op s.access s.got) v st'

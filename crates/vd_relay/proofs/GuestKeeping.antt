@@ -1,7 +1,6 @@
 -- A take of the guest's end in the wind-up: the chain stays in hand.
 use Rattle.std.proofs.Common.{◌≡◌, ℕ, ◌≤◌, Bool, true, false, List, [], ◌∷◌, if◌then◌else◌, refl, sym, ◌∙◌, ap, subst, arith, inl}
 use Rattle.vd_model.specs.declared.chain.Piece.{Piece}
-use Rattle.vd_model.specs.Moved.{moved}
 use Rattle.vd_words.specs.declared.access.Op.TheVariants as op
 use Rattle.vd_words.specs.Model.{PortModel}
 use Rattle.vd_ring.specs.declared.act.DeviceAct.TheVariants as act
@@ -19,8 +18,9 @@ use Rattle.vd_relay.specs.declared.stage.Stage.TheVariants as stage
 use Rattle.vd_relay.specs.declared.state.State.{State}
 use Rattle.vd_relay.specs.Pace.{guest_owes}
 use Rattle.vd_relay.specs.Stages.{GuestIs, TakesFrom, OffersHand, BackIs, GuestShown}
-use Rattle.vd_relay.specs.Tie.{Start}
+use Rattle.vd_relay.specs.Tie.{Course}
 use Rattle.vd_relay.specs.Relay.{Stands, GuestTurn}
+use Rattle.vd_relay.proofs.Ways.{stand_in, stands_in}
 use Rattle.vd_relay.proofs.Ties.{tied_taken}
 use Rattle.vd_relay.proofs.Calm.{FewInHand, at_stage, hand_to}
 use Rattle.vd_relay.proofs.GuestGoing.{take_most}
@@ -30,7 +30,7 @@ use Rattle.vd_relay.proofs.GuestFree.{shadow_free}
 use Rattle.vd_relay.proofs.GuestChains.{takes_at, tied_at}
 
 module _ {P E D : Type 0} (port : PortModel P) (e : DeviceModel E) (d : DriverModel D) (law : IsLawfulDevice e) (ldr : IsLawfulDriver d)
-    (z : Start) (p q : P) (r : State E D) (w : DeviceView) (v : DriverView) (b : E) where
+    (z : Course) (p q : P) (r : State E D) (w : DeviceView) (v : DriverView) (b : E) where
   -- in the wind-up it stays in hand
   kept_now : (k : ℕ) (x : List Piece) → (h : Stands e d z (at_stage r stage.Taking) w v)
       → IsDeviceStep port e p q w r.guest b (act.Taken k x)
@@ -41,7 +41,7 @@ module _ {P E D : Type 0} (port : PortModel P) (e : DeviceModel E) (d : DriverMo
       let tied = tied_at port e d law ldr z p q r w v b k x h s in
       let of : s.op ≡ op.Take = subst (λ o. IsDeviceOp o s.op) s.says.1 s.of_it in
       let done : w'.done ≡ Take x hd ∷ w.done = s.says.4 in
-      let one : FewInHand true (moved z.map x ∷ []) = omega arith in
+      let one : FewInHand true (stand_in z.way x ∷ []) = omega arith in
       made_at port e d law ldr z p q r w v b (act.Taken k x) s stage.Taking (next_at r b stage.Taking) Handled (record {
         serves = s.now_stands;
         drives = h.drives;
@@ -49,15 +49,15 @@ module _ {P E D : Type 0} (port : PortModel P) (e : DeviceModel E) (d : DriverMo
         rests = s.rests;
         acts = Take x hd ∷ h.acts;
         before = done ∙ ap (λ (y : List DeviceDone). Take x hd ∷ y) h.before;
-        hand = moved z.map x ∷ [];
+        hand = stand_in z.way x ∷ [];
         back = [];
-        tied = tied_taken z r.table h.acts v.frame v.done x hd tied;
+        tied = tied_taken z r.table h.acts v.frame v.done x (stand_in z.way x) hd (stands_in z.way x) tied;
         guest = subst (λ o. GuestIs stage.Taking o) (sym s.says.2) tt;
         shadow = h.shadow;
-        takes = subst (λ o. TakesFrom o (moved z.map x ∷ [])) (sym s.says.2) tt;
-        offers = subst (λ o. OffersHand o (moved z.map x ∷ [])) (sym (shadow_free port e d law ldr z p q r w v b stage.Taking refl h)) tt;
-        in_hand = hand_to stage.Taking r.winding (moved z.map x ∷ [])
-            (subst (λ (y : Bool). FewInHand y (moved z.map x ∷ [])) (sym winding) one);
+        takes = subst (λ o. TakesFrom o (stand_in z.way x ∷ [])) (sym s.says.2) tt;
+        offers = subst (λ o. OffersHand o (stand_in z.way x ∷ [])) (sym (shadow_free port e d law ldr z p q r w v b stage.Taking refl h)) tt;
+        in_hand = hand_to stage.Taking r.winding (stand_in z.way x ∷ [])
+            (subst (λ (y : Bool). FewInHand y (stand_in z.way x ∷ [])) (sym winding) one);
         offer = tt;
         to_give = subst (λ o. BackIs o []) (sym s.says.2) refl;
         ends = tt;

@@ -16,7 +16,7 @@ use Rattle.vd_relay.specs.declared.stage.Stage.{Stage}
 use Rattle.vd_relay.specs.declared.stage.Stage.TheVariants as stage
 use Rattle.vd_relay.specs.declared.state.State.{State}
 use Rattle.vd_relay.specs.Stages.{is_rested, is_shadow, BeforeRest, GuestIs, GuestArmed, GuestHears}
-use Rattle.vd_relay.specs.Tie.{Start}
+use Rattle.vd_relay.specs.Tie.{Course}
 use Rattle.vd_relay.specs.Relay.{Stands, GuestTurn}
 use Rattle.vd_relay.proofs.GuestGoing.{Goes, went}
 use Rattle.vd_relay.proofs.Turns.{worked_only}
@@ -25,7 +25,7 @@ use Rattle.vd_relay.proofs.Hearings.{guest_stage, guest_heard, guest_goes_on}
 use Rattle.vd_relay.proofs.GuestTurns.{bag_same, framed_at, made_at, not_woken, owes_here, with_guest}
 
 module _ {P E D : Type 0} (port : PortModel P) (e : DeviceModel E) (d : DriverModel D) (law : IsLawfulDevice e) (ldr : IsLawfulDriver d)
-    (z : Start) (p q : P) (r : State E D) (w : DeviceView) (v : DriverView) (b : E) where
+    (z : Course) (p q : P) (r : State E D) (w : DeviceView) (v : DriverView) (b : E) where
   goes_of : (s : IsDeviceStep port e p q w r.guest b act.Moved) → Goes s.op w (e.side.after w s.op s.access s.got)
   goes_of s =
       let is = s.is_answer in

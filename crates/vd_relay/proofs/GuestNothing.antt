@@ -14,7 +14,7 @@ use Rattle.vd_relay.specs.declared.stage.Stage.TheVariants as stage
 use Rattle.vd_relay.specs.declared.state.State.{State}
 use Rattle.vd_relay.specs.Pace.{guest_owes, taking_owes, collect_owes}
 use Rattle.vd_relay.specs.Stages.{GuestIs, BackIs}
-use Rattle.vd_relay.specs.Tie.{Start}
+use Rattle.vd_relay.specs.Tie.{Course}
 use Rattle.vd_relay.specs.Relay.{Stands, GuestTurn}
 use Rattle.vd_relay.proofs.Calm.{at_stage, settled, owes_idle}
 use Rattle.vd_relay.proofs.Ops.{at_take}
@@ -28,7 +28,7 @@ none_paid false true left = omega arith
 none_paid false false left = omega arith
 
 module _ {P E D : Type 0} (port : PortModel P) (e : DeviceModel E) (d : DriverModel D) (law : IsLawfulDevice e) (ldr : IsLawfulDriver d)
-    (z : Start) (p q : P) (r : State E D) (w : DeviceView) (v : DriverView) (b : E) where
+    (z : Course) (p q : P) (r : State E D) (w : DeviceView) (v : DriverView) (b : E) where
   -- it was not shown a chain before
   unshown : (s : IsDeviceStep port e p q w r.guest b act.Nothing) → (x : Bool) → w.shown ≡ x → IsOwn port e.side p w → x ≡ false
   unshown s false is own = refl

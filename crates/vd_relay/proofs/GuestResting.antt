@@ -17,7 +17,7 @@ use Rattle.vd_relay.specs.declared.stage.Stage.TheVariants as stage
 use Rattle.vd_relay.specs.declared.state.State.{State}
 use Rattle.vd_relay.specs.Pace.{guest_owes}
 use Rattle.vd_relay.specs.Stages.{GuestIs, ShadowIs, TakesFrom, BackIs, GuestShown}
-use Rattle.vd_relay.specs.Tie.{Start, IsTied}
+use Rattle.vd_relay.specs.Tie.{Course, IsTied}
 use Rattle.vd_relay.specs.Relay.{Stands, GuestTurn}
 use Rattle.vd_relay.proofs.Calm.{at_stage}
 use Rattle.vd_relay.proofs.Ops.{at_rest}
@@ -26,7 +26,7 @@ use Rattle.vd_relay.proofs.GuestTurns.{framed_at, made_at, next_at, not_woken, t
 use Rattle.vd_relay.proofs.GuestFree.{shadow_free}
 
 module _ {P E D : Type 0} (port : PortModel P) (e : DeviceModel E) (d : DriverModel D) (law : IsLawfulDevice e) (ldr : IsLawfulDriver d)
-    (z : Start) (p q : P) (r : State E D) (w : DeviceView) (v : DriverView) (b : E) where
+    (z : Course) (p q : P) (r : State E D) (w : DeviceView) (v : DriverView) (b : E) where
   rests_now : (h : Stands e d z (at_stage r stage.Resting) w v) → IsDeviceStep port e p q w r.guest b act.Rested
       → GuestTurn port e d z p q (at_stage r stage.Resting) (next_at r b stage.Rested) w v Worked
   rests_now h s =

@@ -21,10 +21,10 @@ use Rattle.vd_relay.specs.declared.counts.Turn.TheVariants.{Slept, Again}
 use Rattle.vd_relay.specs.declared.stage.Stage.{Stage}
 use Rattle.vd_relay.specs.declared.stage.Stage.TheVariants as stage
 use Rattle.vd_relay.specs.declared.state.State.{State}
-use Rattle.vd_relay.specs.Pairing.{ArePaired}
+use Rattle.vd_relay.specs.Ways.{Pairs}
 use Rattle.vd_relay.specs.Pace.{counted, handled, woke, guest_handled, guest_owes, shadow_owes}
 use Rattle.vd_relay.specs.Stages.{is_rested, is_shadow}
-use Rattle.vd_relay.specs.Tie.{Start, since}
+use Rattle.vd_relay.specs.Tie.{Course, returned}
 use Rattle.vd_relay.specs.Relay.{Stands, GuestTurn, GivesOne, HearsNone, IsGlance, owes}
 use Rattle.vd_relay.proofs.Calm.{at_stage}
 use Rattle.vd_relay.proofs.Growth.{guest_grown}
@@ -66,12 +66,61 @@ still_hears words f o o' X act.Armed a a' says moves is = absurd (cc (says.1, is
 still_hears words f o o' X act.Awake a a' says moves is = absurd (cc (says.1, is))
 still_hears words f o o' X act.Asleep a a' says moves is = absurd (cc (says.1, is))
 
+-- a turn after which the guest's ring has this view
+abbrev pub TurnsTo : {P E D : Type 0} → PortModel P → DeviceModel E → DriverModel D → Course → P → P → State E D → State E D → DeviceView
+    → DriverView → Turn → DeviceView → Type 0
+TurnsTo port e d z p q r r' w v t w' = (turn : GuestTurn port e d z p q r r' w v t)
+    × (e.side.after w turn.op turn.access turn.got ≡ w')
+
 module _ {P E D : Type 0} (port : PortModel P) (e : DeviceModel E) (d : DriverModel D) (law : IsLawfulDevice e) (ldr : IsLawfulDriver d)
-    (z : Start) (p q : P) (r : State E D) (w : DeviceView) (v : DriverView) (b : E) where
-  -- the turn, from what the answer says
+    (z : Course) (p q : P) (r : State E D) (w : DeviceView) (v : DriverView) (b : E) where
+  -- the turn to the view after the access, from what the answer says
+  pub made_to : (answer : DeviceAct) (s : IsDeviceStep port e p q w r.guest b answer) (st : Stage) (r' : State E D) (t : Turn)
+      → Stands e d z r' (e.side.after w s.op s.access s.got) v
+      → GivesOne (returned z v.done) w.done (e.side.after w s.op s.access s.got).done
+      → handled t ≡ guest_handled answer → woke t ≡ device_woken s.op answer → (t ≡ Slept) ↔ (answer ≡ act.Asleep) → t ≢ Again
+      → (t ≡ Slept → is_rested r'.stage ≡ false)
+      → owes e d r' (e.side.after w s.op s.access s.got) v + counted t ≤ owes e d (at_stage r st) w v + 64 * (handled t + woke t)
+      → r'.guest ≡ b → (answer ≡ act.Moved → e.begun b ≡ DeviceOp.hear → (e.side.after w s.op s.access s.got).doing ≡ now.Idle → ⊥)
+      → (t ≡ Slept → IsGlance stage.HearingGuest stage.HearingShadow e d (at_stage r st) r')
+      → (t ≢ Slept → HearsNone e d r')
+      → TurnsTo port e d z p q (at_stage r st) r' w v t (e.side.after w s.op s.access s.got)
+  made_to answer s st r' t stands bag handles wakes sleeps once live paid same moves look leaves = (
+    record {
+      op = s.op;
+      access = s.access;
+      got = s.got;
+      was_next = s.was_next;
+      moved = s.moved;
+      stands = stands;
+      bag = bag;
+      handled = handles ∙ ap guest_handled s.is_answer;
+      woke = wakes ∙ ap (device_woken s.op) s.is_answer;
+      slept = subst (λ x. (t ≡ Slept) ↔ (x ≡ act.Asleep)) s.is_answer sleeps;
+      once = once;
+      live = live;
+      grown =
+          let rests : is_rested_act answer ≡ is_rested r'.stage = sym s.rests ∙ ap e.resting (sym same) ∙ stands.rests in
+          subst (λ x. length (takes w.done) + length (gives w.done) + guest_handled x
+          ≤ (if is_rested r'.stage then length (takes w.done) else length (takes (e.side.after w s.op s.access s.got).done))
+          + length (gives (e.side.after w s.op s.access s.got).done)) s.is_answer
+          (subst (λ (x : Bool). length (takes w.done) + length (gives w.done) + guest_handled answer
+          ≤ (if x then length (takes w.done) else length (takes (e.side.after w s.op s.access s.got).done))
+          + length (gives (e.side.after w s.op s.access s.got).done)) rests
+          (guest_grown w.done (e.side.after w s.op s.access s.got).done e.words w.frame answer (e.begun r.guest) (e.begun b) s.says));
+      hears = λ is.
+          still_hears e.words w.frame w.done (e.side.after w s.op s.access s.got).done _ answer (e.begun r.guest) (e.begun b) s.says moves
+          (ap e.begun (sym same) ∙ is);
+      look = look;
+      leaves = leaves;
+      paid = paid;
+    },
+    refl,
+  )
+
   pub made_at : (answer : DeviceAct) (s : IsDeviceStep port e p q w r.guest b answer) (st : Stage) (r' : State E D) (t : Turn)
       → Stands e d z r' (e.side.after w s.op s.access s.got) v
-      → GivesOne (since z) w.done v.done (e.side.after w s.op s.access s.got).done
+      → GivesOne (returned z v.done) w.done (e.side.after w s.op s.access s.got).done
       → handled t ≡ guest_handled answer → woke t ≡ device_woken s.op answer → (t ≡ Slept) ↔ (answer ≡ act.Asleep) → t ≢ Again
       → (t ≡ Slept → is_rested r'.stage ≡ false)
       → owes e d r' (e.side.after w s.op s.access s.got) v + counted t ≤ owes e d (at_stage r st) w v + 64 * (handled t + woke t)
@@ -79,42 +128,15 @@ module _ {P E D : Type 0} (port : PortModel P) (e : DeviceModel E) (d : DriverMo
       → (t ≡ Slept → IsGlance stage.HearingGuest stage.HearingShadow e d (at_stage r st) r')
       → (t ≢ Slept → HearsNone e d r')
       → GuestTurn port e d z p q (at_stage r st) r' w v t
-  made_at answer s st r' t stands bag handles wakes sleeps once live paid same moves look leaves = record {
-    op = s.op;
-    access = s.access;
-    got = s.got;
-    was_next = s.was_next;
-    moved = s.moved;
-    stands = stands;
-    bag = bag;
-    handled = handles ∙ ap guest_handled s.is_answer;
-    woke = wakes ∙ ap (device_woken s.op) s.is_answer;
-    slept = subst (λ x. (t ≡ Slept) ↔ (x ≡ act.Asleep)) s.is_answer sleeps;
-    once = once;
-    live = live;
-    grown =
-        let rests : is_rested_act answer ≡ is_rested r'.stage = sym s.rests ∙ ap e.resting (sym same) ∙ stands.rests in
-        subst (λ x. length (takes w.done) + length (gives w.done) + guest_handled x
-        ≤ (if is_rested r'.stage then length (takes w.done) else length (takes (e.side.after w s.op s.access s.got).done))
-        + length (gives (e.side.after w s.op s.access s.got).done)) s.is_answer
-        (subst (λ (x : Bool). length (takes w.done) + length (gives w.done) + guest_handled answer
-        ≤ (if x then length (takes w.done) else length (takes (e.side.after w s.op s.access s.got).done))
-        + length (gives (e.side.after w s.op s.access s.got).done)) rests
-        (guest_grown w.done (e.side.after w s.op s.access s.got).done e.words w.frame answer (e.begun r.guest) (e.begun b) s.says));
-    hears = λ is.
-        still_hears e.words w.frame w.done (e.side.after w s.op s.access s.got).done _ answer (e.begun r.guest) (e.begun b) s.says moves
-        (ap e.begun (sym same) ∙ is);
-    look = look;
-    leaves = leaves;
-    paid = paid;
-  }
+  made_at answer s st r' t stands bag handles wakes sleeps once live paid same moves look leaves =
+      (made_to answer s st r' t stands bag handles wakes sleeps once live paid same moves look leaves).0
 
-  pub framed_at : (answer : DeviceAct) (s : IsDeviceStep port e p q w r.guest b answer) → ArePaired z.map w.frame v.frame
-      → ArePaired z.map (e.side.after w s.op s.access s.got).frame v.frame
-  framed_at answer s paired = subst (λ (f : Frame). ArePaired z.map f v.frame) (sym (law.framed w s.op s.access s.got)) paired
+  pub framed_at : (answer : DeviceAct) (s : IsDeviceStep port e p q w r.guest b answer) → Pairs z.way w.frame v.frame
+      → Pairs z.way (e.side.after w s.op s.access s.got).frame v.frame
+  framed_at answer s paired = subst (λ (f : Frame). Pairs z.way f v.frame) (sym (law.framed w s.op s.access s.got)) paired
 
   pub bag_same : (answer : DeviceAct) (s : IsDeviceStep port e p q w r.guest b answer) → (e.side.after w s.op s.access s.got).done ≡ w.done
-      → GivesOne (since z) w.done v.done (e.side.after w s.op s.access s.got).done
+      → GivesOne (returned z v.done) w.done (e.side.after w s.op s.access s.got).done
   bag_same answer s done = inl (ap gives done)
 
   pub owes_here : (r' : State E D) (u : DeviceView) → is_shadow r'.stage ≡ false
@@ -126,4 +148,9 @@ module _ {P E D : Type 0} (port : PortModel P) (e : DeviceModel E) (d : DriverMo
   pub to_stage : (st : Stage) (r' : State E D) (t : Turn) → r.stage ≡ st → (Stands e d z (at_stage r st) w v
       → GuestTurn port e d z p q (at_stage r st) r' w v t) → Stands e d z r w v → GuestTurn port e d z p q r r' w v t
   to_stage st r' t is f h = subst (λ (x : Stage). GuestTurn port e d z p q (at_stage r x) r' w v t) (sym is)
+      (f (subst (λ (x : Stage). Stands e d z (at_stage r x) w v) is h))
+
+  pub to_stage_to : (st : Stage) (r' : State E D) (t : Turn) (w' : DeviceView) → r.stage ≡ st → (Stands e d z (at_stage r st) w v
+      → TurnsTo port e d z p q (at_stage r st) r' w v t w') → Stands e d z r w v → TurnsTo port e d z p q r r' w v t w'
+  to_stage_to st r' t w' is f h = subst (λ (x : Stage). TurnsTo port e d z p q (at_stage r x) r' w v t w') (sym is)
       (f (subst (λ (x : Stage). Stands e d z (at_stage r x) w v) is h))

@@ -13,14 +13,14 @@ use Rattle.vd_relay.specs.declared.stage.Stage.{Stage}
 use Rattle.vd_relay.specs.declared.state.State.{State}
 use Rattle.vd_relay.specs.Pace.{counted, handled, woke, waking, guest_owes, idle_owes}
 use Rattle.vd_relay.specs.Stages.{is_shadow, is_hearing, roused}
-use Rattle.vd_relay.specs.Tie.{Start}
+use Rattle.vd_relay.specs.Tie.{Course}
 use Rattle.vd_relay.specs.Relay.{Stands, GuestTurn}
 use Rattle.vd_relay.proofs.Calm.{Free, at_stage, owes_idle, roused_small, roused_most, roused_deaf, is_calm}
 use Rattle.vd_relay.proofs.GuestTurns.{bag_same, made_at, next_at, owes_here, with_guest}
 use Rattle.vd_relay.proofs.GuestFree.{freed_at}
 
 module _ {P E D : Type 0} (port : PortModel P) (e : DeviceModel E) (d : DriverModel D) (law : IsLawfulDevice e) (ldr : IsLawfulDriver d)
-    (z : Start) (p q : P) (r : State E D) (w : DeviceView) (v : DriverView) (b : E) where
+    (z : Course) (p q : P) (r : State E D) (w : DeviceView) (v : DriverView) (b : E) where
   pub awake_at : (st : Stage) → is_calm st ≡ true → is_shadow st ≡ false → (h : Stands e d z (at_stage r st) w v) → h.back ≡ []
       → (s : IsDeviceStep port e p q w r.guest b act.Awake) → Free e d z (with_guest r b) (e.side.after w s.op s.access s.got) v
   awake_at st calm side h back s = freed_at port e d law ldr z p q r w v b act.Awake s st calm side h back s.says.2 s.says.1 s.rests

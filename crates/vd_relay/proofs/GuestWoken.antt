@@ -13,7 +13,7 @@ use Rattle.vd_relay.specs.declared.stage.Stage.TheVariants as stage
 use Rattle.vd_relay.specs.declared.state.State.{State}
 use Rattle.vd_relay.specs.Pace.{waking}
 use Rattle.vd_relay.specs.Stages.{GuestIs}
-use Rattle.vd_relay.specs.Tie.{Start}
+use Rattle.vd_relay.specs.Tie.{Course}
 use Rattle.vd_relay.specs.Relay.{Stands, GuestTurn, IsRoused}
 use Rattle.vd_relay.proofs.Ops.{at_guest_arm, at_guest_hear, at_guest_disarm}
 use Rattle.vd_relay.proofs.GuestTurns.{next_at, to_stage, with_guest}
@@ -23,7 +23,7 @@ use Rattle.vd_relay.proofs.GuestHearing.{hearing_woke}
 use Rattle.vd_relay.proofs.GuestDisarming.{disarming_woke}
 
 module _ {P E D : Type 0} (port : PortModel P) (e : DeviceModel E) (d : DriverModel D) (law : IsLawfulDevice e) (ldr : IsLawfulDriver d)
-    (z : Start) (p q : P) (r : State E D) (w : DeviceView) (v : DriverView) (b : E) where
+    (z : Course) (p q : P) (r : State E D) (w : DeviceView) (v : DriverView) (b : E) where
   woken : (a : DeviceOp) (st' : Stage) → e.begun r.guest ≡ a → Stands e d z r w v
       → (s : IsDeviceStep port e p q w r.guest b act.Awake)
       → IsRoused e d (with_guest r b) (e.side.after w s.op s.access s.got) v st'

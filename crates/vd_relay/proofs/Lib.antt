@@ -1,5 +1,6 @@
 pub mod Translation
 pub mod Shifts
+pub mod Ways
 pub mod Ties
 pub mod Calm
 pub mod Ops
@@ -21,6 +22,7 @@ pub mod GuestResting
 pub mod GuestGiving
 pub mod GuestChains
 pub mod GuestTaking
+pub mod Offerings
 pub mod GuestKeeping
 pub mod ShadowGoing
 pub mod Origins

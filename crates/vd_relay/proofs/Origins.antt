@@ -1,5 +1,5 @@
 -- What the table answers for a chain's origin.
-use Rattle.std.proofs.Common.{◌≡◌, ℕ, ◌+◌, Option, Some, None, refl, sym, subst}
+use Rattle.std.proofs.Common.{◌≡◌, ℕ, Option, Some, None, refl, sym, subst}
 use Rattle.vd_table.specs.declared.Origin.{Origin}
 use Rattle.vd_table.specs.declared.Origin.TheVariants.{Guest}
 use Rattle.vd_relay.specs.Tie.{origin}
@@ -14,8 +14,8 @@ is_none (Some x) some is = cc
 pub same_origin : (x : Option Origin) (y y' : Origin) → x ≡ Some y → x ≡ Some y' → y ≡ y'
 same_origin x y y' p q = cc
 
-pub number_is : (n place b k : ℕ) → Guest n place ≡ origin b k → n ≡ b + k
-number_is n place b k is = cc
+pub number_is : (n place m : ℕ) → Guest n place ≡ origin m → n ≡ m
+number_is n place m is = cc
 
-pub no_replay : (x : Origin) (b k : ℕ) → x ≡ origin b k → ((n place : ℕ) → x ≡ Guest n place → ⊥) → ⊥
-no_replay x b k is other = other (b + k) 0 is
+pub no_replay : (x : Origin) (m : ℕ) → x ≡ origin m → ((n place : ℕ) → x ≡ Guest n place → ⊥) → ⊥
+no_replay x m is other = other m 0 is

@@ -16,7 +16,7 @@ use Rattle.vd_relay.specs.declared.stage.Stage.TheVariants as stage
 use Rattle.vd_relay.specs.declared.state.State.{State}
 use Rattle.vd_relay.specs.Pace.{repeating, idle_owes, collect_owes}
 use Rattle.vd_relay.specs.Stages.{roused, ShadowIs}
-use Rattle.vd_relay.specs.Tie.{Start}
+use Rattle.vd_relay.specs.Tie.{Course}
 use Rattle.vd_relay.specs.Relay.{Stands, ShadowTurn, IsRoused, IsFinished}
 use Rattle.vd_relay.proofs.Calm.{at_stage, owes_idle, stands_roused}
 use Rattle.vd_relay.proofs.Ops.{at_collect}
@@ -26,7 +26,7 @@ use Rattle.vd_relay.proofs.ShadowFree.{freed_at}
 use Rattle.vd_relay.proofs.ShadowNothing.{collects_of, look_owes}
 
 module _ {P E D : Type 0} (port : PortModel P) (e : DeviceModel E) (d : DriverModel D) (law : IsLawfulDevice e) (ldr : IsLawfulDriver d)
-    (z : Start) (p q : P) (r : State E D) (w : DeviceView) (v : DriverView) (b : D) where
+    (z : Course) (p q : P) (r : State E D) (w : DeviceView) (v : DriverView) (b : D) where
   finished_same : (s : IsDriverStep port d p q v r.shadow b act.Nothing)
       → IsFinished (with_shadow r b) w (d.side.after v s.op s.access s.got)
       ↔ IsFinished r w v

@@ -16,7 +16,7 @@ use Rattle.vd_relay.specs.declared.stage.Stage.TheVariants as stage
 use Rattle.vd_relay.specs.declared.state.State.{State}
 use Rattle.vd_relay.specs.Pace.{shadow_owes, hear_owes}
 use Rattle.vd_relay.specs.Stages.{ShadowIs, IsSome, ShadowArms}
-use Rattle.vd_relay.specs.Tie.{Start}
+use Rattle.vd_relay.specs.Tie.{Course}
 use Rattle.vd_relay.specs.Relay.{Stands, ShadowTurn, IsRoused}
 use Rattle.vd_relay.proofs.Calm.{at_stage, settled, owes_idle, stands_roused, roused_most}
 use Rattle.vd_relay.proofs.Ops.{at_shadow_arm}
@@ -26,7 +26,7 @@ use Rattle.vd_relay.proofs.ShadowFree.{freed_at}
 use Rattle.vd_relay.proofs.ShadowWakes.{roused_by, roused_off, roused_on}
 
 module _ {P E D : Type 0} (port : PortModel P) (e : DeviceModel E) (d : DriverModel D) (law : IsLawfulDevice e) (ldr : IsLawfulDriver d)
-    (z : Start) (p q : P) (r : State E D) (w : DeviceView) (v : DriverView) (b : D) where
+    (z : Course) (p q : P) (r : State E D) (w : DeviceView) (v : DriverView) (b : D) where
   arms_of : (st : Stage) (answer : DriverAct) → (s : IsDriverStep port d p q v r.shadow b answer) → d.begun r.shadow ≡ DriverOp.arm
       → s.op ≡ op.Arm
   arms_of st answer s is = subst (λ o. IsDriverOp o s.op) is s.of_it

@@ -17,7 +17,7 @@ use Rattle.vd_relay.specs.declared.stage.Stage.TheVariants as stage
 use Rattle.vd_relay.specs.declared.state.State.{State}
 use Rattle.vd_relay.specs.Pace.{shadow_owes}
 use Rattle.vd_relay.specs.Stages.{ShadowShown}
-use Rattle.vd_relay.specs.Tie.{Start}
+use Rattle.vd_relay.specs.Tie.{Course}
 use Rattle.vd_relay.specs.Relay.{Stands, ShadowTurn, IsRoused}
 use Rattle.vd_relay.proofs.Calm.{at_stage, stands_roused, roused_most}
 use Rattle.vd_relay.proofs.ShadowTurns.{next_at, with_shadow}
@@ -34,7 +34,7 @@ most_at true n m h some = omega arith
 most_at false n m h some = omega arith
 
 module _ {P E D : Type 0} (port : PortModel P) (e : DeviceModel E) (d : DriverModel D) (law : IsLawfulDevice e) (ldr : IsLawfulDriver d)
-    (z : Start) (p q : P) (r : State E D) (w : DeviceView) (v : DriverView) (b : D) where
+    (z : Course) (p q : P) (r : State E D) (w : DeviceView) (v : DriverView) (b : D) where
   shown_at : (s : IsDriverStep port d p q v r.shadow b act.Awake) → s.op ≡ op.Arm
       → ShadowShown DriverOp.arm v.doing v.shown (d.left r.shadow)
       → (d.side.after v s.op s.access s.got).shown ≡ true

@@ -1,5 +1,5 @@
 -- A collect of the shadow end: the give of the chain is begun.
-use Rattle.std.proofs.Common.{◌≡◌, ℕ, ◌+◌, ◌<◌, ◌≤◌, Bool, false, Some, None, List, [], ◌∷◌, length, slice_set, refl, sym, ◌∙◌, ap, subst, arith}
+use Rattle.std.proofs.Common.{◌≡◌, ℕ, ◌<◌, ◌≤◌, Bool, false, Some, None, List, [], ◌∷◌, length, slice_set, refl, sym, ◌∙◌, ap, subst, arith}
 use Rattle.vd_words.specs.declared.access.Op.TheVariants as op
 use Rattle.vd_words.specs.Model.{PortModel}
 use Rattle.vd_ring.specs.declared.act.DriverAct.TheVariants as act
@@ -21,8 +21,9 @@ use Rattle.vd_relay.specs.declared.stage.Stage.TheVariants as stage
 use Rattle.vd_relay.specs.declared.state.State.{State}
 use Rattle.vd_relay.specs.Pace.{guest_owes}
 use Rattle.vd_relay.specs.Stages.{GuestIs, ShadowIs, TakesFrom, OffersHand, BackIs, GuestShown, ShadowShown}
-use Rattle.vd_relay.specs.Tie.{Start, IsTied, since, origin}
+use Rattle.vd_relay.specs.Tie.{Course, IsTied, guests, origin}
 use Rattle.vd_relay.specs.Relay.{Stands, ShadowTurn}
+use Rattle.vd_relay.proofs.Ways.{alike}
 use Rattle.vd_relay.proofs.Ties.{tied_collected, head_stored, may_give}
 use Rattle.vd_relay.proofs.Calm.{at_stage}
 use Rattle.vd_relay.proofs.Ops.{at_collect, CollectsAt}
@@ -31,7 +32,7 @@ use Rattle.vd_relay.proofs.ShadowTurns.{framed_at, made_at, not_woken, once, tie
 use Rattle.vd_relay.proofs.ShadowFree.{none_back}
 
 module _ {P E D : Type 0} (port : PortModel P) (e : DeviceModel E) (d : DriverModel D) (law : IsLawfulDevice e) (ldr : IsLawfulDriver d)
-    (z : Start) (p q : P) (r : State E D) (w : DeviceView) (v : DriverView) (b : D) where
+    (z : Course) (p q : P) (r : State E D) (w : DeviceView) (v : DriverView) (b : D) where
   -- where a collected chain's origin is taken out and its give is begun
   abbrev pub giving : E → D → ℕ → State E D
   giving a' b' head = record {
@@ -56,12 +57,12 @@ module _ {P E D : Type 0} (port : PortModel P) (e : DeviceModel E) (d : DriverMo
         (none_back port e d law ldr z p q r w v b (stage.Collecting none) refl h) h.tied
 
     collected_now : (none : Bool) (number : ℕ) (a' : E) → (h : Stands e d z (at_stage r (stage.Collecting none)) w v)
-        → number ≡ since z + k → e.stands a' w → e.begun a' ≡ DeviceOp.give number l → e.resting a' ≡ false → e.left a' ≤ 5
+        → number ≡ guests z k → e.stands a' w → e.begun a' ≡ DeviceOp.give number l → e.resting a' ≡ false → e.left a' ≤ 5
         → ShadowTurn port e d z p q (at_stage r (stage.Collecting none)) (giving a' b m) w v Handled
     collected_now none number a' h is serves begun awake few =
         let v' : DriverView = d.side.after v s.op s.access s.got in
         let of : s.op ≡ op.Collect = subst (λ o. IsDriverOp o s.op) said_at.begun s.of_it in
-        let gives : e.begun a' ≡ DeviceOp.give (since z + k) l = begun ∙ ap (λ (y : ℕ). DeviceOp.give y l) is in
+        let gives : e.begun a' ≡ DeviceOp.give (guests z k) l = begun ∙ ap (λ (y : ℕ). DeviceOp.give y l) is in
         made_at port e d law ldr z p q r w v b (act.Collected k l m) s (stage.Collecting none) (giving a' b m) Handled (record {
           serves = serves;
           drives = s.now_stands;
@@ -70,11 +71,11 @@ module _ {P E D : Type 0} (port : PortModel P) (e : DeviceModel E) (d : DriverMo
           acts = h.acts;
           before = h.before;
           hand = h.hand;
-          back = entry (since z + k) l ∷ [];
+          back = entry (guests z k) l ∷ [];
           tied = tied_after port e d law ldr z p q r w v b (act.Collected k l m) s (slice_set r.table m None) h.hand
-              (entry (since z + k) l ∷ []) h.acts
+              (entry (guests z k) l ∷ []) h.acts
               (Collect (entry k l ∷ []) ∷ v.done) said_at.done
-              (subst (λ (y : ℕ). IsTied z (slice_set r.table y None) h.hand (entry (since z + k) l ∷ []) h.acts v.frame
+              (subst (λ (y : ℕ). IsTied z (slice_set r.table y None) h.hand (entry (guests z k) l ∷ []) h.acts v.frame
               (Collect (entry k l ∷ []) ∷ v.done)) (sym said_at.is_head)
               (tied_collected z r.table h.hand h.acts v.frame v.done k l (ldr.places r.shadow v h.drives) was_open (tied_here none h)));
           guest = subst (λ o. GuestIs stage.Giving o) (sym gives) tt;
@@ -83,7 +84,7 @@ module _ {P E D : Type 0} (port : PortModel P) (e : DeviceModel E) (d : DriverMo
           offers = subst (λ o. OffersHand o h.hand) (sym said_at.idle) tt;
           in_hand = h.in_hand;
           offer = tt;
-          to_give = subst (λ o. BackIs o (entry (since z + k) l ∷ [])) (sym gives) refl;
+          to_give = subst (λ o. BackIs o (entry (guests z k) l ∷ [])) (sym gives) refl;
           ends = tt;
           guest_armed = h.guest_armed;
           shadow_armed = ldr.stays_unarmed v s.op s.access s.got (λ y. cc (of, y)) h.shadow_armed;
@@ -104,26 +105,26 @@ module _ {P E D : Type 0} (port : PortModel P) (e : DeviceModel E) (d : DriverMo
 
   -- the table has the chain's number on the guest's ring
   pub stored_there : (k l m : ℕ) → Stands e d z r w v → IsDriverStep port d p q v r.shadow b (act.Collected k l m)
-      → row r.table m ≡ Some (origin (since z) k)
+      → row r.table m ≡ Some (origin (guests z k))
   stored_there k l m h s = ap (row r.table) (said_at k l m s).is_head ∙ h.tied.holds.stored k (was_open k l m s)
 
   pub stored_inside : (k l m : ℕ) → Stands e d z r w v → IsDriverStep port d p q v r.shadow b (act.Collected k l m) → m < length r.table
   stored_inside k l m h s = omega (
     arith,
     (said_at k l m s).is_head,
-    head_stored (since z) r.table v.frame v.done k l (ldr.places r.shadow v h.drives) (was_open k l m s) h.tied.holds,
+    head_stored (guests z) r.table v.frame v.done k l (ldr.places r.shadow v h.drives) (was_open k l m s) h.tied.holds,
   )
 
   pub may_give_it : (k l m : ℕ) → Stands e d z r w v → IsDriverStep port d p q v r.shadow b (act.Collected k l m)
-      → MayGive w.frame w.done (since z + k)
+      → MayGive w.frame w.done (guests z k)
   may_give_it k l m h s =
       let u = at_collecting k l m h s in
-      subst (λ (y : List DeviceDone). MayGive w.frame y (since z + k)) (sym u.before)
+      subst (λ (y : List DeviceDone). MayGive w.frame y (guests z k)) (sym u.before)
       (may_give z r.table u.hand u.acts w.frame v.frame v.done k (tied_here k l m s (collects_at k l m h s).none u) (was_open k l m s)
-      (said_at k l m s).in_order u.paired.features)
+      (said_at k l m s).in_order (alike z.way w.frame v.frame u.paired).features)
 
   pub collected : (k l m number : ℕ) (a' : E) → Stands e d z r w v → IsDriverStep port d p q v r.shadow b (act.Collected k l m)
-      → number ≡ since z + k → e.stands a' w → e.begun a' ≡ DeviceOp.give number l → e.resting a' ≡ false → e.left a' ≤ 5
+      → number ≡ guests z k → e.stands a' w → e.begun a' ≡ DeviceOp.give number l → e.resting a' ≡ false → e.left a' ≤ 5
       → ShadowTurn port e d z p q r (giving a' b m) w v Handled
   collected k l m number a' h s is serves begun awake few =
       let at = collects_at k l m h s in

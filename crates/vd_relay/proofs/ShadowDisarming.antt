@@ -17,7 +17,7 @@ use Rattle.vd_relay.specs.declared.stage.Stage.TheVariants as stage
 use Rattle.vd_relay.specs.declared.state.State.{State}
 use Rattle.vd_relay.specs.Pace.{shadow_owes, idle_owes, take_owes}
 use Rattle.vd_relay.specs.Stages.{roused}
-use Rattle.vd_relay.specs.Tie.{Start}
+use Rattle.vd_relay.specs.Tie.{Course}
 use Rattle.vd_relay.specs.Relay.{Stands, ShadowTurn, IsRoused}
 use Rattle.vd_relay.proofs.Calm.{at_stage, stands_roused}
 use Rattle.vd_relay.proofs.ShadowTurns.{next_at, with_shadow}
@@ -40,7 +40,7 @@ disarmed_small false false true false g s s' a b' f = omega arith
 disarmed_small false false true true g s s' a b' f = omega arith
 
 module _ {P E D : Type 0} (port : PortModel P) (e : DeviceModel E) (d : DriverModel D) (law : IsLawfulDevice e) (ldr : IsLawfulDriver d)
-    (z : Start) (p q : P) (r : State E D) (w : DeviceView) (v : DriverView) (b : D) where
+    (z : Course) (p q : P) (r : State E D) (w : DeviceView) (v : DriverView) (b : D) where
   still_shown : (s : IsDriverStep port d p q v r.shadow b act.Awake) → v.shown ≡ true → (d.side.after v s.op s.access s.got).shown ≡ true
   still_shown s is = ldr.stays.shown v s.op s.access s.got s.was_next (subst (λ y. DriverGoes y) s.is_answer tt) (inl is)
 

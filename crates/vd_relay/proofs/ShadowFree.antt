@@ -13,7 +13,7 @@ use Rattle.vd_relay.specs.declared.stage.Stage.{Stage}
 use Rattle.vd_relay.specs.declared.stage.Stage.TheVariants as stage
 use Rattle.vd_relay.specs.declared.state.State.{State}
 use Rattle.vd_relay.specs.Stages.{is_rested, is_shadow, BackIs}
-use Rattle.vd_relay.specs.Tie.{Start, IsTied}
+use Rattle.vd_relay.specs.Tie.{Course, IsTied}
 use Rattle.vd_relay.specs.Relay.{Stands}
 use Rattle.vd_relay.proofs.Calm.{Free, at_stage, hand_at, done_calm, not_offering, is_calm}
 use Rattle.vd_relay.proofs.Ops.{guest_idle}
@@ -34,7 +34,7 @@ shadow_live stage.Resting s = refl
 shadow_live stage.Rested s = absurd (cc)
 
 module _ {P E D : Type 0} (port : PortModel P) (e : DeviceModel E) (d : DriverModel D) (law : IsLawfulDevice e) (ldr : IsLawfulDriver d)
-    (z : Start) (p q : P) (r : State E D) (w : DeviceView) (v : DriverView) (b : D) where
+    (z : Course) (p q : P) (r : State E D) (w : DeviceView) (v : DriverView) (b : D) where
   pub guest_free : (st : Stage) → is_shadow st ≡ true → (h : Stands e d z (at_stage r st) w v) → e.begun r.guest ≡ DeviceOp.idle
   guest_free st side h = guest_idle st (e.begun r.guest) side h.guest
 

@@ -16,7 +16,7 @@ use Rattle.vd_relay.specs.declared.stage.Stage.TheVariants as stage
 use Rattle.vd_relay.specs.declared.state.State.{State}
 use Rattle.vd_relay.specs.Pace.{shadow_owes, shadow_hears}
 use Rattle.vd_relay.specs.Stages.{heard_next, ShadowIs, ShadowHears, IsSome}
-use Rattle.vd_relay.specs.Tie.{Start}
+use Rattle.vd_relay.specs.Tie.{Course}
 use Rattle.vd_relay.specs.Relay.{Stands, ShadowTurn, IsRoused}
 use Rattle.vd_relay.proofs.Calm.{at_stage, settled, owes_idle, stands_roused, hear_most}
 use Rattle.vd_relay.proofs.Ops.{at_shadow_hear}
@@ -43,7 +43,7 @@ hears_some true (now.Disarming o) = omega arith
 hears_some false (now.Disarming o) = omega arith
 
 module _ {P E D : Type 0} (port : PortModel P) (e : DeviceModel E) (d : DriverModel D) (law : IsLawfulDevice e) (ldr : IsLawfulDriver d)
-    (z : Start) (p q : P) (r : State E D) (w : DeviceView) (v : DriverView) (b : D) where
+    (z : Course) (p q : P) (r : State E D) (w : DeviceView) (v : DriverView) (b : D) where
   pub hearing_woke : (st' : Stage) → d.begun r.shadow ≡ DriverOp.hear → (h : Stands e d z (at_stage r stage.HearingShadow) w v)
       → (s : IsDriverStep port d p q v r.shadow b act.Awake)
       → IsRoused e d (with_shadow r b) w (d.side.after v s.op s.access s.got) st'

@@ -17,7 +17,7 @@ use Rattle.vd_relay.specs.declared.stage.Stage.{Stage}
 use Rattle.vd_relay.specs.declared.stage.Stage.TheVariants as stage
 use Rattle.vd_relay.specs.declared.state.State.{State}
 use Rattle.vd_relay.specs.Stages.{is_shadow, OfferIs, EndsIs, ShadowIs, ShadowArmed, ShadowHears}
-use Rattle.vd_relay.specs.Tie.{Start, since}
+use Rattle.vd_relay.specs.Tie.{Course, guests}
 use Rattle.vd_relay.specs.Relay.{Stands, ShadowTurn}
 use Rattle.vd_relay.proofs.ShadowGoing.{Goes, went}
 use Rattle.vd_relay.proofs.DriverGoing.{going}
@@ -28,18 +28,18 @@ use Rattle.vd_relay.proofs.ShadowTurns.{framed_at, made_at, not_woken, once, owe
 use Rattle.vd_relay.proofs.ShadowFree.{shadow_live}
 
 module _ {P E D : Type 0} (port : PortModel P) (e : DeviceModel E) (d : DriverModel D) (law : IsLawfulDevice e) (ldr : IsLawfulDriver d)
-    (z : Start) (p q : P) (r : State E D) (w : DeviceView) (v : DriverView) (b : D) where
+    (z : Course) (p q : P) (r : State E D) (w : DeviceView) (v : DriverView) (b : D) where
   goes_of : (s : IsDriverStep port d p q v r.shadow b act.Moved) → Goes s.op v (d.side.after v s.op s.access s.got)
   goes_of s = going port d ldr p q r.shadow v b s
 
   offer_after : (answer : DriverAct) (s : IsDriverStep port d p q v r.shadow b answer) (st : Stage)
-      → (d.side.after v s.op s.access s.got).done ≡ v.done → OfferIs st (since z) v.frame v.done
-      → OfferIs st (since z) (d.side.after v s.op s.access s.got).frame
+      → (d.side.after v s.op s.access s.got).done ≡ v.done → OfferIs st (guests z) v.frame v.done
+      → OfferIs st (guests z) (d.side.after v s.op s.access s.got).frame
       (d.side.after v s.op s.access s.got).done
   offer_after answer s st done is =
-      subst (λ (f : Frame). OfferIs st (since z) f (d.side.after v s.op s.access s.got).done)
+      subst (λ (f : Frame). OfferIs st (guests z) f (d.side.after v s.op s.access s.got).done)
       (sym (ldr.framed v s.op s.access s.got))
-      (subst (λ (o : List DriverDone). OfferIs st (since z) v.frame o) (sym done) is)
+      (subst (λ (o : List DriverDone). OfferIs st (guests z) v.frame o) (sym done) is)
 
   -- the end that hears is in its disarming store then
   disarms : Stands e d z r w v → (s : IsDriverStep port d p q v r.shadow b act.Moved) → d.begun b ≡ DriverOp.hear

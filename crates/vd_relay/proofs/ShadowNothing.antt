@@ -15,7 +15,7 @@ use Rattle.vd_relay.specs.declared.stage.Stage.TheVariants as stage
 use Rattle.vd_relay.specs.declared.state.State.{State}
 use Rattle.vd_relay.specs.Pace.{shadow_owes, idle_owes, collect_owes, collecting_owes}
 use Rattle.vd_relay.specs.Stages.{is_rested, none_next, ShadowIs}
-use Rattle.vd_relay.specs.Tie.{Start}
+use Rattle.vd_relay.specs.Tie.{Course}
 use Rattle.vd_relay.specs.Relay.{Stands, ShadowTurn}
 use Rattle.vd_relay.proofs.Calm.{Free, at_stage, settled, owes_idle}
 use Rattle.vd_relay.proofs.Ops.{at_collect}
@@ -34,7 +34,7 @@ none_live true = refl
 none_live false = refl
 
 module _ {P E D : Type 0} (port : PortModel P) (e : DeviceModel E) (d : DriverModel D) (law : IsLawfulDevice e) (ldr : IsLawfulDriver d)
-    (z : Start) (p q : P) (r : State E D) (w : DeviceView) (v : DriverView) (b : D) where
+    (z : Course) (p q : P) (r : State E D) (w : DeviceView) (v : DriverView) (b : D) where
   -- it was not shown an entry before
   unshown : (s : IsDriverStep port d p q v r.shadow b act.Nothing) → (x : Bool) → v.shown ≡ x → IsOwn port d.side p v → x ≡ false
   unshown s false is own = refl

@@ -18,7 +18,7 @@ use Rattle.vd_relay.specs.declared.stage.Stage.TheVariants as stage
 use Rattle.vd_relay.specs.declared.state.State.{State}
 use Rattle.vd_relay.specs.Pace.{shadow_owes}
 use Rattle.vd_relay.specs.Stages.{GuestIs, ShadowIs, TakesFrom, OffersHand, BackIs, ShadowShown}
-use Rattle.vd_relay.specs.Tie.{Start, IsTied, since, origin}
+use Rattle.vd_relay.specs.Tie.{Course, IsTied, guests, origin}
 use Rattle.vd_relay.specs.Relay.{Stands, ShadowTurn}
 use Rattle.vd_relay.proofs.Ties.{tied_offered}
 use Rattle.vd_relay.proofs.Calm.{FewInHand, at_stage, hand_to}
@@ -38,7 +38,7 @@ most_few true = omega arith
 most_few false = omega arith
 
 module _ {P E D : Type 0} (port : PortModel P) (e : DeviceModel E) (d : DriverModel D) (law : IsLawfulDevice e) (ldr : IsLawfulDriver d)
-    (z : Start) (p q : P) (r : State E D) (w : DeviceView) (v : DriverView) (b : D) where
+    (z : Course) (p q : P) (r : State E D) (w : DeviceView) (v : DriverView) (b : D) where
   -- where an offered chain's origin is stored
   abbrev pub stored : D → ℕ → ℕ → State E D
   stored b' number head = record {
@@ -78,9 +78,9 @@ module _ {P E D : Type 0} (port : PortModel P) (e : DeviceModel E) (d : DriverMo
         let x : List Piece = s.says.0 in
         let v' : DriverView = d.side.after v s.op s.access s.got in
         let of : s.op ≡ op.Offer = subst (λ o. IsDriverOp o s.op) s.says.1 s.of_it in
-        let table : slice_set r.table (next_head v.frame v.done) (Some (origin (since z) (length (offers v.done))))
+        let table : slice_set r.table (next_head v.frame v.done) (Some (origin (guests z (length (offers v.done)))))
         ≡ slice_set r.table head (Some (Guest number 0)) =
-        ap (λ (y : ℕ). slice_set r.table y (Some (origin (since z) (length (offers v.done))))) (sym h.offer.1)
+        ap (λ (y : ℕ). slice_set r.table y (Some (origin (guests z (length (offers v.done)))))) (sym h.offer.1)
         ∙ ap (λ (y : ℕ). slice_set r.table head (Some (Guest y 0))) (sym h.offer.0) in
         let at = published_is (d.begun b) s.says.2 in
         made_at port e d law ldr z p q r w v b (act.Offered k) s (stage.Offering number head) (stored b number head) Handled (record {

@@ -17,14 +17,14 @@ use Rattle.vd_relay.specs.declared.stage.Stage.{Stage}
 use Rattle.vd_relay.specs.declared.stage.Stage.TheVariants as stage
 use Rattle.vd_relay.specs.declared.state.State.{State}
 use Rattle.vd_relay.specs.Stages.{OffersHand}
-use Rattle.vd_relay.specs.Tie.{Start, IsTied, since}
+use Rattle.vd_relay.specs.Tie.{Course, IsTied, guests}
 use Rattle.vd_relay.specs.Relay.{Stands}
 use Rattle.vd_relay.proofs.Ties.{next_inside, next_empty}
 use Rattle.vd_relay.proofs.Calm.{at_stage}
 use Rattle.vd_relay.proofs.ShadowFree.{none_back}
 
 module _ {P E D : Type 0} (port : PortModel P) (e : DeviceModel E) (d : DriverModel D) (law : IsLawfulDevice e) (ldr : IsLawfulDriver d)
-    (z : Start) (p q : P) (r : State E D) (w : DeviceView) (v : DriverView) (b : D) where
+    (z : Course) (p q : P) (r : State E D) (w : DeviceView) (v : DriverView) (b : D) where
   module _ (number head : ℕ) (h : Stands e d z (at_stage r (stage.Offering number head)) w v) (k : ℕ)
       (s : IsDriverStep port d p q v r.shadow b (act.Offered k)) where
     pub ok : Places v.frame v.done
@@ -43,10 +43,10 @@ module _ {P E D : Type 0} (port : PortModel P) (e : DeviceModel E) (d : DriverMo
         (subst (λ o. OffersHand o h.hand) s.says.1 h.offers) h.tied)
 
     put_inside_at : head < length r.table
-    put_inside_at = omega (arith, h.offer.1, next_inside (since z) r.table v.frame v.done s.says.0 ok fits room tied_now.holds)
+    put_inside_at = omega (arith, h.offer.1, next_inside (guests z) r.table v.frame v.done s.says.0 ok fits room tied_now.holds)
 
     put_free_at : row r.table head ≡ None
-    put_free_at = ap (row r.table) h.offer.1 ∙ next_empty (since z) r.table v.frame v.done s.says.0 ok fits room tied_now.holds
+    put_free_at = ap (row r.table) h.offer.1 ∙ next_empty (guests z) r.table v.frame v.done s.says.0 ok fits room tied_now.holds
 
   pub at_offering : (number head : ℕ) → r.stage ≡ stage.Offering number head → Stands e d z r w v
       → Stands e d z (at_stage r (stage.Offering number head)) w v

@@ -24,10 +24,10 @@ use Rattle.vd_relay.specs.declared.counts.Turn.TheVariants.{Slept, Again}
 use Rattle.vd_relay.specs.declared.stage.Stage.{Stage}
 use Rattle.vd_relay.specs.declared.stage.Stage.TheVariants as stage
 use Rattle.vd_relay.specs.declared.state.State.{State}
-use Rattle.vd_relay.specs.Pairing.{ArePaired}
+use Rattle.vd_relay.specs.Ways.{Pairs}
 use Rattle.vd_relay.specs.Pace.{counted, handled, woke, shadow_handled, guest_owes, shadow_owes}
 use Rattle.vd_relay.specs.Stages.{is_rested, is_shadow}
-use Rattle.vd_relay.specs.Tie.{Start, IsTied}
+use Rattle.vd_relay.specs.Tie.{Course, IsTied}
 use Rattle.vd_relay.specs.Relay.{Stands, ShadowTurn, HearsNone, IsGlance, owes, IsFinished}
 use Rattle.vd_relay.proofs.Calm.{at_stage}
 use Rattle.vd_relay.proofs.Growth.{shadow_grown}
@@ -68,7 +68,7 @@ still_hears f o o' X act.Awake a a' says moves is = absurd (cc (says.1, is))
 still_hears f o o' X act.Asleep a a' says moves is = absurd (cc (says.1, is))
 
 module _ {P E D : Type 0} (port : PortModel P) (e : DeviceModel E) (d : DriverModel D) (law : IsLawfulDevice e) (ldr : IsLawfulDriver d)
-    (z : Start) (p q : P) (r : State E D) (w : DeviceView) (v : DriverView) (b : D) where
+    (z : Course) (p q : P) (r : State E D) (w : DeviceView) (v : DriverView) (b : D) where
   -- the turn, from what the answer says
   pub made_at : (answer : DriverAct) (s : IsDriverStep port d p q v r.shadow b answer) (st : Stage) (r' : State E D) (t : Turn)
       → Stands e d z r' w (d.side.after v s.op s.access s.got)
@@ -104,9 +104,9 @@ module _ {P E D : Type 0} (port : PortModel P) (e : DeviceModel E) (d : DriverMo
     paid = paid;
   }
 
-  pub framed_at : (answer : DriverAct) (s : IsDriverStep port d p q v r.shadow b answer) → ArePaired z.map w.frame v.frame
-      → ArePaired z.map w.frame (d.side.after v s.op s.access s.got).frame
-  framed_at answer s paired = subst (λ (f : Frame). ArePaired z.map w.frame f) (sym (ldr.framed v s.op s.access s.got)) paired
+  pub framed_at : (answer : DriverAct) (s : IsDriverStep port d p q v r.shadow b answer) → Pairs z.way w.frame v.frame
+      → Pairs z.way w.frame (d.side.after v s.op s.access s.got).frame
+  framed_at answer s paired = subst (λ (f : Frame). Pairs z.way w.frame f) (sym (ldr.framed v s.op s.access s.got)) paired
 
   -- the tie at the view after the step
   pub tied_after : (answer : DriverAct) (s : IsDriverStep port d p q v r.shadow b answer) (t' : List (Option Origin))

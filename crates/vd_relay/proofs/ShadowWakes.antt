@@ -13,14 +13,14 @@ use Rattle.vd_relay.specs.declared.stage.Stage.{Stage}
 use Rattle.vd_relay.specs.declared.state.State.{State}
 use Rattle.vd_relay.specs.Pace.{counted, handled, woke, waking, shadow_owes, idle_owes}
 use Rattle.vd_relay.specs.Stages.{is_rested, is_shadow, is_hearing, roused}
-use Rattle.vd_relay.specs.Tie.{Start}
+use Rattle.vd_relay.specs.Tie.{Course}
 use Rattle.vd_relay.specs.Relay.{Stands, ShadowTurn}
 use Rattle.vd_relay.proofs.Calm.{Free, at_stage, owes_idle, roused_small, roused_most, roused_live, roused_deaf, is_calm}
 use Rattle.vd_relay.proofs.ShadowTurns.{made_at, next_at, once, owes_here, with_shadow}
 use Rattle.vd_relay.proofs.ShadowFree.{freed_at}
 
 module _ {P E D : Type 0} (port : PortModel P) (e : DeviceModel E) (d : DriverModel D) (law : IsLawfulDevice e) (ldr : IsLawfulDriver d)
-    (z : Start) (p q : P) (r : State E D) (w : DeviceView) (v : DriverView) (b : D) where
+    (z : Course) (p q : P) (r : State E D) (w : DeviceView) (v : DriverView) (b : D) where
   pub awake_at : (st : Stage) → is_calm st ≡ true → is_shadow st ≡ true → (h : Stands e d z (at_stage r st) w v)
       → (s : IsDriverStep port d p q v r.shadow b act.Awake) → Free e d z (with_shadow r b) w (d.side.after v s.op s.access s.got)
   awake_at st calm side h s = freed_at port e d law ldr z p q r w v b act.Awake s st calm side h s.says.2 s.says.1

@@ -13,7 +13,7 @@ use Rattle.vd_relay.specs.declared.stage.Stage.TheVariants as stage
 use Rattle.vd_relay.specs.declared.state.State.{State}
 use Rattle.vd_relay.specs.Pace.{waking}
 use Rattle.vd_relay.specs.Stages.{ShadowIs}
-use Rattle.vd_relay.specs.Tie.{Start}
+use Rattle.vd_relay.specs.Tie.{Course}
 use Rattle.vd_relay.specs.Relay.{Stands, ShadowTurn, IsRoused}
 use Rattle.vd_relay.proofs.Ops.{at_shadow_arm, at_shadow_hear, at_shadow_disarm}
 use Rattle.vd_relay.proofs.ShadowTurns.{next_at, to_stage, with_shadow}
@@ -23,7 +23,7 @@ use Rattle.vd_relay.proofs.ShadowHearing.{hearing_woke}
 use Rattle.vd_relay.proofs.ShadowDisarming.{disarming_woke}
 
 module _ {P E D : Type 0} (port : PortModel P) (e : DeviceModel E) (d : DriverModel D) (law : IsLawfulDevice e) (ldr : IsLawfulDriver d)
-    (z : Start) (p q : P) (r : State E D) (w : DeviceView) (v : DriverView) (b : D) where
+    (z : Course) (p q : P) (r : State E D) (w : DeviceView) (v : DriverView) (b : D) where
   woken : (a : DriverOp) (st' : Stage) → d.begun r.shadow ≡ a → Stands e d z r w v
       → (s : IsDriverStep port d p q v r.shadow b act.Awake)
       → IsRoused e d (with_shadow r b) w (d.side.after v s.op s.access s.got) st' → MayWake a → ShadowIs r.stage a

@@ -1,4 +1,4 @@
--- Numbers shifted, and chains moved.
+-- Numbers mapped, and chains moved.
 use Rattle.std.proofs.Common.{◌≡◌, ℕ, ◌+◌, ◌≤◌, List, [], ◌∷◌, ◌++◌, length, map, if◌then◌else◌, refl, sym, ◌∙◌, ap, arith, inl, inr}
 use Rattle.std.proofs.lemmas.Bool.{cases_eq, eq-eqb, ne_eqb}
 use Rattle.std.proofs.lemmas.List.{length-map, get_or-append-add}
@@ -12,26 +12,29 @@ use Rattle.vd_ring.specs.History.{without, occurs, chain_at}
 use Rattle.vd_ring.proofs.Counts.{one_same, one_other, occurs-append}
 use Rattle.vd_ring.proofs.Rooms.{sum_map}
 
-pub without_shift : (b k : ℕ) (xs ys : List ℕ) → 1 ≤ occurs k xs
-    → without (b + k) (map (λ j. b + j) (xs ++ ys)) ≡ map (λ j. b + j) (without k xs ++ ys)
-without_shift b k [] ys some = absurd (omega arith)
-without_shift b k (x ∷ xs) ys some = elim (cases_eq x k) [
-  | inl e ↦ let f : b + x ≡ b + k = omega arith in rw (eq-eqb x k e, eq-eqb (b + x) (b + k) f) refl
+-- a number that the list has is taken out of the mapped list, if no other of the list is mapped to the same
+pub without_map : (f : ℕ → ℕ) (k : ℕ) (xs ys : List ℕ) → ((x : ℕ) → 1 ≤ occurs x xs → f x ≡ f k → x ≡ k) → 1 ≤ occurs k xs
+    → without (f k) (map f (xs ++ ys)) ≡ map f (without k xs ++ ys)
+without_map f k [] ys once some = absurd (omega arith)
+without_map f k (x ∷ xs) ys once some = elim (cases_eq x k) [
+  | inl e ↦ rw (eq-eqb x k e, eq-eqb (f x) (f k) (ap f e)) refl
   | inr ne ↦
-      let f : b + x ≡ b + k → ⊥ = λ h. ne (omega arith) in
+      let here : 1 ≤ occurs x (x ∷ xs) = omega (arith, one_same x x refl) in
+      let other : f x ≡ f k → ⊥ = λ h. ne (once x here h) in
       let more : 1 ≤ occurs k xs = omega (arith, one_other x k ne) in
-      rw (ne_eqb x k ne, ne_eqb (b + x) (b + k) f) (ap (λ (us : List ℕ). (b + x) ∷ us) (without_shift b k xs ys more))
+      let rest : (y : ℕ) → 1 ≤ occurs y xs → f y ≡ f k → y ≡ k = λ y there h. once y (omega arith) h in
+      rw (ne_eqb x k ne, ne_eqb (f x) (f k) other) (ap (λ (us : List ℕ). f x ∷ us) (without_map f k xs ys rest more))
 ]
 
-pub occurs_shift : (b k : ℕ) (xs : List ℕ) → occurs (b + k) (map (λ j. b + j) xs) ≡ occurs k xs
-occurs_shift b k [] = refl
-occurs_shift b k (x ∷ xs) = elim (cases_eq x k) [
-  | inl e ↦ omega (arith, one_same x k e, one_same (b + x) (b + k) (ap (λ (j : ℕ). b + j) e), occurs_shift b k xs)
-  | inr ne ↦ omega (arith, one_other x k ne, one_other (b + x) (b + k) (λ h. ne (omega arith)), occurs_shift b k xs)
+pub occurs_map : (f : ℕ → ℕ) (k : ℕ) (xs : List ℕ) → occurs k xs ≤ occurs (f k) (map f xs)
+occurs_map f k [] = omega arith
+occurs_map f k (x ∷ xs) = elim (cases_eq x k) [
+  | inl e ↦ omega (arith, one_same x k e, one_same (f x) (f k) (ap f e), occurs_map f k xs)
+  | inr ne ↦ omega (arith, one_other x k ne, occurs_map f k xs)
 ]
 
-pub occurs_shift_open : (b k : ℕ) (xs ys : List ℕ) → 1 ≤ occurs k xs → 1 ≤ occurs (b + k) (map (λ j. b + j) (xs ++ ys))
-occurs_shift_open b k xs ys some = omega (arith, occurs_shift b k (xs ++ ys), occurs-append k xs ys)
+pub occurs_map_front : (f : ℕ → ℕ) (k : ℕ) (xs ys : List ℕ) → 1 ≤ occurs k xs → 1 ≤ occurs (f k) (map f (xs ++ ys))
+occurs_map_front f k xs ys some = omega (arith, occurs_map f k (xs ++ ys), occurs-append k xs ys)
 
 pub needs_moved : (f : Features) (ms : List Mapping) (c : List Piece) → needs f (moved ms c) ≡ needs f c
 needs_moved f ms c = ap (λ n. if f.indirect then 1 else n) (length-map c (moved_piece ms))

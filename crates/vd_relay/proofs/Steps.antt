@@ -18,14 +18,16 @@ use Rattle.vd_relay.specs.declared.stage.Stage.TheVariants as stage
 use Rattle.vd_relay.specs.declared.state.State.{State}
 use Rattle.vd_relay.specs.Pace.{last_count, raised, counted, handled, woke, move_of, guest_handled, shadow_handled, KeepsPace}
 use Rattle.vd_relay.specs.Stages.{GuestIs, ShadowIs, is_hearing, is_shadow}
-use Rattle.vd_relay.specs.Tie.{Start}
+use Rattle.vd_relay.specs.Tie.{Course}
+use Rattle.vd_relay.specs.Carriers.{CarrierModel, CarrierTurn, CarriesOn}
 use Rattle.vd_relay.proofs.Ops.{guest_idle, shadow_idle}
+use Rattle.vd_relay.proofs.GuestTurns.{TurnsTo}
 use Rattle.vd_relay.proofs.Hearings.{guest_hears, shadow_hears}
 use Rattle.vd_relay.specs.Relay.{Holds, IsKept, IsFinished, IsGlance, IsLook, HearsNone, ShadowWaits, GuestWaits, GuestTurn, ShadowTurn, OnGuest, OnShadow, owes, unless}
 
 -- ---- from before the operation was begun
 
-module _ {P E D : Type 0} (port : PortModel P) (e : DeviceModel E) (d : DriverModel D) (z : Start) (p q : P) (r u r' : State E D)
+module _ {P E D : Type 0} (port : PortModel P) (e : DeviceModel E) (d : DriverModel D) (z : Course) (p q : P) (r u r' : State E D)
     (w : DeviceView) (v : DriverView) (t : Turn) where
   glanced : (from to : Stage) → is_hearing from ≡ true → (is_hearing u.stage ≡ true → u.stage ≡ r.stage)
       → IsGlance from to e d u r' → IsGlance from to e d r r'
@@ -36,27 +38,38 @@ module _ {P E D : Type 0} (port : PortModel P) (e : DeviceModel E) (d : DriverMo
     shadow_idle = g.shadow_idle;
   }
 
-  pub guest_from : owes e d u w v ≤ owes e d r w v → (is_hearing u.stage ≡ true → u.stage ≡ r.stage)
-      → GuestTurn port e d z p q u r' w v t → GuestTurn port e d z p q r r' w v t
-  guest_from less same h = record {
-    op = h.op;
-    access = h.access;
-    got = h.got;
-    was_next = h.was_next;
-    moved = h.moved;
-    stands = h.stands;
-    bag = h.bag;
-    handled = h.handled;
-    woke = h.woke;
-    slept = h.slept;
-    once = h.once;
-    live = h.live;
-    grown = h.grown;
-    hears = h.hears;
-    look = λ i. glanced stage.HearingGuest stage.HearingShadow refl same (h.look i);
-    leaves = h.leaves;
-    paid = omega (arith, h.paid, less);
-  }
+  guest_from_to : owes e d u w v ≤ owes e d r w v → (is_hearing u.stage ≡ true → u.stage ≡ r.stage)
+      → (h : GuestTurn port e d z p q u r' w v t)
+      → TurnsTo port e d z p q r r' w v t (e.side.after w h.op h.access h.got)
+  guest_from_to less same h = (
+    record {
+      op = h.op;
+      access = h.access;
+      got = h.got;
+      was_next = h.was_next;
+      moved = h.moved;
+      stands = h.stands;
+      bag = h.bag;
+      handled = h.handled;
+      woke = h.woke;
+      slept = h.slept;
+      once = h.once;
+      live = h.live;
+      grown = h.grown;
+      hears = h.hears;
+      look = λ i. glanced stage.HearingGuest stage.HearingShadow refl same (h.look i);
+      leaves = h.leaves;
+      paid = omega (arith, h.paid, less);
+    },
+    refl,
+  )
+
+  pub guest_from : {C : Type 0} (m : CarrierModel C) (x x' : C) → owes e d u w v ≤ owes e d r w v
+      → (is_hearing u.stage ≡ true → u.stage ≡ r.stage) → CarriesOn m port e d z x x' p q u r' w v t
+      → CarriesOn m port e d z x x' p q r r' w v t
+  guest_from m x x' less same h =
+      let t = guest_from_to less same h.0 in
+      (t.0, subst (λ (y : DeviceView). CarrierTurn m e d z.way x x' r' w y v) (sym t.1) h.1)
 
   same_finished : IsKept r u → IsFinished u w v ↔ IsFinished r w v
   same_finished k = ((λ f. (sym k.0 ∙ f.0, omega (arith, f.1, k.1), f.2)), λ f. (k.0 ∙ f.0, omega (arith, f.1, k.1), f.2))
@@ -180,7 +193,7 @@ back f = (f.1, f.0)
 
 -- ---- looks
 
-module _ {E D : Type 0} (e : DeviceModel E) (d : DriverModel D) (z : Start) (r r' : State E D) (c : Counts) (w : DeviceView)
+module _ {E D : Type 0} (e : DeviceModel E) (d : DriverModel D) (z : Course) (r r' : State E D) (c : Counts) (w : DeviceView)
     (v : DriverView) (h : Holds e d z r c w v) where
   winds_up : (b : Bool) → r.winding ≡ b → (r.winding ≡ true → ⊥) → r.winding ≡ false
   winds_up true is never = absurd (never is)
@@ -233,7 +246,7 @@ pub record Noted (c c' : Counts) (t : Turn) : Type 0 where
   pub handled : c'.handled ≡ raised (Rattle.vd_relay.specs.Pace.handled t) c.handled
   pub heard : c'.heard ≡ raised (woke t) c.heard
 
-module _ {P E D : Type 0} (port : PortModel P) (e : DeviceModel E) (d : DriverModel D) (z : Start) (p q : P) (r r' : State E D)
+module _ {P E D : Type 0} (port : PortModel P) (e : DeviceModel E) (d : DriverModel D) (z : Course) (p q : P) (r r' : State E D)
     (c c' : Counts)
     (w : DeviceView) (v : DriverView) (t : Turn) (said : Move) (b : Bool) where
   guest_looks : IsLawfulDevice e → Holds e d z r c w v → GuestTurn port e d z p q r r' w v t → t ≡ Slept

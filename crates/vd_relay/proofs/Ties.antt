@@ -1,5 +1,5 @@
 -- What each act of a relay leaves of the tie between its two rings.
-use Rattle.std.proofs.Common.{◌≡◌, ◌≢◌, ℕ, ◌+◌, ◌<◌, ◌≤◌, true, Option, Some, None, IsSome, List, [], ◌∷◌, ◌++◌, length, map, slice_set, refl, sym, ◌∙◌, ap, subst, arith, inl, inr}
+use Rattle.std.proofs.Common.{◌≡◌, ◌≢◌, ℕ, ◌+◌, ◌-◌, ◌<◌, ◌≤◌, true, Option, Some, None, IsSome, List, [], ◌∷◌, ◌++◌, length, map, slice_set, refl, sym, ◌∙◌, ap, subst, arith, inl, inr}
 use Rattle.std.specs.List.{sum_by, Contains}
 use Rattle.std.proofs.lemmas.Bool.{cases_eq}
 use Rattle.std.proofs.lemmas.List.{map_push, length-map, append-nil, append_assoc, get_or-set_same, get_or-set_other}
@@ -22,65 +22,66 @@ use Rattle.vd_layout.specs.Driver.{HasRoom}
 use Rattle.vd_layout.specs.Device.{MayGive}
 use Rattle.vd_table.specs.declared.Origin.{Origin}
 use Rattle.vd_table.specs.Rows.{row}
-use Rattle.vd_model.specs.Moved.{moved}
-use Rattle.vd_relay.specs.Tie.{Start, since, shift, numbered, origin, HoldsOpen, IsTied}
+use Rattle.vd_relay.specs.Tie.{Course, guests, returned, numbered, origin, HoldsOpen, IsTied}
+use Rattle.vd_relay.specs.Ways.{Carries, Matches, sent, came, shift_by}
 use Rattle.vd_ring.proofs.Rooms.{first_take, sum_map}
-use Rattle.vd_relay.proofs.Shifts.{without_shift, occurs_shift_open, needs_moved, chain_past, chain_moved}
+use Rattle.vd_relay.proofs.Shifts.{without_map, occurs_map_front, chain_past}
+use Rattle.vd_relay.proofs.Ways.{skips, came_count, open_past, number_at, number_past, number_next, number_once, shift_entry, sent_offered, came_offered, sent_collected, came_collected, follows_offered, follows_collected, matches_more, matches_count, matches_at, carries_needs, sent_at}
 
 -- ---- counts
 
-module _ (z : Start) (table : List (Option Origin)) (s : List DeviceDone) (g : Frame) (o : List DriverDone) where
+module _ (z : Course) (table : List (Option Origin)) (s : List DeviceDone) (g : Frame) (o : List DriverDone) where
   -- how many chains were taken, and given
   pub taken_count : (hand : List (List Piece)) (back : List Used) → IsTied z table hand back s g o
-      → length (takes s) ≡ since z + length (offers o) + length hand
+      → length (takes s) ≡ length z.gives + length (sent z.way o) + length hand
   taken_count hand back t = omega (
     arith,
     ap (λ (cs : List (List Piece)). length cs) t.takes,
     length-append z.takes t.past,
     t.even,
-    length-map t.past (moved z.map),
-    ap (λ (cs : List (List Piece)). length cs) t.offered,
-    length-append (offers o) hand,
+    matches_count z.way t.past (sent z.way o ++ hand) t.offered,
+    length-append (sent z.way o) hand,
   )
 
   pub given_count : (hand : List (List Piece)) (back : List Used) → IsTied z table hand back s g o
-      → length (gives s) + length back ≡ since z + length (collects o)
+      → length (gives s) + length back ≡ length z.gives + length (came z.way o)
   given_count hand back t = omega (
     arith,
     ap (λ (us : List Used). length us) t.gives,
     length-append z.gives t.got,
-    length-map (collects o)
-        (shift (since z)),
+    length-map (came z.way o)
+        (shift_by z.way (length z.gives)),
     ap (λ (us : List Used). length us) t.given,
     length-append t.got back,
   )
 
 -- ---- a take
 
-pub tied_taken : (z : Start) (table : List (Option Origin)) (s : List DeviceDone) (g : Frame) (o : List DriverDone) (c : List Piece) (h : ℕ)
-    → IsTied z table [] [] s g o → IsTied z table (moved z.map c ∷ []) [] (Take c h ∷ s) g o
-tied_taken z table s g o c h t =
+pub tied_taken : (z : Course) (table : List (Option Origin)) (s : List DeviceDone) (g : Frame) (o : List DriverDone) (c x : List Piece)
+    (h : ℕ) → Carries z.way c x → IsTied z table [] [] s g o → IsTied z table (x ∷ []) [] (Take c h ∷ s) g o
+tied_taken z table s g o c x h is t =
     let n : ℕ = length (offers o) in
-    let count : length (takes s) ≡ since z + n = omega (arith, taken_count z table s g o [] [] t) in
+    let count : length (takes s) ≡ guests z n = omega (arith, taken_count z table s g o [] [] t, number_next z.way (length z.gives) o t.follows) in
     record {
       past = t.past ++ c ∷ [];
       got = t.got;
       takes = ap (λ (cs : List (List Piece)). cs ++ c ∷ []) t.takes ∙ append_assoc z.takes t.past (c ∷ []);
       gives = t.gives;
       even = t.even;
-      offered = map_push (moved z.map) t.past c ∙ ap (λ (cs : List (List Piece)). cs ++ moved z.map c ∷ [])
-          (t.offered ∙ append-nil (offers o));
+      offered = matches_more z.way t.past (sent z.way o) c x
+          (subst (λ (ys : List (List Piece)). Matches z.way t.past ys) (append-nil (sent z.way o)) t.offered) is;
       given = t.given;
       runs = ap (λ (ks : List ℕ). ks ++ length (takes s) ∷ [])
-          (t.runs ∙ ap (λ (ks : List ℕ). map (λ k. since z + k) ks) (append-nil (open_at o)))
-          ∙ ap (λ (j : ℕ). map (λ k. since z + k) (open_at o) ++ j ∷ []) count ∙ sym (map_push (λ (k : ℕ). since z + k) (open_at o) n);
+          (t.runs ∙ ap (λ (ks : List ℕ). map (guests z) ks) (append-nil (open_at o)))
+          ∙ ap (λ (j : ℕ). map (guests z) (open_at o) ++ j ∷ []) count ∙ sym (map_push (guests z) (open_at o) n);
       holds = t.holds;
+      follows = t.follows;
     }
 
 -- ---- an offer
 
-module _ (b : ℕ) (table : List (Option Origin)) (g : Frame) (o : List DriverDone) (c : List Piece) (ok : Places g o) (fits : Fits g c)
-    (room : borrowed g c ≤ length (free g o)) (t : HoldsOpen table b g o) where
+module _ (number : ℕ → ℕ) (table : List (Option Origin)) (g : Frame) (o : List DriverDone) (c : List Piece) (ok : Places g o) (fits : Fits g c)
+    (room : borrowed g c ≤ length (free g o)) (t : HoldsOpen table number g o) where
   free_some : 1 ≤ length (free g o)
   free_some = omega (arith, borrowed_some g c fits)
 
@@ -114,14 +115,14 @@ module _ (b : ℕ) (table : List (Option Origin)) (g : Frame) (o : List DriverDo
   pub next_empty : row table (next_head g o) ≡ None
   next_empty = none_there (row table (next_head g o)) refl
 
-  pub holds_offered : HoldsOpen (slice_set table (next_head g o) (Some (origin b (length (offers o))))) b g (Offer c ∷ o)
+  pub holds_offered : HoldsOpen (slice_set table (next_head g o) (Some (origin (number (length (offers o)))))) number g (Offer c ∷ o)
   holds_offered =
       let q : ℕ = next_head g o in
-      let x : Option Origin = Some (origin b (length (offers o))) in
+      let x : Option Origin = Some (origin (number (length (offers o)))) in
       record {
         sized = length-set table q x ∙ t.sized;
         stored = λ k some. elim (cases_eq (length (offers o)) k) [
-          | inl e ↦ subst (λ (j : ℕ). row (slice_set table q x) (head g (Offer c ∷ o) j) ≡ Some (origin b j)) e
+          | inl e ↦ subst (λ (j : ℕ). row (slice_set table q x) (head g (Offer c ∷ o) j) ≡ Some (origin (number j))) e
               (ap (λ (h : ℕ). row (slice_set table q x) h) head_new ∙ get_or-set_same table q x None next_inside)
           | inr ne ↦
               let old : 1 ≤ occurs k (open_at o) = omega (
@@ -150,19 +151,21 @@ module _ (b : ℕ) (table : List (Option Origin)) (g : Frame) (o : List DriverDo
         ];
       }
 
-pub tied_offered : (z : Start) (table : List (Option Origin)) (s : List DeviceDone) (g : Frame) (o : List DriverDone) (c : List Piece)
+pub tied_offered : (z : Course) (table : List (Option Origin)) (s : List DeviceDone) (g : Frame) (o : List DriverDone) (c : List Piece)
     → Places g o → Fits g c → borrowed g c ≤ length (free g o) → IsTied z table (c ∷ []) [] s g o
-    → IsTied z (slice_set table (next_head g o) (Some (origin (since z) (length (offers o))))) [] [] s g (Offer c ∷ o)
+    → IsTied z (slice_set table (next_head g o) (Some (origin (guests z (length (offers o)))))) [] [] s g (Offer c ∷ o)
 tied_offered z table s g o c ok fits room t = record {
   past = t.past;
   got = t.got;
   takes = t.takes;
   gives = t.gives;
   even = t.even;
-  offered = t.offered ∙ sym (append-nil (offers o ++ c ∷ []));
-  given = t.given;
-  runs = t.runs ∙ ap (λ (ks : List ℕ). map (λ k. since z + k) ks) (sym (append-nil (open_at o ++ length (offers o) ∷ [])));
-  holds = holds_offered (since z) table g o c ok fits room t.holds;
+  offered = subst (λ (ys : List (List Piece)). Matches z.way t.past ys)
+      (sym (sent_offered z.way o c t.follows) ∙ sym (append-nil (sent z.way (Offer c ∷ o)))) t.offered;
+  given = ap (λ (us : List Used). map (shift_by z.way (length z.gives)) us) (came_offered z.way o c) ∙ t.given;
+  runs = t.runs ∙ ap (λ (ks : List ℕ). map (guests z) ks) (sym (append-nil (open_at o ++ length (offers o) ∷ [])));
+  holds = holds_offered (guests z) table g o c ok fits room t.holds;
+  follows = follows_offered z.way o c t.follows;
 }
 
 -- ---- a collect
@@ -171,8 +174,8 @@ pub nothing : (x : Option Origin) → IsSome x → x ≡ None → ⊥
 nothing None some is = cc
 nothing (Some x) some is = cc
 
-module _ (b : ℕ) (table : List (Option Origin)) (g : Frame) (o : List DriverDone) (k n : ℕ) (ok : Places g o)
-    (some : 1 ≤ occurs k (open_at o)) (t : HoldsOpen table b g o) where
+module _ (number : ℕ → ℕ) (table : List (Option Origin)) (g : Frame) (o : List DriverDone) (k n : ℕ) (ok : Places g o)
+    (some : 1 ≤ occurs k (open_at o)) (t : HoldsOpen table number g o) where
   pub head_stored : head g o k < length table
   head_stored = omega (arith, head_inside g o k ok some, t.sized)
 
@@ -186,7 +189,7 @@ module _ (b : ℕ) (table : List (Option Origin)) (g : Frame) (o : List DriverDo
         (arith, occurs_without j k (open_at o) some),
   )
 
-  pub holds_collected : HoldsOpen (slice_set table (head g o k) None) b g (Collect (entry k n ∷ []) ∷ o)
+  pub holds_collected : HoldsOpen (slice_set table (head g o k) None) number g (Collect (entry k n ∷ []) ∷ o)
   holds_collected =
       let q : ℕ = head g o k in
       record {
@@ -205,40 +208,53 @@ module _ (b : ℕ) (table : List (Option Origin)) (g : Frame) (o : List DriverDo
         ];
       }
 
-pub tied_collected : (z : Start) (table : List (Option Origin)) (hand : List (List Piece)) (s : List DeviceDone) (g : Frame)
+pub tied_collected : (z : Course) (table : List (Option Origin)) (hand : List (List Piece)) (s : List DeviceDone) (g : Frame)
     (o : List DriverDone) (k n : ℕ) → Places g o → 1 ≤ occurs k (open_at o) → IsTied z table hand [] s g o
-    → IsTied z (slice_set table (head g o k) None) hand (entry (since z + k) n ∷ []) s g (Collect (entry k n ∷ []) ∷ o)
-tied_collected z table hand s g o k n ok some t = record {
-  past = t.past;
-  got = t.got;
-  takes = t.takes;
-  gives = t.gives;
-  even = t.even;
-  offered = t.offered;
-  given = map_push (shift (since z)) (collects o) (entry k n)
-      ∙ ap (λ (us : List Used). us ++ entry (since z + k) n ∷ []) (t.given ∙ append-nil t.got);
-  runs = ap (without (since z + k)) t.runs ∙ without_shift (since z) k (open_at o) (numbered (length (offers o)) hand) some;
-  holds = holds_collected (since z) table g o k n ok some t.holds;
-}
+    → IsTied z (slice_set table (head g o k) None) hand (entry (guests z k) n ∷ []) s g (Collect (entry k n ∷ []) ∷ o)
+tied_collected z table hand s g o k n ok some t =
+    let past = open_past z.way o k t.follows some in
+    let once : (x : ℕ) → 1 ≤ occurs x (open_at o) → guests z x ≡ guests z k → x ≡ k = λ x there is.
+    number_once z.way (length z.gives) x k (open_past z.way o x t.follows there) past is in
+    record {
+      past = t.past;
+      got = t.got;
+      takes = t.takes;
+      gives = t.gives;
+      even = t.even;
+      offered = subst (λ (ys : List (List Piece)). Matches z.way t.past (ys ++ hand)) (sym (sent_collected z.way o (entry k n ∷ []))) t.offered;
+      given = ap (λ (us : List Used). map (shift_by z.way (length z.gives)) us) (came_collected z.way o (entry k n) t.follows)
+          ∙ map_push (shift_by z.way (length z.gives)) (came z.way o) (entry k n)
+          ∙ ap (λ (u : Used). returned z o ++ u ∷ []) (shift_entry z.way (length z.gives) k n)
+          ∙ ap (λ (us : List Used). us ++ entry (guests z k) n ∷ []) (t.given ∙ append-nil t.got);
+      runs = ap (without (guests z k)) t.runs ∙ without_map (guests z) k (open_at o) (numbered (length (offers o)) hand) once some;
+      holds = holds_collected (guests z) table g o k n ok some t.holds;
+      follows = follows_collected z.way o k n some t.follows;
+    }
 
 -- what was collected runs on the guest's ring, and may be given there
-pub may_give : (z : Start) (table : List (Option Origin)) (hand : List (List Piece)) (s : List DeviceDone) (f g : Frame)
+pub may_give : (z : Course) (table : List (Option Origin)) (hand : List (List Piece)) (s : List DeviceDone) (f g : Frame)
     (o : List DriverDone) (k : ℕ) → IsTied z table hand [] s g o → 1 ≤ occurs k (open_at o)
     → (g.features.in_order ≡ true → k ≡ length (collects o)) → g.features ≡ f.features
-    → MayGive f s (since z + k)
+    → MayGive f s (guests z k)
 may_give z table hand s f g o k t some ordered same = record {
-  runs = Contains_from (since z + k) (running s) (omega (
+  runs = Contains_from (guests z k) (running s) (omega (
     arith,
-    ap (occurs (since z + k)) t.runs,
-    occurs_shift_open (since z) k (open_at o)
+    ap (occurs (guests z k)) t.runs,
+    occurs_map_front (guests z) k (open_at o)
         (numbered (length (offers o)) hand) some,
   ));
-  in_order = λ on. omega (arith, given_count z table s g o hand [] t, ordered (ap (λ (x : Features). x.in_order) same ∙ on));
+  in_order = λ on. omega (
+    arith,
+    given_count z table s g o hand [] t,
+    came_count z.way o t.follows,
+    number_at z.way (length z.gives) k (open_past z.way o k t.follows some),
+    ordered (ap (λ (x : Features). x.in_order) same ∙ on),
+  );
 }
 
 -- ---- a give
 
-pub tied_given : (z : Start) (table : List (Option Origin)) (hand : List (List Piece)) (s : List DeviceDone) (g : Frame)
+pub tied_given : (z : Course) (table : List (Option Origin)) (hand : List (List Piece)) (s : List DeviceDone) (g : Frame)
     (o : List DriverDone) (k n : ℕ) → IsTied z table hand (entry k n ∷ []) s g o → IsTied z table hand [] (Give (entry k n ∷ []) ∷ s) g o
 tied_given z table hand s g o k n t = record {
   past = t.past;
@@ -250,32 +266,43 @@ tied_given z table hand s g o k n t = record {
   given = t.given ∙ sym (append-nil (t.got ++ entry k n ∷ []));
   runs = t.runs;
   holds = t.holds;
+  follows = t.follows;
 }
 
 -- ---- room
 
 -- a chain just taken has room on the shadow ring
-pub tied_room : (z : Start) (table : List (Option Origin)) (s : List DeviceDone) (f g : Frame) (o : List DriverDone) (c : List Piece)
+pub tied_room : (z : Course) (table : List (Option Origin)) (s : List DeviceDone) (f g : Frame) (o : List DriverDone) (c : List Piece)
     → IsTied z table [] [] s g o → g.features ≡ f.features → g.size ≡ f.size → running_size f s + needs f.features c ≤ f.size
-    → HasRoom g o (moved z.map c)
+    → HasRoom g o c
 tied_room z table s f g o c t same size room =
     let size_of : ℕ → ℕ = λ k. needs f.features (chain_at (takes s) k) in
-    let runs : running s ≡ map (λ k. since z + k) (open_at o) = t.runs
-    ∙ ap (λ (ks : List ℕ). map (λ k. since z + k) ks) (append-nil (open_at o)) in
-    let all : running_size f s ≡ sum_by (λ k. size_of (since z + k)) (open_at o) = ap (sum_by size_of) runs
-    ∙ sum_map size_of (λ k. since z + k) (open_at o) in
-    let each : (k : ℕ) → 1 ≤ occurs k (open_at o) → size_of (since z + k) ≡ needs g.features (chain o k) = λ k _.
-    ap (needs f.features) (ap (λ (cs : List (List Piece)). chain_at cs (since z + k)) t.takes
-    ∙ chain_past z.takes t.past (since z) k t.even)
-    ∙ sym (needs_moved f.features z.map (chain_at t.past k))
-    ∙ ap (needs f.features) (sym (chain_moved z.map t.past k)
-    ∙ ap (λ (cs : List (List Piece)). chain_at cs k) (t.offered ∙ append-nil (offers o)))
-    ∙ ap (λ (x : Features). needs x (chain o k)) (sym same) in
+    let runs : running s ≡ map (guests z) (open_at o) = t.runs
+    ∙ ap (λ (ks : List ℕ). map (guests z) ks) (append-nil (open_at o)) in
+    let all : running_size f s ≡ sum_by (λ k. size_of (guests z k)) (open_at o) = ap (sum_by size_of) runs
+    ∙ sum_map size_of (guests z) (open_at o) in
+    let stands : Matches z.way t.past (sent z.way o) = subst (λ (ys : List (List Piece)). Matches z.way t.past ys)
+    (append-nil (sent z.way o)) t.offered in
+    let each : (k : ℕ) → 1 ≤ occurs k (open_at o) → size_of (guests z k) ≡ needs g.features (chain o k) = λ k some.
+    same_size k (open_past z.way o k t.follows some) stands in
     omega (
       arith,
       all,
-      sum_same (λ k. size_of (since z + k)) (λ k. needs g.features (chain o k))
+      sum_same (λ k. size_of (guests z k)) (λ k. needs g.features (chain o k))
           (open_at o) each,
-      needs_moved g.features z.map c,
       ap (λ (x : Features). needs x c) same,
     )
+  where
+    same_size : (k : ℕ) → skips z.way ≤ k → Matches z.way t.past (sent z.way o)
+        → needs f.features (chain_at (takes s) (guests z k)) ≡ needs g.features (chain o k)
+    same_size k past stands =
+        let j : ℕ = k - skips z.way in
+        let at : k ≡ skips z.way + j = omega (arith, past) in
+        let number : guests z k ≡ length z.gives + j = ap (guests z) at ∙ number_past z.way (length z.gives) j in
+        ap (λ (i : ℕ). needs f.features (chain_at (takes s) i)) number
+        ∙ ap (λ (cs : List (List Piece)). needs f.features (chain_at cs (length z.gives + j))) t.takes
+        ∙ ap (needs f.features) (chain_past z.takes t.past (length z.gives) j t.even)
+        ∙ sym (carries_needs z.way f.features (chain_at t.past j) (chain_at (sent z.way o) j)
+        (matches_at z.way t.past (sent z.way o) j stands))
+        ∙ ap (needs f.features) (sent_at z.way o j ∙ ap (chain o) (sym at))
+        ∙ ap (λ (x : Features). needs x (chain o k)) (sym same)

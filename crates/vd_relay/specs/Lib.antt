@@ -4,6 +4,7 @@ pub mod Pairing
 pub mod Stages
 pub mod Pace
 pub mod Relay
+pub mod Carriers
 pub mod Moving
 pub mod Replays
 pub mod Accesses

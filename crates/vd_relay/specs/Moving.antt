@@ -1,5 +1,5 @@
 -- A relay of a data queue: it moves each address by its map.
-use Rattle.std.specs.Prelude.{◌≡◌, ◌×◌, ℕ, Bool, List, [], map, Option, None, length, replicate}
+use Rattle.std.specs.Prelude.{◌≡◌, ℕ, List, [], map, Option, None, length, replicate}
 use Rattle.vd_model.specs.declared.map.Mapping.{Mapping}
 use Rattle.vd_words.specs.Model.{PortModel}
 use Rattle.vd_words.specs.Own.{IsOwn}

@@ -1,18 +1,15 @@
 -- What a relay holds at each stage, and what one step of it is.
-use Rattle.std.specs.Prelude.{◌≡◌, ◌⊎◌, ◌↔◌, ℕ, ◌+◌, ◌*◌, ◌≤◌, Bool, true, false, List, [], ◌∷◌, ◌++◌, length, map, IsTrue, if◌then◌else◌, Option, None, replicate}
+use Rattle.std.specs.Prelude.{◌≡◌, ◌⊎◌, ◌↔◌, ℕ, ◌+◌, ◌*◌, ◌≤◌, Bool, true, false, List, [], ◌∷◌, ◌++◌, length, IsTrue, if◌then◌else◌, Option, None, replicate}
 use Rattle.std.specs.List.{Contains}
 use Rattle.vd_model.specs.declared.chain.Piece.{Piece}
-use Rattle.vd_model.specs.declared.map.Mapping.{Mapping}
 use Rattle.vd_words.specs.declared.access.Access.{Access}
 use Rattle.vd_words.specs.declared.access.Op.{Op}
 use Rattle.vd_words.specs.Model.{PortModel}
-use Rattle.vd_words.specs.Own.{IsOwn}
 use Rattle.vd_ring.specs.declared.act.DriverAct.TheVariants as driver_act
 use Rattle.vd_ring.specs.declared.act.DeviceAct.TheVariants as device_act
 use Rattle.vd_ring.specs.declared.device.DeviceNow.TheVariants as device
 use Rattle.vd_ring.specs.declared.driver.DriverNow.TheVariants as driver
 use Rattle.vd_ring.specs.declared.frame.Used.{Used}
-use Rattle.vd_ring.specs.declared.driver.DriverDone.{DriverDone}
 use Rattle.vd_ring.specs.declared.driver.DriverView.{DriverView}
 use Rattle.vd_ring.specs.declared.device.DeviceDone.{DeviceDone}
 use Rattle.vd_ring.specs.declared.device.DeviceView.{DeviceView}

@@ -1,5 +1,5 @@
 -- By which way a relay carries chains from the guest's ring to the shadow ring, and between which two rings it may stand.
-use Rattle.std.specs.Prelude.{◌≡◌, ℕ, ◌+◌, ◌-◌, ◌<◌, ◌≤◌, ⊤, true, Some, None, List, length, map, drop}
+use Rattle.std.specs.Prelude.{◌≡◌, ℕ, ◌+◌, ◌-◌, ◌≤◌, List, length, map, drop}
 use Rattle.vd_model.specs.declared.chain.Piece.{Piece}
 use Rattle.vd_model.specs.declared.map.Mapping.{Mapping}
 use Rattle.vd_model.specs.Moved.{moved}
@@ -21,7 +21,7 @@ Pairs (carrying n) f g = AreControls f g
 
 -- a chain without its addresses
 abbrev pub bare : List Piece → List Piece
-bare c = map (λ p. record p { addr = 0 }) c
+bare c = map (λ (p : Piece). record p { addr = 0 }) c
 
 -- x stands on the shadow ring for c
 abbrev pub Carries : Way → List Piece → List Piece → Type 0
@@ -52,12 +52,13 @@ abbrev pub shift_by : Way → ℕ → Used → Used
 shift_by (moving ms) b = λ u. entry (b + u.number) u.len
 shift_by (carrying n) b = λ u. entry (b + (u.number - n)) u.len
 
--- what was replayed is collected
+-- what was replayed is collected: a replay has so many commands at most
 pub record IsReplayed (n : ℕ) (o : List DriverDone) : Type 0 where
+  pub few : n ≤ 4105
   pub offered : n ≤ length (offers o)
   pub collected : n ≤ length (collects o)
   pub closed : (k : ℕ) → 1 ≤ occurs k (open_at o) → n ≤ k
 
 abbrev pub Follows : Way → List DriverDone → Type 0
-Follows (moving ms) o = ⊤
+Follows (moving ms) o = Unit {0}
 Follows (carrying n) o = IsReplayed n o

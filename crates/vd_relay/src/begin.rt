@@ -5,7 +5,7 @@ ghost use Rattle.vd_ring.specs.declared.driver.DriverView.{DriverView};
 ghost use Rattle.vd_layout.specs.Begun.{DeviceOp, DriverOp};
 ghost use Rattle.vd_relay.specs.declared.stage.Stage.TheVariants.{Taking, ArmingGuest, ArmingShadow};
 ghost use Rattle.vd_relay.specs.Stages.{is_rested, is_shadow, is_hearing, roused};
-ghost use Rattle.vd_relay.specs.Tie.{Start};
+ghost use Rattle.vd_relay.specs.Tie.{Course};
 ghost use Rattle.vd_relay.specs.Relay.{Stands, Stays, IsFinished, IsRoused, IsQuiet, IsKept};
 
 use crate::stage::Stage;
@@ -56,8 +56,8 @@ pub(crate) fn after_sleep<L: Layout>(state: &State<L::Device, L::Driver>) -> Sta
 /// A wind-up takes no further chain, and sleeps no more: between two operations it collects, until it rests.
 pub(crate) fn turn<L: Layout>(state: &mut State<L::Device, L::Driver>)
     requires live { is_rested state.old.stage ≡ false }
-    requires own { (z : Start) × (w : DeviceView) × (v : DriverView) × Stands L.Device.device L.Driver.driver z state.old w v }
-    ensures stays { (z : Start) (w : DeviceView) (v : DriverView) → Stands L.Device.device L.Driver.driver z state.old w v
+    requires own { (z : Course) × (w : DeviceView) × (v : DriverView) × Stands L.Device.device L.Driver.driver z state.old w v }
+    ensures stays { (z : Course) (w : DeviceView) (v : DriverView) → Stands L.Device.device L.Driver.driver z state.old w v
         → Stays L.Device.device L.Driver.driver z state.old state.new w v }
     ensures live { is_rested state.new.stage ≡ false }
     ensures turned { state.new.winding ≡ true → state.new.stage ≡ Taking → ¬ (L.Device.device.begun state.new.guest ≡ DeviceOp.idle) }
@@ -84,8 +84,8 @@ pub(crate) fn begin<L: Layout>(state: &mut State<L::Device, L::Driver>)
         → ¬ (L.Device.device.begun state.old.guest ≡ DeviceOp.idle) }
     requires shadow_arms { state.old.winding ≡ true → state.old.stage ≡ ArmingShadow
         → ¬ (L.Driver.driver.begun state.old.shadow ≡ DriverOp.idle) }
-    requires own { (z : Start) × (w : DeviceView) × (v : DriverView) × Stands L.Device.device L.Driver.driver z state.old w v }
-    ensures stays { (z : Start) (w : DeviceView) (v : DriverView) → Stands L.Device.device L.Driver.driver z state.old w v
+    requires own { (z : Course) × (w : DeviceView) × (v : DriverView) × Stands L.Device.device L.Driver.driver z state.old w v }
+    ensures stays { (z : Course) (w : DeviceView) (v : DriverView) → Stands L.Device.device L.Driver.driver z state.old w v
         → Stays L.Device.device L.Driver.driver z state.old state.new w v }
     ensures stage { state.new.stage ≡ state.old.stage }
     ensures guest { is_shadow state.old.stage ≡ false → ¬ (L.Device.device.begun state.new.guest ≡ DeviceOp.idle) }
@@ -109,8 +109,8 @@ fn begin_guest<L: Layout>(state: &mut State<L::Device, L::Driver>)
     requires guest_arms { state.old.winding ≡ true → state.old.stage ≡ ArmingGuest
         → ¬ (L.Device.device.begun state.old.guest ≡ DeviceOp.idle) }
     requires side { is_shadow state.old.stage ≡ false }
-    requires own { (z : Start) × (w : DeviceView) × (v : DriverView) × Stands L.Device.device L.Driver.driver z state.old w v }
-    ensures stays { (z : Start) (w : DeviceView) (v : DriverView) → Stands L.Device.device L.Driver.driver z state.old w v
+    requires own { (z : Course) × (w : DeviceView) × (v : DriverView) × Stands L.Device.device L.Driver.driver z state.old w v }
+    ensures stays { (z : Course) (w : DeviceView) (v : DriverView) → Stands L.Device.device L.Driver.driver z state.old w v
         → Stays L.Device.device L.Driver.driver z state.old state.new w v }
     ensures stage { state.new.stage ≡ state.old.stage }
     ensures busy { ¬ (L.Device.device.begun state.new.guest ≡ DeviceOp.idle) }
@@ -134,8 +134,8 @@ fn begin_shadow<L: Layout>(state: &mut State<L::Device, L::Driver>)
     requires shadow_arms { state.old.winding ≡ true → state.old.stage ≡ ArmingShadow
         → ¬ (L.Driver.driver.begun state.old.shadow ≡ DriverOp.idle) }
     requires side { is_shadow state.old.stage ≡ true }
-    requires own { (z : Start) × (w : DeviceView) × (v : DriverView) × Stands L.Device.device L.Driver.driver z state.old w v }
-    ensures stays { (z : Start) (w : DeviceView) (v : DriverView) → Stands L.Device.device L.Driver.driver z state.old w v
+    requires own { (z : Course) × (w : DeviceView) × (v : DriverView) × Stands L.Device.device L.Driver.driver z state.old w v }
+    ensures stays { (z : Course) (w : DeviceView) (v : DriverView) → Stands L.Device.device L.Driver.driver z state.old w v
         → Stays L.Device.device L.Driver.driver z state.old state.new w v }
     ensures stage { state.new.stage ≡ state.old.stage }
     ensures busy { ¬ (L.Driver.driver.begun state.new.shadow ≡ DriverOp.idle) }

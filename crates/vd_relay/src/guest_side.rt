@@ -6,15 +6,15 @@ ghost use Rattle.vd_ring.specs.declared.driver.DriverView.{DriverView};
 ghost use Rattle.vd_layout.specs.Begun.{DeviceOp, DriverOp};
 ghost use Rattle.vd_relay.specs.Stages.{is_rested, is_shadow, heard_next};
 ghost use Rattle.vd_relay.specs.Pace.{waking};
-ghost use Rattle.vd_relay.specs.Tie.{Start};
-ghost use Rattle.vd_relay.specs.Relay.{Stands, GuestTurn, IsQuiet, IsKept};
+ghost use Rattle.vd_relay.specs.Tie.{Course};
+ghost use Rattle.vd_relay.specs.Relay.{Stands, IsQuiet, IsKept};
+ghost use Rattle.vd_relay.specs.Carriers.{CarriesOn};
 
 use crate::begin::after_sleep;
+use crate::carrier::Carrier;
 use crate::counts::Turn;
 use crate::stage::Stage;
 use crate::state::State;
-use crate::translate::translate;
-use vd_iova::IovaTree;
 use vd_layout::{DeviceAct, DeviceEnd, DriverEnd, Layout};
 use vd_words::Port;
 
@@ -41,19 +41,19 @@ pub(crate) fn hear_next(stage: Stage) -> Stage
 }
 
 /// Makes one access of the guest's ring. The offer of a chain is begun with the last access of its take.
-pub(crate) fn guest_turn<L: Layout, P: Port>(
+pub(crate) fn guest_turn<L: Layout, C: Carrier<L>, P: Port>(
     state: &mut State<L::Device, L::Driver>,
-    tree: &IovaTree,
+    carrier: &mut C,
     port: &mut P,
 ) -> Turn
     requires live { is_rested state.old.stage ≡ false }
     requires side { is_shadow state.old.stage ≡ false }
     requires busy { ¬ (L.Device.device.begun state.old.guest ≡ DeviceOp.idle) }
-    requires own { (z : Start) × (w : DeviceView) × (v : DriverView) × Stands L.Device.device L.Driver.driver z state.old w v
-        × (tree.now.mappings ≡ z.map) × IsOwn P.port L.Device.device.side port.old w }
-    ensures turn { (z : Start) (w : DeviceView) (v : DriverView) → Stands L.Device.device L.Driver.driver z state.old w v
-        → tree.now.mappings ≡ z.map → IsOwn P.port L.Device.device.side port.old w
-        → GuestTurn P.port L.Device.device L.Driver.driver z port.old port.new state.old state.new w v result }
+    requires own { (z : Course) × (w : DeviceView) × (v : DriverView) × Stands L.Device.device L.Driver.driver z state.old w v
+        × C.carrier.by carrier.old z.way v.frame × IsOwn P.port L.Device.device.side port.old w }
+    ensures turn { (z : Course) (w : DeviceView) (v : DriverView) → Stands L.Device.device L.Driver.driver z state.old w v
+        → C.carrier.by carrier.old z.way v.frame → IsOwn P.port L.Device.device.side port.old w
+        → CarriesOn C.carrier P.port L.Device.device L.Driver.driver z carrier.old carrier.new port.old port.new state.old state.new w v result }
     ensures kept { IsKept state.old state.new }
     ensures quiet { IsQuiet L.Driver.driver state.old state.new }
     ensures calm { L.Driver.driver.begun state.new.shadow ≡ DriverOp.hear → L.Driver.driver.begun state.old.shadow ≡ DriverOp.hear }
@@ -64,7 +64,7 @@ pub(crate) fn guest_turn<L: Layout, P: Port>(
                 return Turn::Handled;
             }
             let mut chain = chain;
-            translate(tree, &mut chain);
+            carrier.carry(number, &mut chain, &state.shadow);
             let head = state.shadow.next_head();
             state.shadow.begin_offer(&chain);
             state.stage = Stage::Offering { number, head };

@@ -5,8 +5,10 @@
 mod accesses;
 mod begin;
 mod carried;
+mod carrier;
 mod counts;
 mod guest_side;
+mod one_turn;
 mod relay;
 mod replay;
 mod shadow_side;
@@ -16,6 +18,7 @@ mod translate;
 
 pub use accesses::{acknowledge, load_ack, load_command, store_ack, store_first};
 pub use carried::{Carried, Rows, carried_of};
+pub use carrier::Carrier;
 pub use counts::{Counts, Turn};
 pub use relay::Relay;
 pub use replay::{Replay, ReplayStage};

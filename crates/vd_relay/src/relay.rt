@@ -8,12 +8,12 @@ ghost use Rattle.vd_layout.specs.Begun.{DeviceOp, DriverOp};
 ghost use Rattle.vd_control.specs.Settings.{HasPairs};
 ghost use Rattle.vd_relay.specs.Stages.{is_rested};
 ghost use Rattle.vd_relay.specs.Tie.{Start};
-ghost use Rattle.vd_relay.specs.Relay.{Holds, Stands, CanStep, CanTurn, OneTurn, IsRelayStep, IsOpen, HandsBack, IsKept, IsQuiet, start};
+ghost use Rattle.vd_relay.specs.Moving.{Holds, CanStep, IsRelayStep, IsOpen, HandsBack, start};
 
-use crate::begin::{after_sleep, begin, turn};
-use crate::counts::{Counts, Turn, move_of};
-use crate::guest_side::guest_turn;
-use crate::shadow_side::shadow_turn;
+use crate::begin::after_sleep;
+use crate::carrier::Mover;
+use crate::counts::{Counts, move_of};
+use crate::one_turn::make_turn;
 use crate::stage::Stage;
 use crate::state::State;
 use vd_control::Settings;
@@ -30,32 +30,6 @@ pub struct Relay<L: Layout> {
     /// The settings with each acknowledged guest command applied.
     pub settings: Settings,
     pub counts: Counts,
-}
-
-/// Makes one access, on one of the two ports.
-fn make_turn<L: Layout, P: Port, Q: Port>(
-    state: &mut State<L::Device, L::Driver>,
-    tree: &IovaTree,
-    guest_port: &mut P,
-    shadow_port: &mut Q,
-) -> Turn
-    requires live { is_rested state.old.stage ≡ false }
-    requires own { CanTurn P.port Q.port L.Device.device L.Driver.driver tree.now.mappings guest_port.old shadow_port.old state.old }
-    ensures made { (z : Start) (w : DeviceView) (v : DriverView) → Stands L.Device.device L.Driver.driver z state.old w v
-        → tree.now.mappings ≡ z.map → IsOwn P.port L.Device.device.side guest_port.old w
-        → IsOwn Q.port L.Driver.driver.side shadow_port.old v
-        → OneTurn P.port Q.port L.Device.device L.Driver.driver z guest_port.old guest_port.new shadow_port.old shadow_port.new state.old
-        state.new w v result }
-    ensures kept { IsKept state.old state.new }
-    ensures quiet { IsQuiet L.Driver.driver state.old state.new }
-{
-    turn::<L>(state);
-    begin::<L>(state);
-    if state.stage.is_shadow() {
-        shadow_turn::<L, Q>(state, shadow_port)
-    } else {
-        guest_turn::<L, P>(state, tree, guest_port)
-    }
 }
 
 impl<L: Layout> Relay<L> {
@@ -117,7 +91,13 @@ impl<L: Layout> Relay<L> {
             self.old.state self.new.state self.old.counts self.new.counts result }
         ensures settings { self.new.settings ≡ self.old.settings }
     {
-        let turn = make_turn::<L, P, Q>(&mut self.state, tree, guest_port, shadow_port);
+        let mut mover = Mover { tree };
+        let turn = make_turn::<L, Mover, P, Q>(
+            &mut self.state,
+            &mut mover,
+            guest_port,
+            shadow_port,
+        );
         self.counts.note(turn);
         move_of(turn, self.state.stage.is_rested())
     }

@@ -6,7 +6,7 @@ ghost use Rattle.vd_ring.specs.declared.driver.DriverView.{DriverView};
 ghost use Rattle.vd_layout.specs.Begun.{DeviceOp, DriverOp};
 ghost use Rattle.vd_relay.specs.Stages.{is_shadow, none_next};
 ghost use Rattle.vd_relay.specs.Pace.{repeating};
-ghost use Rattle.vd_relay.specs.Tie.{Start};
+ghost use Rattle.vd_relay.specs.Tie.{Course};
 ghost use Rattle.vd_relay.specs.Relay.{Stands, ShadowTurn, IsQuiet, IsKept};
 
 use crate::begin::after_sleep;
@@ -45,9 +45,9 @@ pub(crate) fn shadow_turn<L: Layout, Q: Port>(
 ) -> Turn
     requires side { is_shadow state.old.stage ≡ true }
     requires busy { ¬ (L.Driver.driver.begun state.old.shadow ≡ DriverOp.idle) }
-    requires own { (z : Start) × (w : DeviceView) × (v : DriverView) × Stands L.Device.device L.Driver.driver z state.old w v
+    requires own { (z : Course) × (w : DeviceView) × (v : DriverView) × Stands L.Device.device L.Driver.driver z state.old w v
         × IsOwn Q.port L.Driver.driver.side port.old v }
-    ensures turn { (z : Start) (w : DeviceView) (v : DriverView) → Stands L.Device.device L.Driver.driver z state.old w v
+    ensures turn { (z : Course) (w : DeviceView) (v : DriverView) → Stands L.Device.device L.Driver.driver z state.old w v
         → IsOwn Q.port L.Driver.driver.side port.old v
         → ShadowTurn Q.port L.Device.device L.Driver.driver z port.old port.new state.old state.new w v result }
     ensures kept { IsKept state.old state.new }

@@ -1,6 +1,6 @@
 use Rattle.std.proofs.Common.{sym, subst}
 use Rattle.vd_layout.specs.Device.{MayGive}
-use Rattle.vd_relay.specs.Tie.{since}
+use Rattle.vd_relay.specs.Tie.{guests}
 use Rattle.vd_relay.proofs.Origins.{is_some, same_origin, number_is}
 use Rattle.vd_relay.proofs.ShadowMoves.{went_on}
 use Rattle.vd_relay.proofs.ShadowNothing.{none_collected}
@@ -115,7 +115,7 @@ begin_give-requires-clause-may g c =
     let s = c.in-Collected.ensures o.2 o.3.drives o.4 in
     let at = stored_there g.Q.Port.port g.L.Device.DeviceEnd.device g.L.Driver.DriverEnd.driver law.device_end law.driver_end o.0
     c.args.port.now c.step.new.port c.args.state.now o.1 o.2 c.step.new.self _ _ _ o.3 s in
-    let is = number_is c.in-Guest.number c.in-Guest.ack_place (since o.0) c.in-Collected.number
+    let is = number_is c.in-Guest.number c.in-Guest.ack_place (guests o.0 c.in-Collected.number)
     (same_origin _ _ _ c.in-Guest.ensures.origin at) in (
       o.1,
       o.3.serves,
@@ -131,7 +131,7 @@ returns-in-Guest-clause-turn g c = λ z w v h own.
     let s = c.in-Collected.ensures v h.drives own in
     let at = stored_there g.Q.Port.port g.L.Device.DeviceEnd.device g.L.Driver.DriverEnd.driver law.device_end law.driver_end z
     c.args.port.now c.step.new.port c.args.state.now w v c.step.new.self _ _ _ h s in
-    let is = number_is c.in-Guest.number c.in-Guest.ack_place (since z) c.in-Collected.number
+    let is = number_is c.in-Guest.number c.in-Guest.ack_place (guests z c.in-Collected.number)
     (same_origin _ _ _ c.in-Guest.ensures.origin at) in
     rw c.take.ensures.rows
     (collected g.Q.Port.port g.L.Device.DeviceEnd.device g.L.Driver.DriverEnd.driver law.device_end law.driver_end z c.args.port.now

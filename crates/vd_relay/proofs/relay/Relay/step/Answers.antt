@@ -1,4 +1,6 @@
-use Rattle.std.proofs.Common.{inl, inr}
+use Rattle.std.proofs.Common.{sym, ap, inl, inr}
+use Rattle.vd_relay.specs.Tie.{moves}
+use Rattle.vd_relay.specs.Ways.{moving}
 use Rattle.vd_relay.proofs.Steps.{Noted, on_guest, on_shadow, looked_is, finished_at, pace_less}
 use Rattle.vd_relay.proofs.relay.Relay.step.Goals as goal
 
@@ -16,27 +18,27 @@ returns-clause-step g c = λ z w v h is own other.
       handled = c.note.ensures.handled;
       heard = c.note.ensures.heard;
     } in
-    elim (m.ensures.made z w v h.stands is own other) [
+    elim (m.ensures.made (moves z) w v h.stands (ap moving (sym is)) own other) [
       | inl x ↦ (
-          let o = on_guest g.P.Port.port e d z c.args.guest_port.now m.new.guest_port c.args.self.now.state m.new.state
-          c.args.self.now.counts c.note.new.self w v t c.move_of.result b law.device_end said n m.ensures.kept x.1 h x.2 in
+          let o = on_guest g.P.Port.port e d (moves z) c.args.guest_port.now m.new.guest_port c.args.self.now.state m.new.state
+          c.args.self.now.counts c.note.new.self w v t c.move_of.result b law.device_end said n m.ensures.kept x.1 h x.2.0 in
           record {
             made = inl (x.0, o);
             kept = m.ensures.kept;
             quiet = m.ensures.quiet;
-            finished = finished_at c.move_of.result t b _ said c.is_rested.ensures x.2.live;
+            finished = finished_at c.move_of.result t b _ said c.is_rested.ensures x.2.0.live;
             still = λ i. c.note.ensures.slept ((looked_is c.move_of.result t b said).0 i);
             pace = pace_less c.note.new.self _ o.holds.pace;
           }
           )
       | inr x ↦ (
-          let o = on_shadow g.Q.Port.port e d z c.args.shadow_port.now m.new.shadow_port c.args.self.now.state m.new.state
-          c.args.self.now.counts c.note.new.self w v t c.move_of.result b law.driver_end said n m.ensures.kept x.1 h x.2 in
+          let o = on_shadow g.Q.Port.port e d (moves z) c.args.shadow_port.now m.new.shadow_port c.args.self.now.state m.new.state
+          c.args.self.now.counts c.note.new.self w v t c.move_of.result b law.driver_end said n m.ensures.kept x.2 h x.3 in
           record {
             made = inr (x.0, o);
             kept = m.ensures.kept;
             quiet = m.ensures.quiet;
-            finished = finished_at c.move_of.result t b _ said c.is_rested.ensures (λ i. x.2.live);
+            finished = finished_at c.move_of.result t b _ said c.is_rested.ensures (λ i. x.3.live);
             still = λ i. c.note.ensures.slept ((looked_is c.move_of.result t b said).0 i);
             pace = pace_less c.note.new.self _ o.holds.pace;
           }

@@ -2,10 +2,10 @@ use Rattle.std.proofs.Common.{◌∙◌, refl, sym, ap, arith, inl, inr}
 use Rattle.vd_relay.specs.Stages.{is_hearing, is_shadow}
 use Rattle.vd_relay.proofs.Ops.{guest_idle, shadow_idle}
 use Rattle.vd_relay.proofs.Steps.{guest_from, shadow_from}
-use Rattle.vd_relay.proofs.relay.make_turn.Goals as goal
+use Rattle.vd_relay.proofs.one_turn.make_turn.Goals as goal
 
 pub returns-then-is_shadow-clause-made : goal.returns-then-is_shadow-clause-made
-returns-then-is_shadow-clause-made g c = λ z w v h is own other.
+returns-then-is_shadow-clause-made g c = λ z w v h goes own other.
     let a = c.turn.ensures.stays z w v h in
     let b = c.begin.ensures.stays z w v a.stands in
     let k = c.turn.ensures.kept in
@@ -15,6 +15,7 @@ returns-then-is_shadow-clause-made g c = λ z w v h is own other.
     let same = c.begin.ensures.guest_same (sym (ap is_shadow at) ∙ side) in
     let idle = guest_idle c.begin.new.state.stage (g.L.Device.DeviceEnd.device.begun c.begin.new.state.guest) side b.stands.guest in
     inr (
+      refl,
       refl,
       (
         ap g.L.Device.DeviceEnd.device.begun (sym c.turn.ensures.guest ∙ sym same) ∙ idle,
@@ -27,7 +28,7 @@ returns-then-is_shadow-clause-made g c = λ z w v h is own other.
     )
 
 pub returns-else-is_shadow-clause-made : goal.returns-else-is_shadow-clause-made
-returns-else-is_shadow-clause-made g c = λ z w v h is own other.
+returns-else-is_shadow-clause-made g c = λ z w v h goes own other.
     let a = c.turn.ensures.stays z w v h in
     let b = c.begin.ensures.stays z w v a.stands in
     let side = sym c.is_shadow.ensures ∙ c.if-is_shadow.false in
@@ -42,6 +43,6 @@ returns-else-is_shadow-clause-made g c = λ z w v h is own other.
       ),
       guest_from g.P.Port.port g.L.Device.DeviceEnd.device g.L.Driver.DriverEnd.driver z c.args.guest_port.now
           c.guest_turn.new.port c.args.state.now c.begin.new.state c.guest_turn.new.state w v c.guest_turn.result
-          (omega (arith, a.owes, b.owes)) (λ i. at ∙ c.turn.ensures.hearing (sym (ap is_hearing at) ∙ i))
-          (c.guest_turn.ensures.turn z w v b.stands is own),
+          g.C.Carrier.carrier c.args.carrier.now c.guest_turn.new.carrier (omega (arith, a.owes, b.owes)) (λ i. at ∙ c.turn.ensures.hearing (sym (ap is_hearing at) ∙ i))
+          (c.guest_turn.ensures.turn z w v b.stands goes own),
     )
