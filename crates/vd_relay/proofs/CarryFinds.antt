@@ -4,6 +4,7 @@ use Rattle.vd_words.specs.declared.access.Access.TheVariants.{Load}
 use Rattle.vd_words.specs.declared.access.Op.TheVariants.{Control}
 use Rattle.vd_words.specs.Model.{PortModel}
 use Rattle.vd_ring.specs.declared.device.DeviceView.{DeviceView}
+use Rattle.vd_ring.specs.declared.driver.DriverNow.TheVariants as driver
 use Rattle.vd_ring.specs.declared.driver.DriverView.{DriverView}
 use Rattle.vd_ring.specs.History.{next_head}
 use Rattle.vd_layout.specs.Driver.{DriverModel}
@@ -38,10 +39,10 @@ module _ {E D : Type 0} (l : LayoutModel) (e : DeviceModel E) (d : DriverModel D
   }
 
   pub first_free : (c : Command) → Commanding l e d z r (carry.StoreFirst c) t s w v → HasFree l d r.shadow v
-  first_free c h = record { drives = h.stands.drives; ring = h.ring; still = h.still.1; room = h.in_hand.taken.room }
+  first_free c h = record { drives = h.stands.drives; ring = h.ring; room = h.in_hand.taken.room }
 
   pub second_free : (c : Command) → Commanding l e d z r (carry.StoreSecond c) t s w v → HasFree l d r.shadow v
-  second_free c h = record { drives = h.stands.drives; ring = h.ring; still = h.still.1; room = h.in_hand.0.taken.room }
+  second_free c h = record { drives = h.stands.drives; ring = h.ring; room = h.in_hand.0.taken.room }
 
   pub has_collected : (head : ℕ) (c : Command) (h : Commanding l e d z r (carry.LoadAck head c) t s w v)
       → HasCollected l d r.shadow v h.in_hand.0 head
@@ -75,5 +76,5 @@ module _ {E D : Type 0} (l : LayoutModel) (e : DeviceModel E) (d : DriverModel D
       )
 
 pub finds_next : {D : Type 0} (l : LayoutModel) (d : DriverModel D) (x : D) (v : DriverView) (half p : ℕ) → half < 2
-    → p ≡ d.words.command v.frame (next_head v.frame v.done) + half → HasFree l d x v → FindsNext l d x v half p
-finds_next l d x v half p two is h = record { has = h; two = two; placed = is }
+    → p ≡ d.words.command v.frame (next_head v.frame v.done) + half → HasFree l d x v → v.doing ≡ driver.Idle → FindsNext l d x v half p
+finds_next l d x v half p two is h still = record { has = h; still = still; two = two; placed = is }

@@ -4,6 +4,7 @@ use Rattle.vd_words.specs.declared.access.Access.TheVariants.{Load, Store}
 use Rattle.vd_words.specs.declared.access.Op.TheVariants.{Control}
 use Rattle.vd_words.specs.Model.{PortModel}
 use Rattle.vd_ring.specs.declared.device.DeviceView.{DeviceView}
+use Rattle.vd_ring.specs.declared.driver.DriverNow.TheVariants as driver
 use Rattle.vd_ring.specs.declared.driver.DriverView.{DriverView}
 use Rattle.vd_ring.specs.History.{next_head}
 use Rattle.vd_ring.specs.Control.{LoadsCommand, StoresAck, StoresCommand, LoadsAck}
@@ -85,17 +86,17 @@ module _ {D E : Type 0} (l : LayoutModel) (d : DriverModel D) (e : DeviceModel E
       record { control = h.has.ring.control; room = h.has.room; half = half; two = h.two; place = h.placed }
 
   pub may_store_command : (half place word : ℕ) → FindsNext l d x v half place → d.side.next v Control (Store place word)
-  may_store_command half place word h = (lay.driver_end.controls.stores v place word).1 (h.has.still, next_word half place h)
+  may_store_command half place word h = (lay.driver_end.controls.stores v place word).1 (h.still, next_word half place h)
 
-  pub next_narrow : HasFree l d x v → d.words.command v.frame (next_head v.frame v.done) + 1 < 4294967296
-  next_narrow h =
+  pub next_narrow : HasFree l d x v → v.doing ≡ driver.Idle → d.words.command v.frame (next_head v.frame v.done) + 1 < 4294967296
+  next_narrow h still =
       let framed = lay.driver_framed x v h.drives in
       let q : ℕ = d.words.command v.frame (next_head v.frame v.done) + 1 in
       omega (
         arith,
         lay.narrow v.frame framed,
         lay.driver_low v Control (Store q 0) framed (may_store_command 1 q 0
-            (record { has = h; two = omega arith; placed = refl })),
+            (record { has = h; still = still; two = omega arith; placed = refl })),
       )
 
 module _ {Q D E : Type 0} (port : PortModel Q) (l : LayoutModel) (d : DriverModel D) (e : DeviceModel E) (lay : IsLawfulLayout d e l)
@@ -108,7 +109,7 @@ module _ {Q D E : Type 0} (port : PortModel Q) (l : LayoutModel) (d : DriverMode
         got = got;
         was_next = next;
         moved = moved;
-        after = lay.driver_end.controls.stored v place word got h.has.still (next_word l d e lay x v half place h);
+        after = lay.driver_end.controls.stored v place word got h.still (next_word l d e lay x v half place h);
         stands = lay.driver_end.control x v (Store place word) got h.has.drives next;
       }
 

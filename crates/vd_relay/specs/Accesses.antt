@@ -67,12 +67,12 @@ pub record StoresAckWord {P E : Type 0} (port : PortModel P) (e : DeviceModel E)
 pub record HasFree {D : Type 0} (l : LayoutModel) (d : DriverModel D) (x : D) (v : DriverView) : Type 0 where
   pub drives : d.stands x v
   pub ring : IsShadowRing l v.frame
-  pub still : v.doing ≡ driver.Idle
   pub room : 1 ≤ length (free v.frame v.done)
 
 -- the place is that of command word `half` of its next head
 pub record FindsNext {D : Type 0} (l : LayoutModel) (d : DriverModel D) (x : D) (v : DriverView) (half place : ℕ) : Type 0 where
   pub has : HasFree l d x v
+  pub still : v.doing ≡ driver.Idle
   pub two : half < 2
   pub placed : place ≡ d.words.command v.frame (next_head v.frame v.done) + half
 

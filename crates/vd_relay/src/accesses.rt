@@ -1,6 +1,7 @@
 //! The accesses of command and ack words that a relay of a control queue makes: each is one load or one store.
 ghost use Rattle.std.specs.Prelude.{◌≡◌, ◌+◌, ◌<◌, ◌≤◌, ◌^◌, ℕ};
 ghost use Rattle.vd_words.specs.Own.{IsOwn};
+ghost use Rattle.vd_ring.specs.declared.driver.DriverNow.TheVariants.{Idle};
 ghost use Rattle.vd_ring.specs.declared.driver.DriverView.{DriverView};
 ghost use Rattle.vd_ring.specs.declared.device.DeviceView.{DeviceView};
 ghost use Rattle.vd_ring.specs.History.{next_head};
@@ -37,7 +38,7 @@ pub fn store_ack<L: Layout, P: Port>(guest: &L::Device, port: &mut P, place: u32
 
 /// The first command word of the shadow ring's next head.
 pub fn next_word<L: Layout>(shadow: &L::Driver) -> u32
-    requires { (v : DriverView) × HasFree L.layout L.Driver.driver shadow.now v }
+    requires { (v : DriverView) × HasFree L.layout L.Driver.driver shadow.now v × (v.doing ≡ Idle) }
     ensures value { (v : DriverView) → HasFree L.layout L.Driver.driver shadow.now v
         → result ≡ L.Driver.driver.words.command v.frame (next_head v.frame v.done) }
     ensures narrow { result + 1 < 2 ^ 32 }

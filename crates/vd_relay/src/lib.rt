@@ -7,6 +7,7 @@ mod begin;
 mod carrier;
 mod carry;
 mod command;
+mod commander;
 mod counts;
 mod guest_side;
 mod one_turn;
@@ -21,6 +22,7 @@ pub use accesses::{acknowledge, load_ack, load_command, next_word, store_ack, st
 pub use carrier::Carrier;
 pub use carry::{Carry, Found, found_of};
 pub use command::carry_on;
+pub use commander::Commander;
 pub use counts::{Counts, Turn};
 pub use relay::Relay;
 pub use replay::{Replay, ReplayStage};

@@ -19,5 +19,6 @@ returns-clause-narrow g c =
       arith,
       is,
       ap (g.L.Driver.DriverEnd.driver.words.command o.0.frame) (c.next_head.ensures o.0 o.1.drives),
-      next_narrow g.L.Layout.layout g.L.Driver.DriverEnd.driver g.L.Device.DeviceEnd.device g.met.L.Layout.lawful c.args.shadow.now o.0 o.1,
+      next_narrow g.L.Layout.layout g.L.Driver.DriverEnd.driver g.L.Device.DeviceEnd.device g.met.L.Layout.lawful c.args.shadow.now o.0 o.1
+          o.2,
     )

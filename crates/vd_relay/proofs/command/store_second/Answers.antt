@@ -10,6 +10,7 @@ next_word-place-requires g c =
       o.2,
       second_free g.L.Layout.layout g.L.Device.DeviceEnd.device g.L.Driver.DriverEnd.driver k.from c.args.state.now k.table o.0 o.1 o.2
           c.args.command k.commands,
+      k.commands.still.1,
     )
 
 pub store_command-requires : goal.store_command-requires
@@ -22,7 +23,7 @@ store_command-requires g c =
       o.2,
       1,
       finds_next l d c.args.state.now.shadow o.2 1 (c.next_word-place.result + 1) (omega arith)
-          (omega (arith, c.next_word-place.ensures.value o.2 free)) free,
+          (omega (arith, c.next_word-place.ensures.value o.2 free)) free k.commands.still.1,
       o.4,
     )
 
@@ -34,4 +35,4 @@ returns g c = λ z t s w v h.
     let free = second_free l e d z c.args.state.now t s w v c.args.command h in
     on_store_second g.Q.Port.port l e d z c.args.port.now c.store_command.new.port c.args.state.now t s w v c.args.command (c.next_word-place.result + 1) h
     (c.store_command.ensures v 1 (finds_next l d c.args.state.now.shadow v 1 (c.next_word-place.result + 1) (omega arith)
-    (omega (arith, c.next_word-place.ensures.value v free)) free))
+    (omega (arith, c.next_word-place.ensures.value v free)) free h.still.1))
