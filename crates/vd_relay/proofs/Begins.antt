@@ -33,7 +33,7 @@ use Rattle.vd_relay.proofs.Ways.{matches_none}
 use Rattle.vd_relay.proofs.Origins.{is_none}
 use Rattle.vd_relay.proofs.Calm.{Free, FewInHand, at_stage, hand_to, settled, freed, owes_idle, stands_roused, winding_small, roused_live, roused_deaf}
 
-row_none : (n h : ℕ) → row (replicate n None) h ≡ None
+row_none : (n h : ℕ) → row {T = Origin} (replicate n None) h ≡ None
 row_none zero h = refl
 row_none (suc n) zero = refl
 row_none (suc n) (suc h) = row_none n h

@@ -50,3 +50,11 @@ pub mod ReplayWaking
 pub mod ReplayWords
 pub mod ReplayControl
 pub mod ControlAccesses
+pub mod CarryPlaces
+pub mod CarryChains
+pub mod CarryFinds
+pub mod CarryStands
+pub mod CarryTies
+pub mod CarryWords
+pub mod CarryAcks
+pub mod CarryTurns

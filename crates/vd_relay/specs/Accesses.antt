@@ -1,17 +1,18 @@
--- The accesses of command and ack words that a relay of a control queue makes, one by one. On each of the two rings its end has no
--- operation in progress meanwhile.
-use Rattle.std.specs.Prelude.{◌≡◌, ℕ, ◌+◌, ◌<◌, ◌%◌, ◌==◌, true, Some, List, [], ◌∷◌, if◌then◌else◌, slice_set}
+-- The accesses of command and ack words that a relay of a control queue makes, one by one. On each of the two rings no access of an
+-- operation in progress is made yet: its end may have begun one.
+use Rattle.std.specs.Prelude.{◌≡◌, ℕ, ◌+◌, ◌<◌, ◌≤◌, ◌%◌, ◌==◌, true, length, Some, List, [], ◌∷◌, if◌then◌else◌, slice_set}
 use Rattle.std.specs.List.{Contains}
 use Rattle.vd_words.specs.declared.access.Access.TheVariants.{Load, Store}
 use Rattle.vd_words.specs.declared.access.Op.TheVariants.{Control}
 use Rattle.vd_words.specs.Model.{PortModel}
 use Rattle.vd_ring.specs.declared.driver.DriverDone.TheVariants.{StoreCommand, LoadAck}
+use Rattle.vd_ring.specs.declared.driver.DriverNow.TheVariants as driver
 use Rattle.vd_ring.specs.declared.driver.DriverView.{DriverView}
 use Rattle.vd_ring.specs.declared.device.DeviceDone.TheVariants.{StoreAck, LoadCommand}
+use Rattle.vd_ring.specs.declared.device.DeviceNow.TheVariants as device
 use Rattle.vd_ring.specs.declared.device.DeviceView.{DeviceView}
-use Rattle.vd_ring.specs.History.{head, next_head, running, taken_head}
+use Rattle.vd_ring.specs.History.{free, head, next_head, running, taken_head}
 use Rattle.vd_ring.specs.Control.{last_collected}
-use Rattle.vd_layout.specs.Begun.{DriverOp, DeviceOp}
 use Rattle.vd_layout.specs.Driver.{DriverModel}
 use Rattle.vd_layout.specs.Device.{DeviceModel}
 use Rattle.vd_layout.specs.Layout.{LayoutModel}
@@ -24,7 +25,7 @@ use Rattle.vd_relay.specs.Replays.{IsShadowRing}
 -- a chain that was taken and not given, on a control ring
 pub record HasRunning {E : Type 0} (e : DeviceModel E) (x : E) (w : DeviceView) (number : ℕ) : Type 0 where
   pub serves : e.stands x w
-  pub idle : e.begun x ≡ DeviceOp.idle
+  pub still : w.doing ≡ device.Idle
   pub control : w.frame.control ≡ true
   pub runs : Contains (running w.done) number
 
@@ -62,6 +63,19 @@ pub record StoresAckWord {P E : Type 0} (port : PortModel P) (e : DeviceModel E)
 
 -- ---- on the shadow ring
 
+-- an end of such a ring which has a place for a further chain
+pub record HasFree {D : Type 0} (l : LayoutModel) (d : DriverModel D) (x : D) (v : DriverView) : Type 0 where
+  pub drives : d.stands x v
+  pub ring : IsShadowRing l v.frame
+  pub room : 1 ≤ length (free v.frame v.done)
+
+-- the place is that of command word `half` of its next head
+pub record FindsNext {D : Type 0} (l : LayoutModel) (d : DriverModel D) (x : D) (v : DriverView) (half place : ℕ) : Type 0 where
+  pub has : HasFree l d x v
+  pub still : v.doing ≡ driver.Idle
+  pub two : half < 2
+  pub placed : place ≡ d.words.command v.frame (next_head v.frame v.done) + half
+
 -- a command word of the next head was stored
 pub record StoresWord {Q D : Type 0} (port : PortModel Q) (d : DriverModel D) (p q : Q) (x : D) (v : DriverView)
     (half place word : ℕ) : Type 0 where
@@ -79,7 +93,7 @@ pub record StoresWord {Q D : Type 0} (port : PortModel Q) (d : DriverModel D) (p
 pub record HasCollected {D : Type 0} (l : LayoutModel) (d : DriverModel D) (x : D) (v : DriverView) (k h : ℕ) : Type 0 where
   pub drives : d.stands x v
   pub ring : IsShadowRing l v.frame
-  pub idle : d.begun x ≡ DriverOp.idle
+  pub still : v.doing ≡ driver.Idle
   pub last : last_collected v.done ≡ Some k
   pub is_head : h ≡ head v.frame v.done k
   pub inside : h < v.frame.size

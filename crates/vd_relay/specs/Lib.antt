@@ -9,3 +9,6 @@ pub mod Moving
 pub mod Replays
 pub mod Accesses
 pub mod Carrying
+pub mod Commanding
+pub mod Underway
+pub mod Controls

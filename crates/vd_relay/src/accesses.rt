@@ -1,13 +1,13 @@
 //! The accesses of command and ack words that a relay of a control queue makes: each is one load or one store.
-ghost use Rattle.std.specs.Prelude.{◌≡◌, ◌<◌, ◌≤◌, ℕ};
+ghost use Rattle.std.specs.Prelude.{◌≡◌, ◌+◌, ◌<◌, ◌≤◌, ◌^◌, ℕ};
 ghost use Rattle.vd_words.specs.Own.{IsOwn};
+ghost use Rattle.vd_ring.specs.declared.driver.DriverNow.TheVariants.{Idle};
 ghost use Rattle.vd_ring.specs.declared.driver.DriverView.{DriverView};
 ghost use Rattle.vd_ring.specs.declared.device.DeviceView.{DeviceView};
 ghost use Rattle.vd_ring.specs.History.{next_head};
 ghost use Rattle.vd_control.specs.Settings.{HasPairs};
 ghost use Rattle.vd_commands.specs.Words.{word_bytes};
-ghost use Rattle.vd_relay.specs.Replays.{HasNext};
-ghost use Rattle.vd_relay.specs.Accesses.{FindsCommand, FindsAck, LoadsWord, StoresAckWord, StoresWord, HasCollected, LoadsAckWord, acknowledged};
+ghost use Rattle.vd_relay.specs.Accesses.{FindsCommand, FindsAck, LoadsWord, StoresAckWord, HasFree, FindsNext, StoresWord, HasCollected, LoadsAckWord, acknowledged};
 
 use vd_commands::{Words, bytes_of};
 use vd_control::{Command, Settings};
@@ -36,13 +36,24 @@ pub fn store_ack<L: Layout, P: Port>(guest: &L::Device, port: &mut P, place: u32
     let _ = port.access(Op::Control, Access::Store(place, ack));
 }
 
-/// Stores the first command word of the shadow ring's next head.
-pub fn store_first<L: Layout, Q: Port>(shadow: &L::Driver, port: &mut Q, place: u32, word: u64)
-    requires { (v : DriverView) × HasNext L.layout L.Driver.driver shadow.now v
-        × (place ≡ L.Driver.driver.words.command v.frame (next_head v.frame v.done)) × IsOwn Q.port L.Driver.driver.side port.old v }
-    ensures { (v : DriverView) → HasNext L.layout L.Driver.driver shadow.now v
-        → place ≡ L.Driver.driver.words.command v.frame (next_head v.frame v.done)
-        → StoresWord Q.port L.Driver.driver port.old port.new shadow.now v 0 place word }
+/// The first command word of the shadow ring's next head.
+pub fn next_word<L: Layout>(shadow: &L::Driver) -> u32
+    requires { (v : DriverView) × HasFree L.layout L.Driver.driver shadow.now v × (v.doing ≡ Idle) }
+    ensures value { (v : DriverView) → HasFree L.layout L.Driver.driver shadow.now v
+        → result ≡ L.Driver.driver.words.command v.frame (next_head v.frame v.done) }
+    ensures narrow { result + 1 < 2 ^ 32 }
+{
+    let size = shadow.size();
+    let f = shadow.features();
+    L::command_word(size, f, shadow.next_head())
+}
+
+/// Stores a command word of the shadow ring's next head.
+pub fn store_command<L: Layout, Q: Port>(shadow: &L::Driver, port: &mut Q, place: u32, word: u64)
+    requires { (v : DriverView) × (half : ℕ) × FindsNext L.layout L.Driver.driver shadow.now v half place
+        × IsOwn Q.port L.Driver.driver.side port.old v }
+    ensures { (v : DriverView) (half : ℕ) → FindsNext L.layout L.Driver.driver shadow.now v half place
+        → StoresWord Q.port L.Driver.driver port.old port.new shadow.now v half place word }
 {
     let _ = shadow;
     let _ = port.access(Op::Control, Access::Store(place, word));

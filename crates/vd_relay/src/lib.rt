@@ -4,8 +4,10 @@
 
 mod accesses;
 mod begin;
-mod carried;
 mod carrier;
+mod carry;
+mod command;
+mod commander;
 mod counts;
 mod guest_side;
 mod one_turn;
@@ -16,9 +18,11 @@ mod stage;
 mod state;
 mod translate;
 
-pub use accesses::{acknowledge, load_ack, load_command, store_ack, store_first};
-pub use carried::{Carried, Rows, carried_of};
+pub use accesses::{acknowledge, load_ack, load_command, next_word, store_ack, store_command};
 pub use carrier::Carrier;
+pub use carry::{Carry, Found, found_of};
+pub use command::carry_on;
+pub use commander::Commander;
 pub use counts::{Counts, Turn};
 pub use relay::Relay;
 pub use replay::{Replay, ReplayStage};

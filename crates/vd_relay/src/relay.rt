@@ -51,7 +51,7 @@ impl<L: Layout> Relay<L> {
         requires fresh { L.Driver.driver.begun shadow ≡ DriverOp.idle }
         requires apart { L.Driver.driver.armed shadow ≡ false }
         ensures holds { (ms : List Mapping) (w : DeviceView) (v : DriverView)
-            → IsOpen L.Device.device L.Driver.driver ms guest shadow table w v
+            → IsOpen L.Device.device L.Driver.driver ms guest shadow table.origins w v
             → Holds L.Device.device L.Driver.driver (start ms w) result.state result.counts w v }
         ensures live { is_rested result.state.stage ≡ false }
         ensures winding { result.state.winding ≡ false }
@@ -59,11 +59,12 @@ impl<L: Layout> Relay<L> {
         ensures settings { result.settings ≡ settings }
     {
         let _ = (control, replay);
+        let ShadowTable { origins, .. } = table;
         Relay {
             state: State {
                 guest,
                 shadow,
-                table,
+                table: origins,
                 stage: Stage::Taking,
                 winding: false,
                 target: 0,

@@ -1,6 +1,6 @@
 //! What a relay holds.
 use crate::stage::Stage;
-use vd_table::ShadowTable;
+use vd_table::{Origin, Rows};
 
 /// The device's end of the guest's ring and the driver's end of the shadow ring; where each chain on the shadow ring came from; what
 /// comes next; and whether it winds up, until so many chains are collected.
@@ -8,7 +8,7 @@ use vd_table::ShadowTable;
 pub struct State<E, D> {
     pub guest: E,
     pub shadow: D,
-    pub table: ShadowTable,
+    pub table: Rows<Origin>,
     pub stage: Stage,
     pub winding: bool,
     pub target: u32,

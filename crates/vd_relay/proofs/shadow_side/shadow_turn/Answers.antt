@@ -116,7 +116,7 @@ begin_give-requires-clause-may g c =
     let at = stored_there g.Q.Port.port g.L.Device.DeviceEnd.device g.L.Driver.DriverEnd.driver law.device_end law.driver_end o.0
     c.args.port.now c.step.new.port c.args.state.now o.1 o.2 c.step.new.self _ _ _ o.3 s in
     let is = number_is c.in-Guest.number c.in-Guest.ack_place (guests o.0 c.in-Collected.number)
-    (same_origin _ _ _ c.in-Guest.ensures.origin at) in (
+    (same_origin _ _ _ c.in-Guest.ensures.item at) in (
       o.1,
       o.3.serves,
       subst (λ k. MayGive o.1.frame o.1.done k) (sym is)
@@ -132,7 +132,7 @@ returns-in-Guest-clause-turn g c = λ z w v h own.
     let at = stored_there g.Q.Port.port g.L.Device.DeviceEnd.device g.L.Driver.DriverEnd.driver law.device_end law.driver_end z
     c.args.port.now c.step.new.port c.args.state.now w v c.step.new.self _ _ _ h s in
     let is = number_is c.in-Guest.number c.in-Guest.ack_place (guests z c.in-Collected.number)
-    (same_origin _ _ _ c.in-Guest.ensures.origin at) in
+    (same_origin _ _ _ c.in-Guest.ensures.item at) in
     rw c.take.ensures.rows
     (collected g.Q.Port.port g.L.Device.DeviceEnd.device g.L.Driver.DriverEnd.driver law.device_end law.driver_end z c.args.port.now
     c.step.new.port c.args.state.now w v c.step.new.self _ _ _ c.in-Guest.number c.begin_give.new.self h s is

@@ -1,0 +1,58 @@
+//! A control queue's carrier.
+ghost use Rattle.std.specs.Prelude.{◌≡◌, ℕ, true};
+ghost use Rattle.vd_model.specs.Chains.{IsChain, readable};
+ghost use Rattle.vd_ring.specs.declared.driver.DriverView.{DriverView};
+ghost use Rattle.vd_ring.specs.History.{next_head};
+ghost use Rattle.vd_relay.specs.Accesses.{HasFree};
+ghost use Rattle.vd_relay.specs.Carrying.{IsCommandAt};
+ghost use Rattle.vd_relay.specs.Replays.{control_chain};
+
+use crate::carrier::Carrier;
+use crate::carry::{Carry, found_of};
+use vd_layout::{DriverEnd, Layout};
+use vd_model::Chain;
+
+/// It makes of each command the control chain of the shadow ring's next head, and has it in hand from then on.
+#[derive(Drop)]
+pub struct Commander {
+    pub hand: Carry,
+}
+
+/// Moves a control chain to the next head of the shadow ring: its pieces' lengths stay.
+fn to_next_head<L: Layout>(chain: &mut Chain, shadow: &L::Driver)
+    requires chain { (a : ℕ) × (b : ℕ) × IsCommandAt a b chain.old }
+    requires free { (v : DriverView) × HasFree L.layout L.Driver.driver shadow.now v }
+    ensures value { (v : DriverView) → HasFree L.layout L.Driver.driver shadow.now v
+        → chain.new ≡ control_chain (L.Driver.driver.words.command v.frame (next_head v.frame v.done))
+        (L.Driver.driver.words.ack v.frame (next_head v.frame v.done)) (readable chain.old) }
+    ensures lawful { IsChain chain.new }
+{
+    let size = shadow.size();
+    let f = shadow.features();
+    let head = shadow.next_head();
+    let command = L::command_word(size, f, head);
+    let ack = L::ack_word(size, f, head);
+    chain.set_addr(0, 8 * u64::from(command));
+    chain.set_addr(1, 8 * u64::from(ack));
+}
+
+impl<L: Layout> Carrier<L> for Commander {
+    ghost use Rattle.std.specs.Prelude.{◌≡◌, ℕ, true};
+    ghost use Rattle.vd_model.specs.Chains.{readable};
+    ghost use Rattle.vd_relay.specs.declared.carry.Carry.TheVariants.{First};
+    ghost use Rattle.vd_relay.specs.Carrying.{IsCommandAt};
+    ghost use Rattle.vd_relay.specs.Ways.{carrying};
+
+    ghost carrier = { record {
+      by = λ m way g. (n : ℕ) × (way ≡ carrying n) × (L.layout.lawful_size g.size ≡ true);
+      took = λ m number c m'. (a b : ℕ) → IsCommandAt a b c
+          → m'.hand ≡ First (record { number = number; place = a; ack_place = b; count = readable c });
+    } };
+
+    fn carry(&mut self, number: u32, chain: &mut Chain, shadow: &L::Driver) {
+        self.hand = Carry::First {
+            found: found_of(number, chain),
+        };
+        to_next_head::<L>(chain, shadow);
+    }
+}
