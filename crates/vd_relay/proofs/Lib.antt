@@ -49,4 +49,5 @@ pub mod Replaying
 pub mod ReplayWaking
 pub mod ReplayWords
 pub mod ReplayControl
+pub mod ReplayEnds
 pub mod ControlAccesses

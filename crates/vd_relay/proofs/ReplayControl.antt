@@ -315,9 +315,10 @@ module _ {Q D E : Type 0} (port : PortModel Q) (l : LayoutModel) (d : DriverMode
       let at = at_stage (Loading hd) is in
       let between = between_loaded v.done (r.next + 1) r.next got at.1 in
       next_by (λ (z : ReplayStage). ReplayTurn port l d p q r (to_next r z) x x v Worked) (r.next + 1) r.count
-      (λ more. loaded First hd place got is placed moved refl (λ z. cc z) (λ z. cc z) (λ z. cc z) (omega (arith, more, h.counted), between) (λ u. omega arith))
-      (λ last. loaded Done hd place got is placed moved refl (λ z. cc z) (λ z. cc z) (λ z. cc z) (omega (arith, last, at.0, h.counted), between)
-      (λ u. omega arith))
+      (λ more. loaded First hd place got is placed moved refl (λ z. cc z) (λ z. cc z) (λ z. cc z)
+      (omega (arith, more, h.counted), between) (λ u. omega arith))
+      (λ last. loaded Done hd place got is placed moved refl (λ z. cc z) (λ z. cc z) (λ z. cc z)
+      (omega (arith, last, at.0, h.counted), between) (λ u. omega arith))
 
 -- ---- the begin
 

@@ -206,7 +206,8 @@ module _ {Q D : Type 0} (port : PortModel Q) (l : LayoutModel) (d : DriverModel 
           };
           hears = hears_on s;
           leaves = λ on at idle. hears_still s at idle;
-        }) (λ z. absurd (cc z)) (same_grown v.done v'.done done) (worked_only act.Moved (λ z. cc z)) (once act.Moved Worked (λ z. cc z) (λ z. cc z))
+        }) (λ z. absurd (cc z)) (same_grown v.done v'.done done) (worked_only act.Moved (λ z. cc z))
+        (once act.Moved Worked (λ z. cc z) (λ z. cc z))
         (not_woken s.op act.Moved (λ z. cc z))
         (omega (arith, g.paid, owes_at d r.winding r.stage b v' off, owes_at d r.winding r.stage y v off))
 
@@ -270,7 +271,8 @@ module _ {Q D : Type 0} (port : PortModel Q) (l : LayoutModel) (d : DriverModel 
           };
           hears = λ hears z. elim s.says.2 [ inl e ↦ cc (e, hears) | inr e ↦ cc (e, hears) ];
           leaves = λ on z. absurd (cc z);
-        }) (λ z. absurd (cc z)) (offer_grown c v.done v'.done s.says.4) (handled_only (act.Offered k) (λ z. cc z)) (once (act.Offered k) Handled (λ z. cc z)
+        }) (λ z. absurd (cc z)) (offer_grown c v.done v'.done s.says.4) (handled_only (act.Offered k) (λ z. cc z))
+        (once (act.Offered k) Handled (λ z. cc z)
         (λ z. cc z)) (not_woken s.op (act.Offered k) (λ z. cc z))
         (omega (
           arith,
@@ -309,7 +311,8 @@ module _ {Q D : Type 0} (port : PortModel Q) (l : LayoutModel) (d : DriverModel 
         ) in
         made (act.Collected k n m) s (to_stage r (Loading m)) Handled
         (settled (act.Collected k n m) s (Loading m) (Collect (entry k n ∷ []) ∷ v.done) one.done sent one.idle tt
-        (ldr.stays_unarmed v s.op s.access s.got (λ z. cc (of, z)) unarmed) (λ z. absurd (cc z)) (λ z. absurd (cc z)) (λ z. cc z)) (λ z. absurd (cc z))
+        (ldr.stays_unarmed v s.op s.access s.got (λ z. cc (of, z)) unarmed) (λ z. absurd (cc z)) (λ z. absurd (cc z)) (λ z. cc z))
+        (λ z. absurd (cc z))
         (collect_grown k n v.done v'.done one.done) (handled_only (act.Collected k n m) (λ z. cc z))
         (once (act.Collected k n m) Handled (λ z. cc z) (λ z. cc z))
         (not_woken s.op (act.Collected k n m) (λ z. cc z)) (omega arith)
@@ -341,7 +344,8 @@ module _ {Q D : Type 0} (port : PortModel Q) (l : LayoutModel) (d : DriverModel 
         let unarmed : v.armed ≡ None = subst (λ (z : ReplayStage). ShadowArmed (as_stage z) (d.begun y) v.doing v.armed) e h.armed in
         made act.Nothing s (to_stage r Arming) Worked
         (settled act.Nothing s Arming v.done s.says.2 (at, h.carried, h.acked) s.says.1 tt
-        (ldr.stays_unarmed v s.op s.access s.got (λ z. cc (of, z)) unarmed) (λ z. absurd (cc z)) (λ z. absurd (cc z)) (λ z. cc z)) (λ z. absurd (cc z))
+        (ldr.stays_unarmed v s.op s.access s.got (λ z. cc (of, z)) unarmed) (λ z. absurd (cc z)) (λ z. absurd (cc z)) (λ z. cc z))
+        (λ z. absurd (cc z))
         (same_grown v.done v'.done s.says.2) (worked_only act.Nothing (λ z. cc z))
         ((λ z. absurd (cc z)), λ z. absurd (cc (off, z.1))) (not_woken s.op act.Nothing (λ z. cc z))
         (omega (
@@ -364,7 +368,8 @@ module _ {Q D : Type 0} (port : PortModel Q) (l : LayoutModel) (d : DriverModel 
         let unarmed : v.armed ≡ None = subst (λ (z : ReplayStage). ShadowArmed (as_stage z) (d.begun y) v.doing v.armed) e h.armed in
         made act.Nothing s (to_stage r Collecting) Again
         (settled act.Nothing s Collecting v.done s.says.2 (at, h.carried, h.acked) s.says.1 tt
-        (ldr.stays_unarmed v s.op s.access s.got (λ z. cc (of, z)) unarmed) (λ z. absurd (cc z)) (λ z. absurd (cc z)) (λ z. cc z)) (λ z. absurd (cc z))
+        (ldr.stays_unarmed v s.op s.access s.got (λ z. cc (of, z)) unarmed) (λ z. absurd (cc z)) (λ z. absurd (cc z)) (λ z. cc z))
+        (λ z. absurd (cc z))
         (same_grown v.done v'.done s.says.2) ((λ z. absurd (cc z)), λ z. absurd (cc z)) ((λ z. (refl, on)), λ z. refl)
         (not_woken s.op act.Nothing (λ z. cc z))
         (omega (
