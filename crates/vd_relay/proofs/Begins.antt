@@ -63,18 +63,19 @@ module _ {E D : Type 0} (e : DeviceModel E) (d : DriverModel D) (law : IsLawfulD
   few_none false = refl
   few_none true = omega arith
 
-  small : (g s : Bool) → take_owes false g s ≤ 64
-  small true s = omega arith
-  small false true = omega arith
-  small false false = omega arith
+  pub small : (winding g s : Bool) → take_owes winding g s ≤ take_owes winding false false
+  small true g s = omega arith
+  small false true s = omega arith
+  small false false true = omega arith
+  small false false false = omega arith
 
-  -- a relay that begins to carry
-  pub begun : (a : E) (c : D) (t : List (Option Origin)) (way : Way) (w : DeviceView) (v : DriverView) → e.begun a ≡ DeviceOp.idle
+  -- a relay that begins to carry, in its wind-up too, with counts that leave what is owed before a take
+  pub begun_at : (winding : Bool) (target : ℕ) (n : Counts) (a : E) (c : D) (t : List (Option Origin)) (way : Way) (w : DeviceView)
+      (v : DriverView) → KeepsPace n (take_owes winding false false) → e.begun a ≡ DeviceOp.idle
       → e.resting a ≡ false → e.armed a ≡ false → d.begun c ≡ DriverOp.idle → d.armed c ≡ false → Begins e d way a c t w v
-      → Holds e d (start way w) (record { guest = a; shadow = c; table = t; stage = stage.Taking; winding = false; target = 0 })
-      (record { accesses = 0; handled = 0; heard = 0 }) w v
-  begun a c t way w v idle awake unarmed free apart o =
-      let r : State E D = record { guest = a; shadow = c; table = t; stage = stage.Taking; winding = false; target = 0 } in
+      → Holds e d (start way w) (record { guest = a; shadow = c; table = t; stage = stage.Taking; winding = winding; target = target }) n w v
+  begun_at winding target n a c t way w v pace idle awake unarmed free apart o =
+      let r : State E D = record { guest = a; shadow = c; table = t; stage = stage.Taking; winding = winding; target = target } in
       let none : running w.done ≡ [] = nil_from_length (running w.done) (omega (arith, o.outstanding, (law.runs a w o.serves).count)) in
       let f : Free e d (start way w) r w v = record {
         serves = o.serves;
@@ -83,7 +84,7 @@ module _ {E D : Type 0} (e : DeviceModel E) (d : DriverModel D) (law : IsLawfulD
         awake = awake;
         hand = [];
         tied = tied_new w.done way v.frame v.done t none o.outstanding o.none_open o.none_sent o.none_came o.follows o.empty;
-        few = refl;
+        few = few_none winding;
         guest_idle = idle;
         shadow_idle = free;
       } in
@@ -93,12 +94,21 @@ module _ {E D : Type 0} (e : DeviceModel E) (d : DriverModel D) (law : IsLawfulD
         pace = λ i j k. omega (
           arith,
           owes_idle e d law ldr (start way w) r w v stage.Taking f,
-          small w.shown v.shown,
+          small winding w.shown v.shown,
+          pace i j k,
         );
         hears_guest = λ hears x. cc (hears, idle);
         hears_shadow = λ hears x. cc (hears, free);
-        leaves = λ on. absurd (cc on);
+        leaves = λ on at. absurd (cc at);
       }
+
+  -- a relay that begins with it
+  pub begun : (a : E) (c : D) (t : List (Option Origin)) (way : Way) (w : DeviceView) (v : DriverView) → e.begun a ≡ DeviceOp.idle
+      → e.resting a ≡ false → e.armed a ≡ false → d.begun c ≡ DriverOp.idle → d.armed c ≡ false → Begins e d way a c t w v
+      → Holds e d (start way w) (record { guest = a; shadow = c; table = t; stage = stage.Taking; winding = false; target = 0 })
+      (record { accesses = 0; handled = 0; heard = 0 }) w v
+  begun a c t way w v idle awake unarmed free apart o = begun_at false 0 (record { accesses = 0; handled = 0; heard = 0 }) a c t way w v
+      (λ i j k. omega arith) idle awake unarmed free apart o
 
   -- a new relay of a data queue
   pub opened : (a : E) (c : D) (t : List (Option Origin)) (ms : List Mapping) (w : DeviceView) (v : DriverView) → e.begun a ≡ DeviceOp.idle

@@ -49,6 +49,7 @@ pub mod Replaying
 pub mod ReplayWaking
 pub mod ReplayWords
 pub mod ReplayControl
+pub mod ReplayEnds
 pub mod ControlAccesses
 pub mod CarryPlaces
 pub mod CarryChains

@@ -1,5 +1,5 @@
 -- A replay's accesses of command and ack words.
-use Rattle.std.proofs.Common.{◌≡◌, ℕ, ◌+◌, ◌<◌, ◌≤◌, Bool, true, false, Some, None, List, [], ◌∷◌, length, refl, sym, ◌∙◌, ap, subst, arith, if◌then◌else◌}
+use Rattle.std.proofs.Common.{◌≡◌, ◌≢◌, ℕ, ◌+◌, ◌<◌, ◌≤◌, Bool, true, false, Some, None, List, [], ◌∷◌, length, refl, sym, ◌∙◌, ap, subst, arith, if◌then◌else◌}
 use Rattle.std.specs.Prelude.{slice_get, slice_set}
 use Rattle.std.specs.List.{sum_by}
 use Rattle.std.proofs.lemmas.Bool.{le-ltb}
@@ -30,10 +30,10 @@ use Rattle.vd_relay.specs.declared.counts.Turn.TheVariants.{Worked}
 use Rattle.vd_relay.specs.declared.stage.Stage.TheVariants as stage
 use Rattle.vd_relay.specs.declared.replay.Replay.{Replay}
 use Rattle.vd_relay.specs.declared.replay.ReplayStage.{ReplayStage}
-use Rattle.vd_relay.specs.declared.replay.ReplayStage.TheVariants.{First, Second, Offering, Loading, Disarming, Done}
+use Rattle.vd_relay.specs.declared.replay.ReplayStage.TheVariants.{First, Second, Offering, Loading, Hearing, Disarming, Done, Left}
 use Rattle.vd_relay.specs.Pace.{shadow_owes}
 use Rattle.vd_relay.specs.Stages.{ShadowIs, ShadowArmed, ShadowShown}
-use Rattle.vd_relay.specs.Replays.{as_stage, replay_owes, after_ack, control_chain, IsShadowRing, IsFreshShadow, HasNext, AreCarried, IsBetween, IsAt, OffersIt, Replays, ReplayTurn}
+use Rattle.vd_relay.specs.Replays.{as_stage, replay_owes, after_ack, control_chain, IsShadowRing, IsFreshShadow, HasNext, AreCarried, IsBetween, IsAt, OffersIt, Replays, ReplayHolds, ReplayTurn}
 use Rattle.vd_relay.proofs.Ops.{shadow_idle}
 use Rattle.vd_relay.proofs.ReplayStages.{next_by}
 use Rattle.vd_relay.proofs.ReplayChains.{stored_here, stored_other, acked_loaded, carried_stored, between_stored, carried_loaded, between_loaded}
@@ -115,15 +115,20 @@ module _ {Q D E : Type 0} (port : PortModel Q) (l : LayoutModel) (d : DriverMode
   control_turn : (r' : Replay) (x' : D) (a : Access) (got : ℕ) (u : DriverView) → d.side.next v op.Control a
       → port.moves p op.Control a got q
       → d.side.after v op.Control a got ≡ u → length (offers u.done) ≡ length (offers v.done)
-      → length (collects u.done) ≡ length (collects v.done) → Replays l d r' x' u
+      → length (collects u.done) ≡ length (collects v.done) → Replays l d r' x' u → (d.begun x' ≡ DriverOp.hear → ⊥) → r'.stage ≢ Hearing
       → replay_owes d r'.winding r'.stage x' u + 1 ≤ replay_owes d r.winding r.stage x v → ReplayTurn port l d p q r r' x x' v Worked
-  control_turn r' x' a got u next moved is offered collected replays paid = record {
+  control_turn r' x' a got u next moved is offered collected replays deaf calm paid = record {
     op = op.Control;
     access = a;
     got = got;
     was_next = next;
     moved = moved;
-    replays = subst (λ (z : DriverView). Replays l d r' x' z) (sym is) replays;
+    holds = subst (λ (z : DriverView). ReplayHolds l d r' x' z) (sym is) (record {
+      replays = replays;
+      hears = λ hears z. deaf hears;
+      leaves = λ on at z. calm at;
+    });
+    awake = λ z. absurd (cc z);
     grown = omega (
       arith,
       ap (λ (z : DriverView). length (offers z.done)) is,
@@ -173,7 +178,8 @@ module _ {Q D E : Type 0} (port : PortModel Q) (l : LayoutModel) (d : DriverMode
         armed = unarmed_at First is refl;
         shown = h.shown;
         disarms = λ z. absurd (cc z);
-      }) (omega (arith, ap (λ (z : ReplayStage). replay_owes d r.winding z x v) is))
+        left = λ z. absurd (cc z);
+      }) (λ z. cc (z, n.idle)) (λ z. cc z) (omega (arith, ap (λ (z : ReplayStage). replay_owes d r.winding z x v) is))
 
   -- ---- the second, and the offer
 
@@ -252,7 +258,8 @@ module _ {Q D E : Type 0} (port : PortModel Q) (l : LayoutModel) (d : DriverMode
         armed = unarmed_at Second is refl;
         shown = subst (λ o. ShadowShown o v.doing v.shown (d.left x')) (sym begun) tt;
         disarms = λ z. absurd (cc z);
-      }) (omega (
+        left = λ z. absurd (cc z);
+      }) (λ z. cc (z, begun)) (λ z. cc z) (omega (
         arith,
         few,
         ap (λ (z : ReplayStage). replay_owes d r.winding z x v) is,
@@ -275,10 +282,10 @@ module _ {Q D E : Type 0} (port : PortModel Q) (l : LayoutModel) (d : DriverMode
   head_below hd n is sized = omega (arith, (at_stage (Loading hd) is).4, sized, (lay.driver_end.sized x v h.drives).0)
 
   loaded : (st : ReplayStage) (hd place got : ℕ) → r.stage ≡ Loading hd → place ≡ d.words.ack v.frame hd
-      → port.moves p op.Control (Load place) got q → as_stage st ≡ stage.Giving → (st ≡ Disarming → ⊥)
+      → port.moves p op.Control (Load place) got q → as_stage st ≡ stage.Giving → st ≢ Disarming → st ≢ Hearing → st ≢ Left
       → IsAt st (replay r.settings) (r.next + 1) v.frame (LoadAck r.next got ∷ v.done)
-      → ((u : DriverView) → replay_owes d r.winding st x u ≤ 40) → ReplayTurn port l d p q r (to_next r st) x x v Worked
-  loaded st hd place got is placed moved giving none at owed =
+      → ((u : DriverView) → replay_owes d r.winding st x u ≤ 47) → ReplayTurn port l d p q r (to_next r st) x x v Worked
+  loaded st hd place got is placed moved giving none calm stays at owed =
       let cs = replay r.settings in
       let k = loads hd place is placed in
       let idle = idle_at (Loading hd) is refl in
@@ -299,7 +306,8 @@ module _ {Q D E : Type 0} (port : PortModel Q) (l : LayoutModel) (d : DriverMode
         armed = subst (λ z. ShadowArmed z (d.begun x) v.doing v.armed) (sym giving) (unarmed_at (Loading hd) is refl);
         shown = h.shown;
         disarms = λ z. absurd (none z);
-      }) (omega (arith, owed u, ap (λ (z : ReplayStage). replay_owes d r.winding z x v) is))
+        left = λ z. absurd (stays z);
+      }) (λ z. cc (z, idle)) calm (omega (arith, owed u, ap (λ (z : ReplayStage). replay_owes d r.winding z x v) is))
 
   pub load : (hd place got : ℕ) → r.stage ≡ Loading hd → place ≡ d.words.ack v.frame hd → port.moves p op.Control (Load place) got q
       → ReplayTurn port l d p q r (to_next r (after_ack (r.next + 1) r.count)) x x v Worked
@@ -307,8 +315,10 @@ module _ {Q D E : Type 0} (port : PortModel Q) (l : LayoutModel) (d : DriverMode
       let at = at_stage (Loading hd) is in
       let between = between_loaded v.done (r.next + 1) r.next got at.1 in
       next_by (λ (z : ReplayStage). ReplayTurn port l d p q r (to_next r z) x x v Worked) (r.next + 1) r.count
-      (λ more. loaded First hd place got is placed moved refl (λ z. cc z) (omega (arith, more, h.counted), between) (λ u. omega arith))
-      (λ last. loaded Done hd place got is placed moved refl (λ z. cc z) (omega (arith, last, at.0, h.counted), between) (λ u. omega arith))
+      (λ more. loaded First hd place got is placed moved refl (λ z. cc z) (λ z. cc z) (λ z. cc z)
+      (omega (arith, more, h.counted), between) (λ u. omega arith))
+      (λ last. loaded Done hd place got is placed moved refl (λ z. cc z) (λ z. cc z) (λ z. cc z)
+      (omega (arith, last, at.0, h.counted), between) (λ u. omega arith))
 
 -- ---- the begin
 
@@ -317,12 +327,12 @@ opened_at s count st = record { settings = s; count = count; next = 0; stage = s
 
 pub opened : {D : Type 0} (l : LayoutModel) (d : DriverModel D) (ldr : IsLawfulDriver d) (x : D) (v : DriverView) (s : Settings) (count : ℕ)
     → HasPairs s → count ≡ length (replay s) → count ≤ 4105 → IsFreshShadow l d x v
-    → Replays l d (opened_at s count (after_ack 0 count)) x v
+    → ReplayHolds l d (opened_at s count (after_ack 0 count)) x v
 opened l d ldr x v s count pairs counted few h = next_by
-    (λ (z : ReplayStage). Replays l d (opened_at s count z) x v) 0 count
-    (λ more. at First refl (λ z. cc z)
+    (λ (z : ReplayStage). ReplayHolds l d (opened_at s count z) x v) 0 count
+    (λ more. at First refl (λ z. cc z) (λ z. cc z)
     (subst (λ (o : List DriverDone). IsAt First (replay s) 0 v.frame o) (sym h.unused) (omega (arith, more, counted), none)))
-    (λ last. at Done refl (λ z. cc z)
+    (λ last. at Done refl (λ z. cc z) (λ z. cc z)
     (subst (λ (o : List DriverDone). IsAt Done (replay s) 0 v.frame o) (sym h.unused) (omega (arith, last, counted), none)))
   where
     none : IsBetween [] 0
@@ -331,20 +341,25 @@ opened l d ldr x v s count pairs counted few h = next_by
     nothing : AreCarried (replay s) v.frame []
     nothing = λ k b below is. absurd (omega (arith, below))
 
-    at : (st : ReplayStage) → as_stage st ≡ stage.Giving → (st ≡ Disarming → ⊥) → IsAt st (replay s) 0 v.frame v.done
-        → Replays l d (opened_at s count st) x v
-    at st giving never is = record {
-      drives = h.drives;
-      ring = h.ring;
-      pairs = pairs;
-      counted = counted;
-      few = few;
-      at = is;
-      carried = subst (λ (o : List DriverDone). AreCarried (replay s) v.frame o) (sym h.unused) nothing;
-      acked = λ k below. absurd (omega (arith, below));
-      op = subst (λ z. ShadowIs z (d.begun x)) (sym giving) (subst (λ o. ShadowIs stage.Giving o) (sym h.idle) tt);
-      offer = subst (λ o. OffersIt o (replay s) 0) (sym h.idle) tt;
-      armed = subst (λ z. ShadowArmed z (d.begun x) v.doing v.armed) (sym giving) (ldr.unarmed x v h.drives h.unarmed);
-      shown = subst (λ o. ShadowShown o v.doing v.shown (d.left x)) (sym h.idle) tt;
-      disarms = λ z. absurd (never z);
+    at : (st : ReplayStage) → as_stage st ≡ stage.Giving → st ≢ Disarming → st ≢ Left → IsAt st (replay s) 0 v.frame v.done
+        → ReplayHolds l d (opened_at s count st) x v
+    at st giving never stays is = record {
+      replays = record {
+        drives = h.drives;
+        ring = h.ring;
+        pairs = pairs;
+        counted = counted;
+        few = few;
+        at = is;
+        carried = subst (λ (o : List DriverDone). AreCarried (replay s) v.frame o) (sym h.unused) nothing;
+        acked = λ k below. absurd (omega (arith, below));
+        op = subst (λ z. ShadowIs z (d.begun x)) (sym giving) (subst (λ o. ShadowIs stage.Giving o) (sym h.idle) tt);
+        offer = subst (λ o. OffersIt o (replay s) 0) (sym h.idle) tt;
+        armed = subst (λ z. ShadowArmed z (d.begun x) v.doing v.armed) (sym giving) (ldr.unarmed x v h.drives h.unarmed);
+        shown = subst (λ o. ShadowShown o v.doing v.shown (d.left x)) (sym h.idle) tt;
+        disarms = λ z. absurd (never z);
+        left = λ z. absurd (stays z);
+      };
+      hears = λ hears z. cc (hears, h.idle);
+      leaves = λ on. absurd (cc on);
     }

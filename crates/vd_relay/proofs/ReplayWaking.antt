@@ -1,5 +1,5 @@
 -- A replay's arming, hearing and disarming of its shadow end, by the answer.
-use Rattle.std.proofs.Common.{◌≡◌, ◌≢◌, ℕ, ◌+◌, ◌*◌, ◌≤◌, Bool, true, false, if◌then◌else◌, refl, sym, ◌∙◌, ap, subst, arith, inl, inr}
+use Rattle.std.proofs.Common.{◌≡◌, ◌≢◌, ◌⊎◌, ℕ, ◌+◌, ◌*◌, ◌≤◌, Bool, true, false, if◌then◌else◌, refl, sym, ◌∙◌, ap, subst, arith, inl, inr}
 use Rattle.vd_words.specs.declared.access.Op.TheVariants as op
 use Rattle.vd_words.specs.Model.{PortModel}
 use Rattle.vd_ring.specs.declared.act.DriverAct.TheVariants as act
@@ -19,7 +19,7 @@ use Rattle.vd_relay.specs.declared.replay.ReplayStage.{ReplayStage}
 use Rattle.vd_relay.specs.declared.replay.ReplayStage.TheVariants.{Collecting, Arming, Hearing, Disarming}
 use Rattle.vd_relay.specs.Pace.{counted, handled, woke, shadow_owes, shadow_hears, collect_owes, take_owes, hear_owes}
 use Rattle.vd_relay.specs.Stages.{IsSome, ShadowIs, ShadowArmed, ShadowArms, ShadowHears, ShadowShown}
-use Rattle.vd_relay.specs.Replays.{as_stage, replay_owes, replay_waking, IsAt, Replays, ReplayTurn}
+use Rattle.vd_relay.specs.Replays.{as_stage, replay_owes, replay_waking, IsAt, Replays, ReplayHolds, ReplayTurn}
 use Rattle.vd_relay.proofs.ShadowGoing.{collect_most}
 use Rattle.vd_relay.proofs.ShadowTurns.{not_woken}
 use Rattle.vd_relay.proofs.Turns.{worked_only}
@@ -54,7 +54,7 @@ module _ {Q D : Type 0} (port : PortModel Q) (l : LayoutModel) (d : DriverModel 
         (subst (λ (z : ReplayStage). ShadowArmed (as_stage z) (d.begun y) v.doing v.armed) e h.armed) in
         made port l d ldr p q r x y v b h less act.Armed s (to_stage r Hearing) Worked
         (settled port l d ldr p q r x y v b h less act.Armed s Hearing v.done s.says.2 (at, h.carried, h.acked) s.says.1 tt (armed_at s arms)
-        (λ z. absurd (cc z)))
+        (λ z. absurd (cc z)) (λ z. off) (λ z. cc z)) (λ z. absurd (cc z))
         (same_grown v.done v'.done s.says.2) (worked_only act.Armed (λ z. cc z)) (once port l d ldr p q r x y v b h less act.Armed Worked
         (λ z. cc z) (λ z. cc z)) (not_woken s.op act.Armed (λ z. cc z))
         (omega (
@@ -79,7 +79,7 @@ module _ {Q D : Type 0} (port : PortModel Q) (l : LayoutModel) (d : DriverModel 
         (subst (λ (z : ReplayStage). ShadowArmed (as_stage z) (d.begun y) v.doing v.armed) e h.armed) in
         made port l d ldr p q r x y v b h less act.Armed s (to_stage r Disarming) Worked
         (settled port l d ldr p q r x y v b h less act.Armed s Disarming v.done s.says.2 (at, h.carried, h.acked) s.says.1 tt
-        (armed_at s arms) (λ z. on))
+        (armed_at s arms) (λ z. on) (λ z. absurd (cc z)) (λ z. cc z)) (λ z. absurd (cc z))
         (same_grown v.done v'.done s.says.2) (worked_only act.Armed (λ z. cc z))
         (once port l d ldr p q r x y v b h less act.Armed Worked (λ z. cc z) (λ z. cc z)) (not_woken s.op act.Armed (λ z. cc z))
         (omega (
@@ -92,21 +92,35 @@ module _ {Q D : Type 0} (port : PortModel Q) (l : LayoutModel) (d : DriverModel 
           ap {B = ℕ} (λ (z : Bool). if z then 6 else 39) on,
         ))
 
-    pub slept : IsDriverStep port d p q v y b act.Asleep → ReplayTurn port l d p q r r x b v Slept
-    slept s =
+    look_at : (s : IsDriverStep port d p q v y b act.Asleep) → v.doing ≡ now.Idle
+    look_at s = ((ldr.looks.asleep v s.op s.access s.got s.was_next).0 (sym s.is_answer)).1
+
+    -- a wind-up makes no such look: between two steps it hears none, and begins to hear none
+    pub awake_at : ReplayHolds l d r x v → (d.begun x ≡ DriverOp.idle) ⊎ (y ≡ x) → IsDriverStep port d p q v y b act.Asleep
+        → (w : Bool) → r.winding ≡ w → r.winding ≡ false
+    awake_at k was s false is = is
+    awake_at k was s true is =
+        let e : r.stage ≡ Hearing = at_hearing r.stage (subst (λ o. ShadowIs (as_stage r.stage) o) s.says.0 h.op) in
+        absurd (elim was [
+          | inl idle ↦ k.leaves is e idle
+          | inr same ↦ k.hears (ap d.begun (sym same) ∙ s.says.0) (look_at s)
+        ])
+
+    pub slept : r.winding ≡ false → IsDriverStep port d p q v y b act.Asleep → ReplayTurn port l d p q r r x b v Slept
+    slept off s =
         let v' : DriverView = d.side.after v s.op s.access s.got in
         let cs = replay r.settings in
         let e : r.stage ≡ Hearing = at_hearing r.stage (subst (λ o. ShadowIs (as_stage r.stage) o) s.says.0 h.op) in
         let at : IsAt Hearing cs r.next v.frame v.done = subst (λ (z : ReplayStage). IsAt z cs r.next v.frame v.done) e h.at in
         let hears : ShadowHears DriverOp.hear v.doing v.armed = subst (λ o. ShadowHears o v.doing v.armed) s.says.0
         (subst (λ (z : ReplayStage). ShadowArmed (as_stage z) (d.begun y) v.doing v.armed) e h.armed) in
-        let look : v.doing ≡ now.Idle = ((ldr.looks.asleep v s.op s.access s.got s.was_next).0 (sym s.is_answer)).1 in
+        let look : v.doing ≡ now.Idle = look_at s in
         let same : v' ≡ v = ldr.stays.asleep v s.op s.access s.got s.was_next (sym s.is_answer) in
         let some : IsSome v.armed = elim hears [ inl z ↦ z.1 | inr z ↦ absurd (cc (z, look)) ] in
         subst (λ (z : ReplayStage). ReplayTurn port l d p q r (to_stage r z) x b v Slept) (sym e)
         (made port l d ldr p q r x y v b h less act.Asleep s (to_stage r Hearing) Slept
         (settled port l d ldr p q r x y v b h less act.Asleep s Hearing v.done s.says.2 (at, h.carried, h.acked) s.says.1 tt
-        (subst (λ (u : DriverView). IsSome u.armed) (sym same) some) (λ z. absurd (cc z)))
+        (subst (λ (u : DriverView). IsSome u.armed) (sym same) some) (λ z. absurd (cc z)) (λ z. off) (λ z. cc z)) (λ z. off)
         (same_grown v.done v'.done s.says.2) ((λ z. refl), λ z. refl)
         (once port l d ldr p q r x y v b h less act.Asleep Slept (λ z. cc z) (λ z. cc z)) (not_woken s.op act.Asleep (λ z. cc z))
         (omega (
@@ -128,7 +142,8 @@ module _ {Q D : Type 0} (port : PortModel Q) (l : LayoutModel) (d : DriverModel 
         let v' : DriverView = d.side.after v s.op s.access s.got in
         made port l d ldr p q r x y v b h less act.Awake s (to_stage r Collecting) t
         (settled port l d ldr p q r x y v b h less act.Awake s Collecting v.done s.says.2 (at, h.carried, h.acked) s.says.1 tt
-        (ldr.stays.awake v s.op s.access s.got s.was_next (sym s.is_answer)) (λ z. absurd (cc z)))
+        (ldr.stays.awake v s.op s.access s.got s.was_next (sym s.is_answer)) (λ z. absurd (cc z)) (λ z. absurd (cc z)) (λ z. cc z))
+        (λ z. absurd (ns z))
         (omega (arith, same_grown v.done v'.done s.says.2, none)) ((λ z. absurd (ns z)), λ z. absurd (cc z))
         (once port l d ldr p q r x y v b h less act.Awake t (λ z. cc z) na) wakes
         (omega (arith, paid, none, owes_idle port l d ldr p q r x y v b h less Collecting v' refl s.says.1))

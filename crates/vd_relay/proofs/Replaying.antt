@@ -14,6 +14,7 @@ use Rattle.vd_ring.specs.declared.act.DriverAct.TheVariants as act
 use Rattle.vd_ring.specs.declared.frame.Frame.{Frame}
 use Rattle.vd_ring.specs.declared.driver.DriverDone.{DriverDone}
 use Rattle.vd_ring.specs.declared.driver.DriverDone.TheVariants.{Offer, Collect}
+use Rattle.vd_ring.specs.declared.driver.DriverNow.TheVariants as now
 use Rattle.vd_ring.specs.declared.driver.DriverView.{DriverView}
 use Rattle.vd_ring.specs.History.{entry, offers, collects, open_at, head, occurs}
 use Rattle.vd_ring.specs.Sleep.{driver_woken}
@@ -31,15 +32,16 @@ use Rattle.vd_relay.specs.declared.counts.Turn.TheVariants.{Worked, Handled, Sle
 use Rattle.vd_relay.specs.declared.stage.Stage.TheVariants as stage
 use Rattle.vd_relay.specs.declared.replay.Replay.{Replay}
 use Rattle.vd_relay.specs.declared.replay.ReplayStage.{ReplayStage}
-use Rattle.vd_relay.specs.declared.replay.ReplayStage.TheVariants.{Offering, Collecting, Loading, Arming, Disarming}
+use Rattle.vd_relay.specs.declared.replay.ReplayStage.TheVariants.{Offering, Collecting, Loading, Arming, Hearing, Disarming, Left}
 use Rattle.vd_relay.specs.Pace.{counted, handled, woke, shadow_owes, collect_owes, collecting_owes}
-use Rattle.vd_relay.specs.Stages.{ShadowIs, ShadowArmed, ShadowShown}
-use Rattle.vd_relay.specs.Replays.{is_control, as_stage, replay_owes, IsShadowRing, IsAt, OffersIt, Replays, ReplayTurn}
+use Rattle.vd_relay.specs.Stages.{ShadowIs, ShadowArmed, ShadowHears, ShadowShown}
+use Rattle.vd_relay.specs.Replays.{is_control, as_stage, replay_owes, IsShadowRing, IsAt, OffersIt, Replays, ReplayHolds, ReplayTurn}
 use Rattle.vd_relay.proofs.ShadowGoing.{went, collect_most}
 use Rattle.vd_relay.proofs.ShadowTurns.{not_woken}
+use Rattle.vd_relay.proofs.Hearings.{shadow_heard, shadow_goes_on}
 use Rattle.vd_relay.proofs.Turns.{worked_only, handled_only}
 use Rattle.vd_relay.proofs.DriverGoing.{going}
-use Rattle.vd_relay.proofs.ReplayStages.{owes_at, at_offering, at_collecting, hand_of, offers_own, offer_goes}
+use Rattle.vd_relay.proofs.ReplayStages.{owes_at, at_offering, at_collecting, at_hearing, hand_of, offers_own, offer_goes}
 use Rattle.vd_relay.proofs.ReplayChains.{Sent, moved_to, carried_offered, awaits_offered, is_number, between_collected, carried_collected}
 
 abbrev pub to_stage : Replay → ReplayStage → Replay
@@ -85,7 +87,7 @@ module _ {Q D : Type 0} (port : PortModel Q) (l : LayoutModel) (d : DriverModel 
     (v : DriverView) (b : D) (h : Replays l d r y v) (less : replay_owes d r.winding r.stage y v ≤ replay_owes d r.winding r.stage x v)
   where
     pub made : (answer : DriverAct) (s : IsDriverStep port d p q v y b answer) (r' : Replay) (t : Turn)
-        → Replays l d r' b (d.side.after v s.op s.access s.got)
+        → ReplayHolds l d r' b (d.side.after v s.op s.access s.got) → (t ≡ Slept → r.winding ≡ false)
         → length (offers (d.side.after v s.op s.access s.got).done) + length (collects (d.side.after v s.op s.access s.got).done)
         ≡ length (offers v.done) + length (collects v.done) + handled t
         → (t ≡ Slept) ↔ (answer ≡ act.Asleep) → (t ≡ Again) ↔ ((answer ≡ act.Nothing) × (r.winding ≡ true))
@@ -93,13 +95,14 @@ module _ {Q D : Type 0} (port : PortModel Q) (l : LayoutModel) (d : DriverModel 
         → replay_owes d r'.winding r'.stage b (d.side.after v s.op s.access s.got) + counted t ≤ replay_owes d r.winding r.stage y v + 64 *
         (handled t + woke t)
         → ReplayTurn port l d p q r r' x b v t
-    made answer s r' t replays grown sleeps agains wakes paid = record {
+    made answer s r' t holds awake grown sleeps agains wakes paid = record {
       op = s.op;
       access = s.access;
       got = s.got;
       was_next = s.was_next;
       moved = s.moved;
-      replays = replays;
+      holds = holds;
+      awake = awake;
       grown = grown;
       slept = subst (λ z. (t ≡ Slept) ↔ (z ≡ act.Asleep)) s.is_answer sleeps;
       again = subst (λ z. (t ≡ Again) ↔ ((z ≡ act.Nothing) × (r.winding ≡ true))) s.is_answer agains;
@@ -114,16 +117,26 @@ module _ {Q D : Type 0} (port : PortModel Q) (l : LayoutModel) (d : DriverModel 
     ring_after : (o : Op) (a : Access) (g : ℕ) → IsShadowRing l (d.side.after v o a g).frame
     ring_after o a g = subst (λ (f : Frame). IsShadowRing l f) (sym (ldr.framed v o a g)) h.ring
 
+    -- an idle end hears nothing
+    deaf : (r' : Replay) (u : DriverView) → (r'.stage ≡ Hearing → r'.winding ≡ false) → d.begun b ≡ DriverOp.idle → Replays l d r' b u
+        → ReplayHolds l d r' b u
+    deaf r' u hearing idle k = record {
+      replays = k;
+      hears = λ hears x. cc (hears, idle);
+      leaves = λ on at x. cc (on, hearing at);
+    }
+
     -- an operation has ended
     pub settled : (answer : DriverAct) (s : IsDriverStep port d p q v y b answer) (st : ReplayStage) (o' : List DriverDone)
         → (d.side.after v s.op s.access s.got).done ≡ o' → Sent st (replay r.settings) r.next v.frame o' → d.begun b ≡ DriverOp.idle
         → ShadowIs (as_stage st) DriverOp.idle
         → ShadowArmed (as_stage st) DriverOp.idle (d.side.after v s.op s.access s.got).doing (d.side.after v s.op s.access s.got).armed
-        → (st ≡ Disarming → r.winding ≡ true) → Replays l d (to_stage r st) b (d.side.after v s.op s.access s.got)
-    settled answer s st o' done sent idle is armed disarms =
+        → (st ≡ Disarming → r.winding ≡ true) → (st ≡ Hearing → r.winding ≡ false) → st ≢ Left
+        → ReplayHolds l d (to_stage r st) b (d.side.after v s.op s.access s.got)
+    settled answer s st o' done sent idle is armed disarms hearing stays =
         let v' : DriverView = d.side.after v s.op s.access s.got in
         let k = moved_to st (replay r.settings) r.next v.frame v'.frame o' v'.done (ldr.framed v s.op s.access s.got) done sent in
-        record {
+        deaf (to_stage r st) v' hearing idle (record {
           drives = s.now_stands;
           ring = ring_after s.op s.access s.got;
           pairs = h.pairs;
@@ -137,7 +150,8 @@ module _ {Q D : Type 0} (port : PortModel Q) (l : LayoutModel) (d : DriverModel 
           armed = subst (λ o. ShadowArmed (as_stage st) o v'.doing v'.armed) (sym idle) armed;
           shown = subst (λ o. ShadowShown o v'.doing v'.shown (d.left b)) (sym idle) tt;
           disarms = disarms;
-        }
+          left = λ z. absurd (stays z);
+        })
 
     pub owes_idle : (st : ReplayStage) (u : DriverView) → is_control st ≡ false → d.begun b ≡ DriverOp.idle
         → replay_owes d r.winding st b u ≡ shadow_owes r.winding (as_stage st) DriverOp.idle u.doing false u.shown (d.left b)
@@ -145,6 +159,24 @@ module _ {Q D : Type 0} (port : PortModel Q) (l : LayoutModel) (d : DriverModel 
         (d.left b)) idle
 
     -- ---- an access that ends no operation
+
+    -- the end that hears is in its disarming store then
+    hears_on : (s : IsDriverStep port d p q v y b act.Moved) → d.begun b ≡ DriverOp.hear
+        → (d.side.after v s.op s.access s.got).doing ≡ now.Idle → ⊥
+    hears_on s is idle =
+        let heard = shadow_heard (d.begun y) (d.begun b) s.says.0 is in
+        let of : s.op ≡ op.Hear = subst (λ o. IsDriverOp o s.op) heard s.of_it in
+        let at : r.stage ≡ Hearing = at_hearing r.stage (subst (λ o. ShadowIs (as_stage r.stage) o) heard h.op) in
+        let armed : ShadowHears DriverOp.hear v.doing v.armed = subst (λ o. ShadowHears o v.doing v.armed) heard
+        (subst (λ (z : ReplayStage). ShadowArmed (as_stage z) (d.begun y) v.doing v.armed) at h.armed) in
+        elim armed [
+          | inl z ↦ cc (idle, (going port d ldr p q y v b s).heard of z.0)
+          | inr z ↦ (going port d ldr p q y v b s).busy (z ∙ ap now.Disarming (sym of))
+        ]
+
+    hears_still : (s : IsDriverStep port d p q v y b act.Moved) → r.stage ≡ Hearing → d.begun b ≡ DriverOp.idle → ⊥
+    hears_still s at idle = shadow_goes_on (d.begun y) (d.begun b) s.op
+        (subst (λ (z : ReplayStage). ShadowIs (as_stage z) (d.begun y)) at h.op) s.of_it s.says.0 idle
 
     pub moved_on : is_control r.stage ≡ false → IsDriverStep port d p q v y b act.Moved → ReplayTurn port l d p q r r x b v Worked
     moved_on off s =
@@ -156,20 +188,26 @@ module _ {Q D : Type 0} (port : PortModel Q) (l : LayoutModel) (d : DriverModel 
         let k = moved_to r.stage (replay r.settings) r.next v.frame v'.frame v.done v'.done (ldr.framed v s.op s.access s.got) done
         (h.at, h.carried, h.acked) in
         made act.Moved s r Worked (record {
-          drives = s.now_stands;
-          ring = ring_after s.op s.access s.got;
-          pairs = h.pairs;
-          counted = h.counted;
-          few = h.few;
-          at = k.0;
-          carried = k.1;
-          acked = k.2;
-          op = g.is;
-          offer = offer_goes (d.begun y) (d.begun b) (replay r.settings) r.next s.says.0 h.offer;
-          armed = g.armed;
-          shown = g.shown;
-          disarms = h.disarms;
-        }) (same_grown v.done v'.done done) (worked_only act.Moved (λ z. cc z)) (once act.Moved Worked (λ z. cc z) (λ z. cc z))
+          replays = record {
+            drives = s.now_stands;
+            ring = ring_after s.op s.access s.got;
+            pairs = h.pairs;
+            counted = h.counted;
+            few = h.few;
+            at = k.0;
+            carried = k.1;
+            acked = k.2;
+            op = g.is;
+            offer = offer_goes (d.begun y) (d.begun b) (replay r.settings) r.next s.says.0 h.offer;
+            armed = g.armed;
+            shown = g.shown;
+            disarms = h.disarms;
+            left = λ z. absurd (cc (off, ap is_control z));
+          };
+          hears = hears_on s;
+          leaves = λ on at idle. hears_still s at idle;
+        }) (λ z. absurd (cc z)) (same_grown v.done v'.done done) (worked_only act.Moved (λ z. cc z))
+        (once act.Moved Worked (λ z. cc z) (λ z. cc z))
         (not_woken s.op act.Moved (λ z. cc z))
         (omega (arith, g.paid, owes_at d r.winding r.stage b v' off, owes_at d r.winding r.stage y v off))
 
@@ -215,20 +253,26 @@ module _ {Q D : Type 0} (port : PortModel Q) (l : LayoutModel) (d : DriverModel 
         let m = moved_to Collecting cs r.next v.frame v'.frame (Offer c ∷ v.done) v'.done (ldr.framed v s.op s.access s.got) s.says.4 sent in
         let i = published_is (d.begun b) s.says.2 in
         made (act.Offered k) s (to_stage r Collecting) Handled (record {
-          drives = s.now_stands;
-          ring = ring_after s.op s.access s.got;
-          pairs = h.pairs;
-          counted = h.counted;
-          few = h.few;
-          at = m.0;
-          carried = m.1;
-          acked = m.2;
-          op = i.0;
-          offer = i.1;
-          armed = ldr.stays_unarmed v s.op s.access s.got (λ z. cc (of, z)) unarmed;
-          shown = i.2 v'.doing v'.shown (d.left b);
-          disarms = λ z. absurd (cc z);
-        }) (offer_grown c v.done v'.done s.says.4) (handled_only (act.Offered k) (λ z. cc z)) (once (act.Offered k) Handled (λ z. cc z)
+          replays = record {
+            drives = s.now_stands;
+            ring = ring_after s.op s.access s.got;
+            pairs = h.pairs;
+            counted = h.counted;
+            few = h.few;
+            at = m.0;
+            carried = m.1;
+            acked = m.2;
+            op = i.0;
+            offer = i.1;
+            armed = ldr.stays_unarmed v s.op s.access s.got (λ z. cc (of, z)) unarmed;
+            shown = i.2 v'.doing v'.shown (d.left b);
+            disarms = λ z. absurd (cc z);
+            left = λ z. absurd (cc z);
+          };
+          hears = λ hears z. elim s.says.2 [ inl e ↦ cc (e, hears) | inr e ↦ cc (e, hears) ];
+          leaves = λ on z. absurd (cc z);
+        }) (λ z. absurd (cc z)) (offer_grown c v.done v'.done s.says.4) (handled_only (act.Offered k) (λ z. cc z))
+        (once (act.Offered k) Handled (λ z. cc z)
         (λ z. cc z)) (not_woken s.op (act.Offered k) (λ z. cc z))
         (omega (
           arith,
@@ -267,7 +311,8 @@ module _ {Q D : Type 0} (port : PortModel Q) (l : LayoutModel) (d : DriverModel 
         ) in
         made (act.Collected k n m) s (to_stage r (Loading m)) Handled
         (settled (act.Collected k n m) s (Loading m) (Collect (entry k n ∷ []) ∷ v.done) one.done sent one.idle tt
-        (ldr.stays_unarmed v s.op s.access s.got (λ z. cc (of, z)) unarmed) (λ z. absurd (cc z)))
+        (ldr.stays_unarmed v s.op s.access s.got (λ z. cc (of, z)) unarmed) (λ z. absurd (cc z)) (λ z. absurd (cc z)) (λ z. cc z))
+        (λ z. absurd (cc z))
         (collect_grown k n v.done v'.done one.done) (handled_only (act.Collected k n m) (λ z. cc z))
         (once (act.Collected k n m) Handled (λ z. cc z) (λ z. cc z))
         (not_woken s.op (act.Collected k n m) (λ z. cc z)) (omega arith)
@@ -299,7 +344,8 @@ module _ {Q D : Type 0} (port : PortModel Q) (l : LayoutModel) (d : DriverModel 
         let unarmed : v.armed ≡ None = subst (λ (z : ReplayStage). ShadowArmed (as_stage z) (d.begun y) v.doing v.armed) e h.armed in
         made act.Nothing s (to_stage r Arming) Worked
         (settled act.Nothing s Arming v.done s.says.2 (at, h.carried, h.acked) s.says.1 tt
-        (ldr.stays_unarmed v s.op s.access s.got (λ z. cc (of, z)) unarmed) (λ z. absurd (cc z)))
+        (ldr.stays_unarmed v s.op s.access s.got (λ z. cc (of, z)) unarmed) (λ z. absurd (cc z)) (λ z. absurd (cc z)) (λ z. cc z))
+        (λ z. absurd (cc z))
         (same_grown v.done v'.done s.says.2) (worked_only act.Nothing (λ z. cc z))
         ((λ z. absurd (cc z)), λ z. absurd (cc (off, z.1))) (not_woken s.op act.Nothing (λ z. cc z))
         (omega (
@@ -322,7 +368,8 @@ module _ {Q D : Type 0} (port : PortModel Q) (l : LayoutModel) (d : DriverModel 
         let unarmed : v.armed ≡ None = subst (λ (z : ReplayStage). ShadowArmed (as_stage z) (d.begun y) v.doing v.armed) e h.armed in
         made act.Nothing s (to_stage r Collecting) Again
         (settled act.Nothing s Collecting v.done s.says.2 (at, h.carried, h.acked) s.says.1 tt
-        (ldr.stays_unarmed v s.op s.access s.got (λ z. cc (of, z)) unarmed) (λ z. absurd (cc z)))
+        (ldr.stays_unarmed v s.op s.access s.got (λ z. cc (of, z)) unarmed) (λ z. absurd (cc z)) (λ z. absurd (cc z)) (λ z. cc z))
+        (λ z. absurd (cc z))
         (same_grown v.done v'.done s.says.2) ((λ z. absurd (cc z)), λ z. absurd (cc z)) ((λ z. (refl, on)), λ z. refl)
         (not_woken s.op act.Nothing (λ z. cc z))
         (omega (

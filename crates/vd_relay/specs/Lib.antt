@@ -7,6 +7,7 @@ pub mod Relay
 pub mod Carriers
 pub mod Moving
 pub mod Replays
+pub mod Leaving
 pub mod Accesses
 pub mod Carrying
 pub mod Commanding

@@ -8,6 +8,7 @@ use Rattle.vd_words.specs.declared.access.Op.{Op}
 use Rattle.vd_words.specs.Model.{PortModel}
 use Rattle.vd_ring.specs.declared.act.DriverAct.TheVariants as act
 use Rattle.vd_ring.specs.declared.driver.DriverDone.{DriverDone}
+use Rattle.vd_ring.specs.declared.driver.DriverNow.TheVariants as driver
 use Rattle.vd_ring.specs.declared.driver.DriverView.{DriverView}
 use Rattle.vd_ring.specs.declared.frame.Frame.{Frame}
 use Rattle.vd_ring.specs.History.{offers, collects, open_at, chain, head, next_head, free}
@@ -28,7 +29,7 @@ use Rattle.vd_relay.specs.declared.stage.Stage.TheVariants as stage
 use Rattle.vd_relay.specs.declared.replay.Replay.{Replay}
 use Rattle.vd_relay.specs.declared.replay.ReplayStage.{ReplayStage}
 use Rattle.vd_relay.specs.declared.replay.ReplayStage.TheVariants.{First, Second, Offering, Collecting, Loading, Arming, Hearing, Disarming, Done, Left}
-use Rattle.vd_relay.specs.Pace.{counted, handled, woke, shadow_owes}
+use Rattle.vd_relay.specs.Pace.{counted, handled, woke, take_owes, shadow_owes}
 use Rattle.vd_relay.specs.Stages.{ShadowIs, ShadowArmed, ShadowShown}
 
 abbrev pub is_done : ReplayStage → Bool
@@ -110,6 +111,10 @@ IsAt Disarming cs n g o = (n < length cs) × Awaits o n
 IsAt Done cs n g o = (n ≡ length cs) × IsBetween o n
 IsAt Left cs n g o = (n < length cs) × (IsBetween o n ⊎ Awaits o n)
 
+-- in the wind-up, and where nothing more can come: no chain is open, or as many are collected as were given
+abbrev pub LeavesOut : Replay → List DriverDone → Type 0
+LeavesOut r o = (r.winding ≡ true) × (IsBetween o r.next ⊎ (Awaits o r.next × (r.target ≤ length (collects o))))
+
 -- the chain on offer has as many readable bytes as the command
 abbrev pub OffersIt : DriverOp → List Command → ℕ → Type 0
 OffersIt (DriverOp.offer c) cs n = (b : Command) → slice_get cs n ≡ Some b → readable c ≡ length (spelled b)
@@ -139,6 +144,18 @@ pub record Replays {D : Type 0} (l : LayoutModel) (d : DriverModel D) (r : Repla
   pub shown : ShadowShown (d.begun x) v.doing v.shown (d.left x)
   -- only in a wind-up it disarms
   pub disarms : r.stage ≡ Disarming → r.winding ≡ true
+  -- only a wind-up leaves the rest out
+  pub left : r.stage ≡ Left → LeavesOut r v.done
+
+-- a wind-up that is to hear the bell next has begun to
+abbrev pub HearsNone : {D : Type 0} → DriverModel D → Replay → D → Type 0
+HearsNone d r x = r.winding ≡ true → r.stage ≡ Hearing → d.begun x ≡ DriverOp.idle → ⊥
+
+-- between two steps an end that hears is in its disarming store, and a wind-up is to hear no bell
+pub record ReplayHolds {D : Type 0} (l : LayoutModel) (d : DriverModel D) (r : Replay) (x : D) (v : DriverView) : Type 0 where
+  pub replays : Replays l d r x v
+  pub hears : d.begun x ≡ DriverOp.hear → v.doing ≡ driver.Idle → ⊥
+  pub leaves : HearsNone d r x
 
 -- a fresh end of such a ring
 pub record IsFreshShadow {D : Type 0} (l : LayoutModel) (d : DriverModel D) (x : D) (v : DriverView) : Type 0 where
@@ -148,13 +165,14 @@ pub record IsFreshShadow {D : Type 0} (l : LayoutModel) (d : DriverModel D) (x :
   pub idle : d.begun x ≡ DriverOp.idle
   pub unarmed : d.armed x ≡ false
 
--- how many accesses it may make until the next chain is offered or collected, or the next bell heard
+-- how many accesses it may make until the next chain is offered or collected, or the next bell heard; after the last ack, as many as
+-- a relay that begins to take
 abbrev pub replay_owes : {D : Type 0} → DriverModel D → Bool → ReplayStage → D → DriverView → ℕ
 replay_owes d winding First x v = 40
 replay_owes d winding Second x v = 39
-replay_owes d winding (Loading h) x v = 41
-replay_owes d winding Done x v = 0
-replay_owes d winding Left x v = 0
+replay_owes d winding (Loading h) x v = 48
+replay_owes d winding Done x v = take_owes false false false
+replay_owes d winding Left x v = take_owes true false false
 replay_owes d winding st x v = shadow_owes winding (as_stage st) (d.begun x) v.doing false v.shown (d.left x)
 
 -- what comes where n of so many commands were acknowledged
@@ -177,7 +195,7 @@ pub record HasNext {D : Type 0} (l : LayoutModel) (d : DriverModel D) (x : D) (v
 
 -- it stands on between two accesses, and owes no more
 pub record Winds {D : Type 0} (l : LayoutModel) (d : DriverModel D) (r r' : Replay) (x : D) (v : DriverView) : Type 0 where
-  pub replays : Replays l d r' x v
+  pub holds : ReplayHolds l d r' x v
   pub owes : replay_owes d r'.winding r'.stage x v ≤ replay_owes d r.winding r.stage x v
 
 -- the stage between two operations of a wind-up: a command that isn't offered is left out, and one that is on the ring is collected,
@@ -206,10 +224,12 @@ pub record ReplayTurn {Q D : Type 0} (port : PortModel Q) (l : LayoutModel) (d :
   pub got : ℕ
   pub was_next : d.side.next v op access
   pub moved : port.moves p op access got q
-  pub replays : Replays l d r' x' (d.side.after v op access got)
+  pub holds : ReplayHolds l d r' x' (d.side.after v op access got)
   pub grown : length (offers (d.side.after v op access got).done) + length (collects (d.side.after v op access got).done)
       ≡ length (offers v.done) + length (collects v.done) + handled t
   pub slept : (t ≡ Slept) ↔ (d.act v op access got ≡ act.Asleep)
+  -- in a wind-up it doesn't sleep
+  pub awake : t ≡ Slept → r.winding ≡ false
   -- a collect of the wind-up that shows nothing is made again, and isn't counted
   pub again : (t ≡ Again) ↔ ((d.act v op access got ≡ act.Nothing) × (r.winding ≡ true))
   pub woke : Rattle.vd_relay.specs.Pace.woke t ≡ driver_woken op (d.act v op access got)

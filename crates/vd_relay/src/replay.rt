@@ -8,7 +8,7 @@ ghost use Rattle.vd_layout.specs.Begun.{DriverOp};
 ghost use Rattle.vd_control.specs.Commands.{spelled};
 ghost use Rattle.vd_control.specs.Settings.{HasPairs, replay};
 ghost use Rattle.vd_relay.specs.declared.replay.ReplayStage.TheVariants.{First, Second, Loading, Arming};
-ghost use Rattle.vd_relay.specs.Replays.{Replays, ReplayTurn, IsSameReplay, IsFreshShadow, HasNext, Goes, after_ack, control_chain, is_done, is_over, is_control, wound, Winds, replay_waking};
+ghost use Rattle.vd_relay.specs.Replays.{Replays, ReplayHolds, ReplayTurn, IsSameReplay, IsFreshShadow, HasNext, Goes, after_ack, control_chain, replay_owes, is_done, is_over, is_control, wound, Winds, replay_waking};
 
 use crate::counts::Turn;
 use vd_commands::words_of;
@@ -138,8 +138,9 @@ impl Replay {
         ensures next { result.next ≡ 0 }
         ensures winding { result.winding ≡ false }
         ensures done { IsTrue (is_done result.stage) ↔ (length (replay settings) ≡ 0) }
-        ensures replays { (v : DriverView) → IsFreshShadow L.layout L.Driver.driver shadow.now v
-            → Replays L.layout L.Driver.driver result shadow.now v }
+        ensures holds { (v : DriverView) → IsFreshShadow L.layout L.Driver.driver shadow.now v
+            → ReplayHolds L.layout L.Driver.driver result shadow.now v }
+        ensures paid { (v : DriverView) → replay_owes L.Driver.driver result.winding result.stage shadow.now v ≤ 64 }
     {
         let _ = shadow;
         let count = replay_len(&settings);
@@ -170,7 +171,7 @@ impl Replay {
     /// From now on no command's offer is begun, and it sleeps no more.
     pub fn begin_wind_up<L: Layout>(&mut self, shadow: &L::Driver, given: u32)
         requires once { self.old.winding ≡ false }
-        ensures winds { (v : DriverView) → Replays L.layout L.Driver.driver self.old shadow.now v
+        ensures winds { (v : DriverView) → ReplayHolds L.layout L.Driver.driver self.old shadow.now v
             → Winds L.layout L.Driver.driver self.old self.new shadow.now v }
         ensures winding { self.new.winding ≡ true }
         ensures target { self.new.target ≡ given }
@@ -185,7 +186,7 @@ impl Replay {
     /// Between two operations of a wind-up a command that isn't offered is left out, and one on the ring is collected, until so many
     /// chains are collected.
     pub fn turn<L: Layout>(&mut self, shadow: &L::Driver)
-        ensures winds { (v : DriverView) → Replays L.layout L.Driver.driver self.old shadow.now v
+        ensures winds { (v : DriverView) → ReplayHolds L.layout L.Driver.driver self.old shadow.now v
             → Winds L.layout L.Driver.driver self.old self.new shadow.now v }
         ensures stage { (self.new.stage ≡ self.old.stage) ⊎ ((enough : Bool) × (self.new.stage ≡ wound self.old.stage enough)) }
         ensures arms { self.new.winding ≡ true → self.new.stage ≡ Arming → ¬ (L.Driver.driver.begun shadow.now ≡ DriverOp.idle) }
@@ -200,9 +201,9 @@ impl Replay {
     pub fn step<L: Layout, Q: Port>(&mut self, shadow: &mut L::Driver, port: &mut Q) -> Turn
         requires at { is_over self.old.stage ≡ false }
         requires arms { self.old.winding ≡ true → self.old.stage ≡ Arming → ¬ (L.Driver.driver.begun shadow.old ≡ DriverOp.idle) }
-        requires own { (v : DriverView) × Replays L.layout L.Driver.driver self.old shadow.old v
+        requires own { (v : DriverView) × ReplayHolds L.layout L.Driver.driver self.old shadow.old v
             × IsOwn Q.port L.Driver.driver.side port.old v }
-        ensures turn { (v : DriverView) → Replays L.layout L.Driver.driver self.old shadow.old v
+        ensures turn { (v : DriverView) → ReplayHolds L.layout L.Driver.driver self.old shadow.old v
             → IsOwn Q.port L.Driver.driver.side port.old v
             → ReplayTurn Q.port L.layout L.Driver.driver port.old port.new self.old self.new shadow.old shadow.new v result }
         ensures same { IsSameReplay self.old self.new }
@@ -277,6 +278,7 @@ impl Replay {
         ensures begun { (v : DriverView) → Replays L.layout L.Driver.driver self.now shadow.old v
             → Goes L.layout L.Driver.driver self.now shadow.old shadow.new v }
         ensures busy { ¬ (L.Driver.driver.begun shadow.new ≡ DriverOp.idle) }
+        ensures was { (L.Driver.driver.begun shadow.old ≡ DriverOp.idle) ⊎ (shadow.new ≡ shadow.old) }
     {
         if shadow.idle() {
             match self.stage {
@@ -292,9 +294,9 @@ impl Replay {
     fn operate<L: Layout, Q: Port>(&mut self, shadow: &mut L::Driver, port: &mut Q) -> Turn
         requires at { is_control self.old.stage ≡ false }
         requires arms { self.old.winding ≡ true → self.old.stage ≡ Arming → ¬ (L.Driver.driver.begun shadow.old ≡ DriverOp.idle) }
-        requires own { (v : DriverView) × Replays L.layout L.Driver.driver self.old shadow.old v
+        requires own { (v : DriverView) × ReplayHolds L.layout L.Driver.driver self.old shadow.old v
             × IsOwn Q.port L.Driver.driver.side port.old v }
-        ensures turn { (v : DriverView) → Replays L.layout L.Driver.driver self.old shadow.old v
+        ensures turn { (v : DriverView) → ReplayHolds L.layout L.Driver.driver self.old shadow.old v
             → IsOwn Q.port L.Driver.driver.side port.old v
             → ReplayTurn Q.port L.layout L.Driver.driver port.old port.new self.old self.new shadow.old shadow.new v result }
         ensures same { IsSameReplay self.old self.new }
