@@ -231,8 +231,8 @@ all_printed p =
       ),
     )
 
-run_entries : (p : Plan) (o : Option Script) → option_map (λ (doc : Document). close doc.0) (run (no_nodes, []) (expressions_of (values_with p o)))
-    ≡ Some (with_control o (uncontrolled p))
+run_entries : (p : Plan) (o : Option Script)
+    → option_map (λ (doc : Document). close doc.0) (run (no_nodes, []) (expressions_of (values_with p o))) ≡ Some (with_control o (uncontrolled p))
 unfolding define along_header along_dots at_key
 run_entries p None = refl
 run_entries p (Some q) = refl

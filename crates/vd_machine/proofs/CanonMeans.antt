@@ -122,7 +122,9 @@ queue_data_back most q h =
 scripts_back : (most : ℕ) (p : Plan) → list_all (fits_script most) p.queues ≡ true → scripts_of most (sorted p) ≡ Some p.queues
 unfolding scripts_of
 scripts_back most p h =
-    unseen (scripts_of most) (λ d ms. refl) p.control (uncontrolled p) ∙ rw (list_from (map queue_data p.queues)) (each_back (script_of most) queue_data (fits_script most) (queue_data_back most) p.queues h)
+    unseen (scripts_of most) (λ d ms. refl) p.control (uncontrolled p)
+    ∙ rw (list_from (map queue_data p.queues))
+    (each_back (script_of most) queue_data (fits_script most) (queue_data_back most) p.queues h)
 
 -- the rules
 

@@ -35,7 +35,8 @@ invariant_of-result-clause-uncontrolled c =
 
 pub invariant_of-result-clause-worded : goal.invariant_of-result-clause-worded
 invariant_of-result-clause-worded c =
-    few_words c.in_ok-packed.packed c.in_ok-size.size c.in_ok-features.features c.ring_count-rings.result _ c.control_count-controls.result _
+    few_words c.in_ok-packed.packed c.in_ok-size.size c.in_ok-features.features c.ring_count-rings.result _
+    c.control_count-controls.result _
     c.all_words-words.result c.are_few_words.result
     (c.ring_count-rings.ensures.value
     ∙ ap (λ ss. ring_count c.in_ok-start.start ss (length c.as_slice-6.result.now)) c.as_slice-5.ensures
@@ -81,7 +82,8 @@ returns-clause-ok c =
       range = sym c.range_of.ensures.value ∙ c.in_ok-iovas.ensures.ok;
       laid = ap (are_laid c.in_ok-iovas.iovas.first c.in_ok-iovas.iovas.last) (sym c.as_slice-4.ensures) ∙ sym c.in_ok-are_laid.ensures
           ∙ c.in_ok-keep-8.ensures.ok;
-      worded = few_words c.in_ok-packed.packed c.in_ok-size.size c.in_ok-features.features c.ring_count-rings.result _ c.control_count-controls.result _
+      worded = few_words c.in_ok-packed.packed c.in_ok-size.size c.in_ok-features.features c.ring_count-rings.result _
+          c.control_count-controls.result _
           c.all_words-words.result c.are_few_words.result
           (c.ring_count-rings.ensures.value
           ∙ ap (λ ss. ring_count c.in_ok-start.start ss (length c.as_slice-6.result.now)) c.as_slice-5.ensures
