@@ -1,5 +1,5 @@
 -- The canonical text is ASCII, and so UTF-8.
-use Rattle.std.proofs.Common.{◌≡◌, ℕ, zero, suc, ◌^◌, ◌<◌, Bool, true, false, nat_lt, List, [], ◌∷◌, ◌++◌, map, codes, decimal, IsUtf8, refl, ◌∙◌, arith}
+use Rattle.std.proofs.Common.{◌≡◌, ℕ, zero, suc, ◌^◌, ◌<◌, Bool, true, false, nat_lt, List, [], ◌∷◌, ◌++◌, map, codes, Option, Some, None, decimal, IsUtf8, refl, ◌∙◌, arith}
 use Rattle.std.specs.List.{list_all}
 use Rattle.std.specs.Char.{is_ascii_digit}
 use Rattle.std.specs.Str.{IsAscii}
@@ -7,13 +7,17 @@ use Rattle.std.proofs.lemmas.Bool.{and_parts, ltb-true}
 use Rattle.std.proofs.lemmas.Bool.Decides.{nat_tests}
 use Rattle.std.proofs.lemmas.List.Folds.{list_all-append}
 use Rattle.std.proofs.lemmas.Str.{IsUtf8-from_ascii}
+use Rattle.arrayvec.specs.ArrayVec.{ArrayVec}
 use Rattle.vd_model.specs.declared.base.Mode.{Mode}
 use Rattle.vd_model.specs.declared.base.Mode.TheVariants as mode
 use Rattle.vd_model.specs.declared.record.Run.{Run}
 use Rattle.vd_model.specs.declared.record.Script.{Script}
 use Rattle.vd_text.specs.Canonical.{run_text}
+use Rattle.vd_text.specs.Commands.{command_text}
 use Rattle.vd_text.proofs.Canonical.{decimal_digits}
-use Rattle.vd_machine.specs.Canon.{quoted, more_items, items_text, list_text, layout_name, feature_names, region_text, queue_text, mode_name, to_name, switch_text, line, lines_text, entries, canon}
+use Rattle.vd_text.proofs.CommandTexts.{command_text_passes}
+use Rattle.vd_machine.specs.Canon.{quoted, more_items, items_text, list_text, layout_name, feature_names, region_text, queue_text, mode_name, to_name, switch_text, command_item, line, lines_text, control_entries, entries, canon}
+use Rattle.vd_machine.specs.Commands.{is_lawful_command, is_lawful_control}
 use Rattle.vd_machine.specs.File.{Plan}
 use Rattle.vd_machine.specs.Queues.{most_pieces}
 use Rattle.vd_machine.specs.Regions.{is_region}
@@ -23,6 +27,7 @@ use Rattle.vd_machine.specs.declared.machine.To.{To}
 use Rattle.vd_machine.specs.declared.machine.To.TheVariants as to
 use Rattle.vd_machine.specs.declared.regions.Region.{Region}
 use Rattle.vd_machine.proofs.CanonBack.{Fits}
+use Rattle.vd_machine.proofs.CanonControl.{each_command}
 use Rattle.vd_machine.proofs.CanonSwitches.{switch_after}
 use Rattle.vd_machine.proofs.CanonStrings.{is_plain, run_is_plain}
 use Rattle.vd_machine.proofs.Fitting.{fits_run, fits_script, run_parts, script_parts, region_fits}
@@ -130,6 +135,13 @@ low_lines (e ∷ es) h =
     low_append (line e.0 e.1) (lines_text es)
     (low_append e.0 (codes " = " ++ (e.1 ++ codes "\n")) h.0 (low_append e.1 (codes "\n") h.1 refl)) (low_lines es h.2)
 
+low_command : (c : ArrayVec ℕ) → is_lawful_command c ≡ true → AreLow (command_item c)
+low_command c h = low_quoted (command_text c.items) (command_text_passes is_low refl c.items h)
+
+low_control : (o : Option Script) → is_lawful_control o ≡ true → AllLow (control_entries o)
+low_control None h = tt
+low_control (Some q) h = (refl, low_list command_item is_lawful_command low_command q.commands (each_command q h), tt)
+
 low_canon : (p : Plan) → Fits p → AreLow (canon p)
 unfolding canon
 low_canon p h =
@@ -160,7 +172,7 @@ low_canon p h =
                     (
                       refl,
                       low_list queue_text (fits_script most) (low_queue most) p.queues h.queues,
-                      (refl, low_list switch_text is_switch low_switch p.switches h.switches, tt),
+                      (refl, low_list switch_text is_switch low_switch p.switches h.switches, low_control p.control h.control),
                     ),
                   ),
                 ),

@@ -1,5 +1,5 @@
 -- The canonical text is read as the document of its machine.
-use Rattle.std.proofs.Common.{◌≡◌, ℕ, suc, ◌^◌, ◌<◌, Bool, true, false, List, [], ◌∷◌, ◌++◌, length, map, codes, pos, Some, option_map, refl, ap, sym, ◌∙◌, arith, FitsSigned}
+use Rattle.std.proofs.Common.{◌≡◌, ℕ, suc, ◌^◌, ◌<◌, Bool, true, false, List, [], ◌∷◌, ◌++◌, length, map, codes, pos, Option, Some, None, option_map, refl, ap, sym, ◌∙◌, arith, FitsSigned}
 use Rattle.std.specs.Int.{w64}
 use Rattle.std.specs.List.{list_all}
 use Rattle.std.proofs.lemmas.Int.{fits_signed_from_abs}
@@ -13,9 +13,12 @@ use Rattle.vd_model.specs.declared.features.Features.{Features}
 use Rattle.vd_model.specs.declared.record.Run.{Run}
 use Rattle.vd_model.specs.declared.record.Script.{Script}
 use Rattle.vd_text.specs.Canonical.{run_text}
-use Rattle.vd_machine.specs.Canon.{quoted, list_text, layout_name, feature_names, region_text, queue_text, mode_name, switch_text, line, lines_text, entries, canon}
+use Rattle.vd_text.specs.Commands.{command_text}
+use Rattle.vd_machine.specs.Canon.{quoted, list_text, layout_name, feature_names, region_text, queue_text, mode_name, switch_text, line, lines_text, control_entries, entries, canon}
+use Rattle.vd_machine.specs.Commands.{is_lawful_control}
 use Rattle.vd_machine.specs.File.{Plan}
 use Rattle.vd_machine.specs.declared.regions.Region.{Region}
+use Rattle.vd_machine.proofs.CanonControl.{command_data, control_values, with_control, commands_value}
 use Rattle.vd_machine.proofs.CanonStrings.{is_plain, run_is_plain}
 use Rattle.vd_machine.proofs.Fitting.{fits_run, fits_script, run_parts, script_parts, region_fits}
 use Rattle.vd_machine.specs.Queues.{most_pieces}
@@ -34,17 +37,20 @@ abbrev pub queue_data : Script → Data
 queue_data q = array (items_from (map run_data q.runs))
 
 -- the keys of a machine and their values, in the order of the text
-abbrev values : Plan → List (List ℕ × Data)
-values p =
+abbrev values_with : Plan → Option Script → List (List ℕ × Data)
+values_with p o =
     (codes "layout", string (layout_name p.packed)) ∷ (codes "size", integer (pos p.size)) ∷ (codes "features", features_data p.features)
     ∷ (codes "window", integer (pos p.window)) ∷ (codes "start", string (mode_name p.start)) ∷ (codes "iova_first", integer (pos p.first))
     ∷ (codes "iova_last", integer (pos p.last)) ∷ (codes "regions", array (items_from (map region_data p.regions)))
     ∷ (codes "queues", array (items_from (map queue_data p.queues)))
-    ∷ (codes "switches", array (items_from (map switch_data p.switches))) ∷ []
+    ∷ (codes "switches", array (items_from (map switch_data p.switches))) ∷ control_values o
 
--- its document, the keys in the order of a table
-abbrev pub sorted : Plan → Members
-sorted p =
+abbrev values : Plan → List (List ℕ × Data)
+values p = values_with p p.control
+
+-- the keys but that of the control queue, in the order of a table
+abbrev pub uncontrolled : Plan → Members
+uncontrolled p =
     member (codes "features") (features_data p.features) (member (codes "iova_first") (integer (pos p.first))
     (member (codes "iova_last") (integer (pos p.last)) (member (codes "layout") (string (layout_name p.packed))
     (member (codes "queues") (array (items_from (map queue_data p.queues)))
@@ -52,6 +58,10 @@ sorted p =
     (member (codes "size") (integer (pos p.size)) (member (codes "start") (string (mode_name p.start))
     (member (codes "switches") (array (items_from (map switch_data p.switches)))
     (member (codes "window") (integer (pos p.window)) no_members)))))))))
+
+-- its document, the keys in the order of a table
+abbrev pub sorted : Plan → Members
+sorted p = with_control p.control (uncontrolled p)
 
 -- what a machine that is written keeps
 pub record Fits (p : Plan) : Type 0 where
@@ -62,6 +72,7 @@ pub record Fits (p : Plan) : Type 0 where
   pub regions : list_all is_region p.regions ≡ true
   pub queues : list_all (fits_script (most_pieces p.features p.size)) p.queues ≡ true
   pub switches : list_all is_switch p.switches ≡ true
+  pub control : is_lawful_control p.control ≡ true
 
 fits : (n : ℕ) → n < 2 ^ 63 → FitsSigned w64 (pos n)
 fits n h = fits_signed_from_abs w64 (pos n) h
@@ -116,6 +127,11 @@ lines_by start (v ∷ vs) (e ∷ es) h =
     let bare = ap (λ (k : List ℕ). k ++ (codes " = " ++ (e.1 ++ 10 ∷ []))) (sym h.0) in
     (line e.0 e.1, lines_text es, refl, (e.1, bare, h.1), lines_by true vs es h.2)
 
+control_is_text : (o : Option Script) → is_lawful_control o ≡ true → AreTexts (control_values o) (control_entries o)
+unfolding key_text
+control_is_text None h = tt
+control_is_text (Some q) h = (refl, commands_value q h, tt)
+
 lines_are_text : (p : Plan) → Fits p → IsLinesText false false (expressions_of (values p)) (canon p)
 unfolding canon key_text
 lines_are_text p h =
@@ -146,7 +162,11 @@ lines_are_text p h =
                     (
                       refl,
                       list_value queue_data queue_text (fits_script most) (queue_is_text most) p.queues h.queues,
-                      (refl, list_value switch_data switch_text is_switch switch_value p.switches h.switches, tt),
+                      (
+                        refl,
+                        list_value switch_data switch_text is_switch switch_value p.switches h.switches,
+                        control_is_text p.control h.control,
+                      ),
                     ),
                   ),
                 ),
@@ -171,6 +191,12 @@ shallow_region r = record { depth = omega arith; dates = refl }
 shallow_queue : (q : Script) → IsShallow 1 (queue_data q)
 shallow_queue q = shallow_list run_data 0 (λ r. shallow_string (run_text r)) q.runs
 
+control_printed : (o : Option Script) → AllPrinted (expressions_of (control_values o))
+control_printed None = tt
+control_printed (Some q) =
+    let commands = shallow_list command_data 0 (λ c. shallow_string (command_text c.items)) q.commands in
+    ((refl, omega (arith, commands.depth), commands.dates), tt)
+
 all_printed : (p : Plan) → AllPrinted (expressions_of (values p))
 all_printed p =
     let features = shallow_list string 0 shallow_string (feature_names p.features) in
@@ -194,7 +220,7 @@ all_printed p =
                     (refl, omega (arith, regions.depth), regions.dates),
                     (
                       (refl, omega (arith, queues.depth), queues.dates),
-                      ((refl, omega (arith, switches.depth), switches.dates), tt),
+                      ((refl, omega (arith, switches.depth), switches.dates), control_printed p.control),
                     ),
                   ),
                 ),
@@ -205,9 +231,11 @@ all_printed p =
       ),
     )
 
-run_entries : (p : Plan) → option_map (λ (doc : Document). close doc.0) (run (no_nodes, []) (expressions_of (values p))) ≡ Some (sorted p)
+run_entries : (p : Plan) (o : Option Script)
+    → option_map (λ (doc : Document). close doc.0) (run (no_nodes, []) (expressions_of (values_with p o))) ≡ Some (with_control o (uncontrolled p))
 unfolding define along_header along_dots at_key
-run_entries p = refl
+run_entries p None = refl
+run_entries p (Some q) = refl
 
 no_bom : (p : Plan) → skip_bom (canon p) ≡ canon p
 unfolding skip_bom canon
@@ -219,4 +247,4 @@ reads p h =
     rw (no_bom p)
     (ap (option_map (λ (doc : Document). close doc.0))
     (read_lines false false (expressions_of (values p)) (canon p) (canon p) (no_nodes, []) (suc (length (canon p))) (lines_are_text p h)
-    (all_printed p) refl (omega arith)) ∙ run_entries p)
+    (all_printed p) refl (omega arith)) ∙ run_entries p p.control)

@@ -1,5 +1,5 @@
 -- The mode at the start and the switches in the canonical text: their values, and that these mean them.
-use Rattle.std.proofs.Common.{◌≡◌, ℕ, ◌<◌, ◌≤◌, true, false, nat_le, List, ◌++◌, length, get_or, drop, map, codes, pos, decimal, Some, refl, ap, sym, ◌∙◌, ◌+◌, arith, append_assoc, FitsSigned}
+use Rattle.std.proofs.Common.{◌≡◌, ℕ, ◌<◌, ◌≤◌, true, false, List, ◌++◌, length, get_or, drop, map, codes, pos, decimal, Some, refl, ap, sym, ◌∙◌, ◌+◌, arith, append_assoc, FitsSigned}
 use Rattle.std.specs.Int.{w64}
 use Rattle.std.proofs.lemmas.Bool.{leb-true}
 use Rattle.std.proofs.lemmas.Int.{fits_signed_from_abs}

@@ -1,11 +1,13 @@
 -- The parts of the canonical text are texts of values in the grammar of TOML.
-use Rattle.std.proofs.Common.{◌≡◌, ℕ, ◌+◌, ◌≤◌, Bool, true, false, List, [], ◌∷◌, ◌++◌, map, codes, pos, decimal, refl, ap, sym, arith, append_assoc, FitsSigned}
+use Rattle.std.proofs.Common.{◌≡◌, ℕ, suc, ◌+◌, ◌≤◌, ◌==◌, Bool, true, false, List, [], ◌∷◌, ◌++◌, length, map, codes, pos, decimal, Option, Some, option_map, refl, ap, sym, arith, append_assoc, FitsSigned}
 use Rattle.std.specs.Int.{w64}
 use Rattle.std.specs.List.{list_all}
-use Rattle.std.proofs.lemmas.Bool.{and_parts}
+use Rattle.std.proofs.lemmas.Bool.{and_parts, eqb-true}
 use Rattle.toml_writer.specs.Text.{key_text}
 use Rattle.toml.specs.Data.{Data, string, integer, array, table, Items, no_items, item, no_members, member, depth, items_depth, has_valid_dates, items_have_valid_dates}
 use Rattle.toml.specs.Text.{IsValueText, IsItemsText, breaks_lines}
+use Rattle.vd_text.specs.Grammar.{all_some}
+use Rattle.vd_machine.specs.Lookup.{list_of}
 use Rattle.vd_machine.specs.Canon.{quoted, more_items, items_text, list_text, region_text}
 use Rattle.vd_machine.specs.declared.regions.Region.{Region}
 use Rattle.vd_machine.proofs.CanonStrings.{is_plain, plain_text}
@@ -86,3 +88,38 @@ region_value r a s =
       refl,
       (decimal r.addr, rest, refl, (refl, a), (decimal r.size, codes " }", refl, (refl, s), refl, refl), refl),
     )
+
+-- the values of a list are read back
+
+pub list_from : (ds : List Data) → list_of (items_from ds) ≡ ds
+list_from [] = refl
+list_from (d ∷ ds) = ap (λ r. d ∷ r) (list_from ds)
+
+-- a test that each value passes
+module _ {A : Type 0} (f : A → Data) (t : Data → Bool) where
+  pub all_pass : ((a : A) → t (f a) ≡ true) → (xs : List A) → list_all t (map f xs) ≡ true
+  all_pass each [] = refl
+  all_pass each (x ∷ xs) = rw (each x) (all_pass each xs)
+
+  pub all_pass_where : (p : A → Bool) → ((a : A) → p a ≡ true → t (f a) ≡ true) → (xs : List A) → list_all p xs ≡ true
+      → list_all t (map f xs) ≡ true
+  all_pass_where p each [] h = refl
+  all_pass_where p each (x ∷ xs) h =
+      let parts = and_parts (p x) (list_all p xs) h in
+      rw (each x parts.0) (all_pass_where p each xs parts.1)
+
+-- reading back each element of a list
+pub each_back : {A : Type 0} (f : Data → Option A) (g : A → Data) (p : A → Bool) → ((a : A) → p a ≡ true → f (g a) ≡ Some a) → (xs : List A)
+    → list_all p xs ≡ true → all_some (map f (map g xs)) ≡ Some xs
+each_back f g p back [] h = refl
+each_back f g p back (x ∷ xs) h =
+    let parts = and_parts (p x) (list_all p xs) h in
+    rw (back x parts.0) (ap (option_map (λ ys. x ∷ ys)) (each_back f g p back xs parts.1))
+
+pub nothing_in : {A : Type 0} (xs : List A) → (length xs == 0) ≡ true → xs ≡ []
+nothing_in [] h = refl
+nothing_in (x ∷ xs) h = let none : length (x ∷ xs) ≡ 0 = eqb-true (length (x ∷ xs)) 0 h in absurd (omega arith)
+
+pub length_from : {A : Type 0} (g : A → Data) (xs : List A) → length (list_of (items_from (map g xs))) ≡ length xs
+length_from g [] = refl
+length_from g (x ∷ xs) = ap (λ n. suc n) (length_from g xs)

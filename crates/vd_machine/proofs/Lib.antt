@@ -1,5 +1,6 @@
 pub mod CanonAscii
 pub mod CanonBack
+pub mod CanonControl
 pub mod CanonMeans
 pub mod CanonStrings
 pub mod CanonSwitches
@@ -12,3 +13,5 @@ pub mod Laid
 pub mod Lists
 pub mod Passes
 pub mod Printed
+pub mod Rules
+pub mod Uncontrolled

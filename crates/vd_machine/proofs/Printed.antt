@@ -9,10 +9,11 @@ use Rattle.vd_machine.specs.Switches.{is_switch, are_in_order}
 use Rattle.vd_machine.specs.declared.machine.Machine.{Machine}
 use Rattle.vd_machine.proofs.CanonAscii.{canon_is_utf8}
 use Rattle.vd_machine.proofs.CanonBack.{Fits, reads, sorted}
-use Rattle.vd_machine.proofs.CanonMeans.{Keeps, means_back, breaks_none}
+use Rattle.vd_machine.proofs.CanonMeans.{Keeps, known, sorted_is_read}
 use Rattle.vd_machine.proofs.Document.{document_text}
 use Rattle.vd_machine.proofs.Facts.{size_bounds, window_bounds, region_parts, range_bounds, few_parts}
 use Rattle.vd_machine.proofs.Fitting.{scripts_fit}
+use Rattle.vd_machine.proofs.Rules.{breaks_none, means_it}
 
 nothing_of : {A : Type 0} (o : Option A) → is_none o ≡ true → o ≡ None
 nothing_of None h = refl
@@ -29,7 +30,7 @@ machine_keeps m = record {
   ranged = m.ranged;
   laid = m.laid;
   switched = m.switched;
-  uncontrolled = nothing_of m.control m.uncontrolled;
+  controlled = m.controlled;
   worded = m.worded;
 }
 
@@ -45,21 +46,24 @@ keeps_fit p h =
       regions = (region_parts p.regions h.placed).1;
       queues = h.fitted;
       switches = (and_parts (are_in_order p.switches) (list_all is_switch p.switches) h.switched).1;
+      control = h.controlled;
     }
 
 document_is : (p : Plan) → Keeps p → document (canon p) ≡ Some (sorted p)
 document_is p h = document_text (canon p) (canon_is_utf8 p (keeps_fit p h)) ∙ reads p (keeps_fit p h)
 
+-- with a control queue too
 means_canon : (p : Plan) → Keeps p → means (canon p) ≡ Some p
 unfolding means
-means_canon p h = rw (document_is p h) (ap Some (means_back p h))
+means_canon p h = rw (document_is p h) (ap Some (means_it (sorted p) p (sorted_is_read p h)))
 
-unbroken : (p : Plan) → Keeps p → first (canon p) ≡ None
+-- while the key of the commands is none that a file may have, this is so without a control queue alone
+unbroken : (p : Plan) → p.control ≡ None → Keeps p → first (canon p) ≡ None
 unfolding first first_in
-unbroken p h = rw (document_is p h) (breaks_none p h)
+unbroken p none h = rw (document_is p h) (breaks_none (sorted p) p (known p none) (sorted_is_read p h))
 
 pub printed_back : (m : Machine) → (first (canon (view m)) ≡ None) × (means (canon (view m)) ≡ Some (view m))
-printed_back m = (unbroken (view m) (machine_keeps m), means_canon (view m) (machine_keeps m))
+printed_back m = (unbroken (view m) (nothing_of m.control m.uncontrolled) (machine_keeps m), means_canon (view m) (machine_keeps m))
 
 -- what is appended in two steps
 pub then : (old mid new front rest : List ℕ) → mid ≡ old ++ front → new ≡ mid ++ rest → new ≡ old ++ (front ++ rest)

@@ -1,11 +1,13 @@
 -- The canonical text of a machine: one line for each key, in this order.
-use Rattle.std.specs.Prelude.{ℕ, Bool, if◌then◌else◌, List, [], ◌∷◌, ◌++◌, map, codes, decimal}
+use Rattle.std.specs.Prelude.{ℕ, Bool, if◌then◌else◌, Option, Some, None, List, [], ◌∷◌, ◌++◌, map, codes, decimal}
+use Rattle.arrayvec.specs.ArrayVec.{ArrayVec}
 use Rattle.vd_model.specs.declared.base.Mode.{Mode}
 use Rattle.vd_model.specs.declared.base.Mode.TheVariants as mode
 use Rattle.vd_model.specs.declared.features.Features.{Features}
 use Rattle.vd_model.specs.declared.record.Run.{Run}
 use Rattle.vd_model.specs.declared.record.Script.{Script}
 use Rattle.vd_text.specs.Canonical.{run_text}
+use Rattle.vd_text.specs.Commands.{command_text}
 use Rattle.vd_machine.specs.File.{Plan}
 use Rattle.vd_machine.specs.declared.machine.Switch.{Switch}
 use Rattle.vd_machine.specs.declared.machine.To.{To}
@@ -61,6 +63,10 @@ region_text r = codes "{ addr = " ++ (decimal r.addr ++ (codes ", size = " ++ (d
 abbrev pub queue_text : Script → List ℕ
 queue_text q = list_text (map (λ (r : Run). quoted (run_text r)) q.runs)
 
+-- the text of a command
+abbrev pub command_item : ArrayVec ℕ → List ℕ
+command_item c = quoted (command_text c.items)
+
 -- a switch with its count and its name
 abbrev pub switch_text : Switch → List ℕ
 switch_text s = codes "{ after = " ++ (decimal s.after ++ (codes ", to = " ++ (quoted (to_name s.to) ++ codes " }")))
@@ -74,6 +80,11 @@ abbrev pub lines_text : List (List ℕ × List ℕ) → List ℕ
 lines_text [] = []
 lines_text (e ∷ es) = line e.0 e.1 ++ lines_text es
 
+-- the key of the control queue, where there is one
+abbrev pub control_entries : Option Script → List (List ℕ × List ℕ)
+control_entries None = []
+control_entries (Some q) = (codes "commands", list_text (map command_item q.commands)) ∷ []
+
 -- the keys and their values
 abbrev pub entries : Plan → List (List ℕ × List ℕ)
 entries p =
@@ -81,7 +92,7 @@ entries p =
     ∷ (codes "features", list_text (map quoted (feature_names p.features))) ∷ (codes "window", decimal p.window)
     ∷ (codes "start", quoted (mode_name p.start)) ∷ (codes "iova_first", decimal p.first) ∷ (codes "iova_last", decimal p.last)
     ∷ (codes "regions", list_text (map region_text p.regions)) ∷ (codes "queues", list_text (map queue_text p.queues))
-    ∷ (codes "switches", list_text (map switch_text p.switches)) ∷ []
+    ∷ (codes "switches", list_text (map switch_text p.switches)) ∷ control_entries p.control
 
 -- the canonical text
 unfoldable pub canon : Plan → List ℕ

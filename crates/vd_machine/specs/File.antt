@@ -7,6 +7,7 @@ use Rattle.vd_model.specs.declared.base.Mode.{Mode}
 use Rattle.vd_model.specs.declared.base.Mode.TheVariants.{Pass}
 use Rattle.vd_model.specs.declared.features.Features.{Features}
 use Rattle.vd_model.specs.declared.record.Script.{Script}
+use Rattle.vd_machine.specs.Commands.{control_of, has_few_commands}
 use Rattle.vd_machine.specs.Iovas.{range_of, are_laid}
 use Rattle.vd_machine.specs.Keys.{known_keys, complete}
 use Rattle.vd_machine.specs.Queues.{most_pieces, all_write_chains, scripts_of, all_lie, few}
@@ -14,13 +15,13 @@ use Rattle.vd_machine.specs.Regions.{regions_of}
 use Rattle.vd_machine.specs.Rings.{layout_of, size_of, features_of, features_in, window_of}
 use Rattle.vd_machine.specs.Switches.{start_of, switches_of}
 use Rattle.vd_machine.specs.Types.{typed}
-use Rattle.vd_machine.specs.Words.{ring_words, ring_count, are_few_words}
+use Rattle.vd_machine.specs.Words.{ring_count, control_count, all_words, are_few_words}
 use Rattle.vd_machine.specs.declared.iovas.Iovas.{Iovas}
 use Rattle.vd_machine.specs.declared.regions.Region.{Region}
 use Rattle.vd_machine.specs.declared.machine.Machine.{Machine}
 use Rattle.vd_machine.specs.declared.machine.Switch.{Switch}
 use Rattle.vd_machine.specs.declared.machine.MachineFault.{MachineFault}
-use Rattle.vd_machine.specs.declared.machine.MachineFault.TheVariants.{M1, M2, M3, M4, M5, M6, M7, M8, M9, M10, M11, M12, M13, M14, M16, M17}
+use Rattle.vd_machine.specs.declared.machine.MachineFault.TheVariants.{M1, M2, M3, M4, M5, M6, M7, M8, M9, M10, M11, M12, M13, M14, M15, M16, M17}
 use Rattle.vd_machine.specs.declared.machine.ReadRefusal.{ReadRefusal}
 use Rattle.vd_machine.specs.declared.machine.ReadRefusal.TheVariants.{Fault, Memory}
 
@@ -92,6 +93,10 @@ scripts_in ms = unwrap_or (scripts_of (most_in ms) ms) []
 abbrev pub switches_in : Members → List Switch
 switches_in ms = unwrap_or (switches_of ms) []
 
+-- the control queue, where there is one
+abbrev pub control_in : Members → Option Script
+control_in ms = unwrap_or (control_of ms) None
+
 -- the range of iovas
 abbrev pub iovas_in : Members → Iovas
 iovas_in ms = unwrap_or (range_of ms) (record { first = 0; last = 0 })
@@ -102,10 +107,11 @@ has_iovas ms = is_some (range_of ms) && are_laid (iovas_in ms).first (iovas_in m
 
 -- its rings have no more words than there may be
 abbrev pub has_few_words : Members → Bool
-has_few_words ms = are_few_words (ring_words (packed_in ms) (size_in ms) (features_or_none ms))
+has_few_words ms = are_few_words (all_words (packed_in ms) (size_in ms) (features_or_none ms)
     (ring_count (start_in ms) (switches_in ms) (length (scripts_in ms)))
+    (control_count (is_some (control_in ms)) (switches_in ms)))
 
--- the machine that a document means: it has no control queue
+-- the machine that a document means
 unfoldable pub plan : Members → Plan
 plan ms = record {
   packed = packed_in ms;
@@ -118,10 +124,10 @@ plan ms = record {
   regions = regions_in ms;
   queues = scripts_in ms;
   switches = switches_in ms;
-  control = None;
+  control = control_in ms;
 }
 
--- whether a document breaks a rule; it has no commands, which rule 15 is about
+-- whether a document breaks a rule
 abbrev pub breaks : Members → MachineFault → Bool
 breaks ms M1 = false
 breaks ms M2 = not (known_keys ms)
@@ -135,15 +141,15 @@ breaks ms M9 = is_none (regions_of ms)
 breaks ms M10 = not (all_write_chains ms)
 breaks ms M11 = is_none (scripts_of (most_in ms) ms)
 breaks ms M12 = not (all_lie (regions_in ms) (scripts_in ms))
-breaks ms M13 = not (few (scripts_in ms))
+breaks ms M13 = not (few (scripts_in ms) && has_few_commands ms)
 breaks ms M14 = is_none (switches_of ms)
+breaks ms M15 = is_none (control_of ms)
 breaks ms M16 = not (has_iovas ms)
 breaks ms M17 = not (has_few_words ms)
-breaks ms _ = false
 
 -- the rules in their order
 abbrev pub rules : List MachineFault
-rules = M1 ∷ M2 ∷ M3 ∷ M4 ∷ M5 ∷ M6 ∷ M7 ∷ M8 ∷ M9 ∷ M10 ∷ M11 ∷ M12 ∷ M13 ∷ M14 ∷ M16 ∷ M17 ∷ []
+rules = M1 ∷ M2 ∷ M3 ∷ M4 ∷ M5 ∷ M6 ∷ M7 ∷ M8 ∷ M9 ∷ M10 ∷ M11 ∷ M12 ∷ M13 ∷ M14 ∷ M15 ∷ M16 ∷ M17 ∷ []
 
 -- the first rule that a document breaks
 unfoldable pub first_in : Members → Option MachineFault

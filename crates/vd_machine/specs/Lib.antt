@@ -1,4 +1,5 @@
 pub mod Canon
+pub mod Commands
 pub mod File
 pub mod Iovas
 pub mod Keys

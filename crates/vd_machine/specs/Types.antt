@@ -35,10 +35,10 @@ queue_is_typed d = option_map_or (list_all is_text) (list_in d) false
 
 -- the values of the file itself
 abbrev pub file_is_typed : Members → Bool
-file_is_typed ms = ((((((((is_text_at (codes "layout") ms && is_number_at (codes "size") ms) && is_list_at (codes "features") ms)
+file_is_typed ms = (((((((((is_text_at (codes "layout") ms && is_number_at (codes "size") ms) && is_list_at (codes "features") ms)
     && is_number_at (codes "window") ms) && is_text_at (codes "start") ms) && is_number_at (codes "iova_first") ms)
     && is_number_at (codes "iova_last") ms) && is_list_at (codes "regions") ms) && is_list_at (codes "queues") ms)
-    && is_list_at (codes "switches") ms
+    && is_list_at (codes "switches") ms) && is_list_at (codes "commands") ms
 
 -- each feature is a text
 abbrev pub features_are_typed : Members → Bool
@@ -56,6 +56,11 @@ queues_are_typed ms = list_all queue_is_typed (items_at (codes "queues") ms)
 abbrev pub switches_are_typed : Members → Bool
 switches_are_typed ms = list_all switch_is_typed (items_at (codes "switches") ms)
 
+-- each command is a text
+abbrev pub commands_are_typed : Members → Bool
+commands_are_typed ms = list_all is_text (items_at (codes "commands") ms)
+
 -- each value has its type
 unfoldable pub typed : Members → Bool
-typed ms = (((file_is_typed ms && features_are_typed ms) && regions_are_typed ms) && queues_are_typed ms) && switches_are_typed ms
+typed ms = ((((file_is_typed ms && features_are_typed ms) && regions_are_typed ms) && queues_are_typed ms) && switches_are_typed ms)
+    && commands_are_typed ms

@@ -1,6 +1,8 @@
 //! The machine file: what a program is to run.
 #![tactic(auto)]
 
+mod commands;
+mod control_lines;
 mod iovas;
 mod keys;
 mod limits;

@@ -1,11 +1,12 @@
 //! A machine, and why none was read.
-ghost use Rattle.std.specs.Prelude.{◌≡◌, true, false, length, is_none};
+ghost use Rattle.std.specs.Prelude.{◌≡◌, true, false, length, is_none, is_some};
+ghost use Rattle.vd_machine.specs.Commands.{is_lawful_control};
 ghost use Rattle.vd_machine.specs.Queues.{most_pieces, are_scripts, all_lie, few};
 ghost use Rattle.vd_machine.specs.Iovas.{is_range, are_laid};
 ghost use Rattle.vd_machine.specs.Regions.{are_regions};
 ghost use Rattle.vd_machine.specs.Rings.{is_lawful_size, is_window};
 ghost use Rattle.vd_machine.specs.Switches.{are_switches};
-ghost use Rattle.vd_machine.specs.Words.{ring_words, ring_count, are_few_words};
+ghost use Rattle.vd_machine.specs.Words.{ring_count, control_count, all_words, are_few_words};
 
 use crate::Region;
 use sqlite_items::Items;
@@ -64,8 +65,11 @@ pub struct Machine {
     ghost ranged: { is_range first last ≡ true },
     ghost laid: { are_laid first last regions ≡ true },
     ghost switched: { are_switches switches ≡ true },
+    ghost controlled: { is_lawful_control control ≡ true },
+    // Until a play takes commands no machine is read that has a control queue.
     ghost uncontrolled: { is_none control ≡ true },
-    ghost worded: { are_few_words (ring_words packed size features) (ring_count start switches (length queues)) ≡ true },
+    ghost worded: { are_few_words (all_words packed size features (ring_count start switches (length queues))
+        (control_count (is_some control) switches)) ≡ true },
 }
 
 /// The rule that a machine file breaks.
@@ -95,7 +99,7 @@ pub enum MachineFault {
     M11,
     /// A piece does not lie in one region.
     M12,
-    /// There are no queues, or too many queues or chains.
+    /// There are no queues, or too many queues, chains or commands.
     M13,
     /// A switch is not lawful, or there are too many.
     M14,

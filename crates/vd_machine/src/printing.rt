@@ -3,6 +3,7 @@ ghost use Rattle.std.specs.Prelude.{◌≡◌, ◌++◌, codes, decimal, map, On
 ghost use Rattle.vd_machine.specs.Canon.{canon, line, quoted, list_text, layout_name, feature_names, region_text, queue_text};
 ghost use Rattle.vd_machine.specs.File.{view, first, means};
 
+use crate::control_lines::print_control;
 use crate::listing::{feature_texts, print_queues, print_regions, push_number, push_text};
 use crate::switch_lines::{print_switch_line, start_line};
 use crate::{Machine, Region};
@@ -69,6 +70,7 @@ impl Machine {
         print_number("iova_last", self.last, out)?;
         print_region_line(self.regions.as_slice(), out)?;
         print_queue_line(self.queues.as_slice(), out)?;
-        print_switch_line(self.switches.as_slice(), out)
+        print_switch_line(self.switches.as_slice(), out)?;
+        print_control(&self.control, out)
     }
 }

@@ -4,6 +4,7 @@ ghost use Rattle.toml.specs.View.{table_view};
 ghost use Rattle.vd_machine.specs.File.{document, first, means, plan, view, first_in, Refuses, ReadsTable};
 ghost use Rattle.vd_machine.specs.declared.machine.ReadRefusal.TheVariants.{Fault, Memory};
 
+use crate::commands::{control_of, has_few_commands};
 use crate::iovas::{are_laid, range_of};
 use crate::keys::{complete, known_keys};
 use crate::limits::{all_lie, few, most_pieces};
@@ -12,7 +13,7 @@ use crate::regions::regions_of;
 use crate::rings::{features_of, layout_of, size_of, window_of};
 use crate::switches::{start_of, switches_of};
 use crate::types::typed;
-use crate::words::{are_few_words, ring_count, ring_words};
+use crate::words::{all_words, are_few_words, control_count, ring_count};
 use crate::{Machine, MachineFault, ReadRefusal};
 use std::alloc::{AllocError, Global};
 use toml::Table;
@@ -92,15 +93,18 @@ fn machine_of(alloc: Global, file: &Table) -> Result<Machine, ReadRefusal>
         MachineFault::M12,
     )?;
     keep(few(queues.as_slice()), MachineFault::M13)?;
+    keep(has_few_commands(file), MachineFault::M13)?;
     let switches = given(switches_of(alloc, file)?, MachineFault::M14)?;
+    let control = given(control_of(alloc, file)?, MachineFault::M15)?;
     let iovas = given(range_of(file), MachineFault::M16)?;
     keep(
         are_laid(alloc, iovas, regions.as_slice())?,
         MachineFault::M16,
     )?;
-    let words = ring_words(packed, size, features);
     let rings = ring_count(start, switches.as_slice(), queues.as_slice());
-    keep(are_few_words(words, rings), MachineFault::M17)?;
+    let controls = control_count(control.is_some(), switches.as_slice());
+    let words = all_words(packed, size, features, rings, controls);
+    keep(are_few_words(words), MachineFault::M17)?;
     Ok(Machine {
         packed,
         size,
@@ -112,7 +116,7 @@ fn machine_of(alloc: Global, file: &Table) -> Result<Machine, ReadRefusal>
         regions,
         queues,
         switches,
-        control: None,
+        control,
     })
 }
 

@@ -1,5 +1,6 @@
 //! Reading and printing machine files.
 mod chains;
+mod commands;
 mod documents;
 mod files;
 mod iovas;

@@ -3,7 +3,7 @@ ghost use Rattle.std.specs.Prelude.{◌≡◌, codes};
 ghost use Rattle.std.specs.List.{list_all};
 ghost use Rattle.toml.specs.View.{view, table_view};
 ghost use Rattle.vd_machine.specs.Lookup.{items_at};
-ghost use Rattle.vd_machine.specs.Types.{typed, is_number_at, is_text_at, is_list_at, file_is_typed, features_are_typed, region_is_typed, regions_are_typed, is_text, queue_is_typed, queues_are_typed};
+ghost use Rattle.vd_machine.specs.Types.{typed, is_number_at, is_text_at, is_list_at, file_is_typed, features_are_typed, region_is_typed, regions_are_typed, is_text, queue_is_typed, queues_are_typed, commands_are_typed};
 
 use crate::lookup::{items_at, list_in, member};
 use crate::switch_tables::switches_are_typed;
@@ -92,6 +92,12 @@ fn features_are_typed(file: &Table) -> bool
     all_are_texts(items_at(file, "features"))
 }
 
+fn commands_are_typed(file: &Table) -> bool
+    ensures { result ≡ commands_are_typed (table_view file.now) }
+{
+    all_are_texts(items_at(file, "commands"))
+}
+
 fn file_is_typed(file: &Table) -> bool
     ensures { result ≡ file_is_typed (table_view file.now) }
 {
@@ -105,6 +111,7 @@ fn file_is_typed(file: &Table) -> bool
         && is_list_at(file, "regions")
         && is_list_at(file, "queues")
         && is_list_at(file, "switches")
+        && is_list_at(file, "commands")
 }
 
 /// Whether each value has its type.
@@ -117,4 +124,5 @@ pub fn typed(file: &Table) -> bool
         && regions_are_typed(file)
         && queues_are_typed(file)
         && switches_are_typed(file)
+        && commands_are_typed(file)
 }

@@ -107,3 +107,51 @@ fn tells_meaning_from_bounds(rt: HostRuntime) -> Result<(), Fail> {
     assert!(rt; run.count == 3 && run.chain.pieces() == want.as_slice());
     Ok(())
 }
+
+#[test]
+fn reads_commands_and_nothing_else(rt: HostRuntime) -> Result<(), Fail> {
+    let alloc = rt.alloc();
+    // the text, and the canonical text of what it means
+    for (text, want) in [
+        ("010152540012abcd", Some("010152540012abcd")),
+        ("010152540012ABCD", Some("010152540012abcd")),
+        ("010152540012aBcD", Some("010152540012abcd")),
+        ("000001", Some("000001")),
+        ("0500ffffffffffffffff", Some("0500ffffffffffffffff")),
+        ("0500FFFFFFFFFFFFFFFF", Some("0500ffffffffffffffff")),
+        ("", None),
+        ("0101", None),
+        ("01010", None),
+        ("0000012", None),
+        ("0500fffffffffffffff", None),
+        ("0500fffffffffffffffff", None),
+        ("0500ffffffffffffffffff", None),
+        ("00000g", None),
+        ("00000G", None),
+        ("00000/", None),
+        ("00000:", None),
+        ("00000@", None),
+        ("00000`", None),
+        ("0x0001", None),
+        ("00 001", None),
+        (" 00001", None),
+        ("00000é", None),
+    ] {
+        let mut out = Vec::new(alloc);
+        let found = match read_command(text.as_bytes()) {
+            None => false,
+            Some(command) => {
+                print_command(command.as_slice(), &mut out)?;
+                true
+            }
+        };
+        assert!(rt; found == want.is_some(), "at {text}");
+        assert!(rt;
+            out.as_slice() == want.unwrap_or("").as_bytes(),
+            "text at {text}"
+        );
+    }
+    let command = read_command(b"02000fF0").ok_or("no command")?;
+    assert!(rt; command.as_slice() == [2, 0, 15, 240].as_slice());
+    Ok(())
+}
