@@ -74,8 +74,13 @@ pub(crate) fn note(
     ensures begun { begun.new.items ≡ begun.old.items ++ begun_of chain ∷ [] }
     ensures room { begun.old.room ≤ begun.new.room + 1 }
 {
-    let len = len_of(&chain);
-    let bytes = ArrayVec::new();
-    begun.push(Begun { chain, len, bytes });
+    let mut entry = Begun {
+        chain,
+        len: 0,
+        bytes: ArrayVec::new(),
+    };
+    let len = len_of(&entry.chain);
+    entry.len = len;
+    begun.push(entry);
     hold(held, Held { number, len });
 }
