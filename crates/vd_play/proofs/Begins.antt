@@ -98,7 +98,7 @@ module _ {L D E G X C : Type 0} (s : Setting D E G X C) (law : IsLawful s) (plan
       (relayed relayed' : ℕ) (guest : G) (device device1 device' : X) (end : E) (ring : ShadowRing L D E) (x : Relaying L D E)
       → to ≡ begun_at plan q (k + 1) → k < length (queue_epochs plan q) → mode_at plan k ≡ Shadow
       → (words' ≡ words) × (relayed' ≡ relayed) → still' ≡ None → relaying' ≡ Some x → still ≡ Some end → x.words ≡ ring.words
-      → Shadows s.device s.driver end ring.kit.driver ring.kit.table x.lane.relay.state x.lane.relay.counts
+      → Shadows s.device s.driver end ring.kit.driver ring.kit.table.origins x.lane.relay.state x.lane.relay.counts
       → IsNew x.lane.relay.state x.lane.relay.counts
       → IsAttach s.device s.party (shadow_order s.layout plan k q (to - length (s.party.begun device1))) None ring.kit.device device1
       device'

@@ -1,5 +1,5 @@
 -- The shadow rings that a lane keeps, once an epoch has taken its own.
-use Rattle.std.proofs.Common.{◌≡◌, ℕ, zero, suc, ◌+◌, ◌-◌, ◌<◌, ◌≤◌, Some, List, [], ◌∷◌, ◌++◌, length, take, slice_get, Option, None, inr, false, refl, ◌∙◌, ap, arith}
+use Rattle.std.proofs.Common.{◌≡◌, ℕ, zero, suc, ◌+◌, ◌-◌, ◌<◌, ◌≤◌, Some, List, [], ◌∷◌, ◌++◌, length, take, slice_get, None, inr, false, refl, ◌∙◌, ap, arith}
 use Rattle.std.proofs.lemmas.List.{length-take-le, length_push}
 use Rattle.vd_model.specs.declared.base.Mode.TheVariants.{Pass, Shadow}
 use Rattle.vd_layout.specs.Driver.{DriverModel}
@@ -11,7 +11,7 @@ use Rattle.vd_control.specs.Settings.{default, HasPairs}
 use Rattle.vd_ring.specs.declared.frame.Frame.{Frame}
 use Rattle.vd_ring.specs.Fresh.{fresh_device}
 use Rattle.vd_switch.specs.Kits.{IsKit}
-use Rattle.vd_table.specs.declared.Origin.{Origin}
+use Rattle.vd_table.specs.declared.ShadowTable.{ShadowTable}
 use Rattle.vd_machine.specs.File.{Plan}
 use Rattle.vd_play.specs.declared.floor.ShadowRing.{ShadowRing}
 use Rattle.vd_play.specs.Attaching.{removed_last}
@@ -72,7 +72,7 @@ module _ {L D E : Type 0} (d : DriverModel D) (e : DeviceModel E) (l : LayoutMod
 
 -- its device's end is at the base of a fresh ring
 pub kit_base : {D E : Type 0} (d : DriverModel D) (e : DeviceModel E) (l : LayoutModel) (size : ℕ) (f : Features) (x : D) (y : E)
-    (table : List (Option Origin)) → IsLawfulLayout d e l → IsKit d e l size f false x y table → e.base y ≡ l.fresh_base
+    (table : ShadowTable) → IsLawfulLayout d e l → IsKit d e l size f false x y table → e.base y ≡ l.fresh_base
 kit_base d e l size f x y table law kit =
     let frame : Frame = plain_frame l 0 size f false None in
     let stands = kit.ends.serves frame (record { packed = refl; size = refl; features = refl; control = refl }) in

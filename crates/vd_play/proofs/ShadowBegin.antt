@@ -96,7 +96,7 @@ module _ {L D E G X C : Type 0} (s : Setting D E G X C) (law : IsLawful s) (plan
     (more : k < length (queue_epochs plan q)) (mode : mode_at plan k ≡ Shadow)
     (p : IsStopped s plan q k 0 words end relayed guest device) (n : Renews s.party (resets plan q k) device device1)
     (kit : IsShadowRing s.driver s.device s.layout plan q k ring)
-    (shadows : Shadows s.device s.driver end ring.kit.driver ring.kit.table r c) (fresh : IsNew r c)
+    (shadows : Shadows s.device s.driver end ring.kit.driver ring.kit.table.origins r c) (fresh : IsNew r c)
     (a : IsAttach s.device s.party (shadow_order s.layout plan k q (to - length (s.party.begun device1))) None ring.kit.device device1
     device')
   where

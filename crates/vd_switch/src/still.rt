@@ -142,7 +142,7 @@ impl<L: Layout> Still<L> {
         requires few { length (V.party.begun device.old) + order.now.count < 2 ^ 32 }
         ensures { MatchResult
             result
-            (λ lane. Shadows L.Device.device L.Driver.driver self.end kit.driver kit.table lane.relay.state lane.relay.counts
+            (λ lane. Shadows L.Device.device L.Driver.driver self.end kit.driver kit.table.origins lane.relay.state lane.relay.counts
             × IsNew lane.relay.state lane.relay.counts × (lane.relay.settings ≡ self.settings)
             × IsAttach L.Device.device V.party order.now (option_copied control.entry) kit.device device.old device.new)
             (λ fault. (fault.lane.end ≡ self.end) × (fault.lane.control ≡ self.control) × (fault.lane.settings ≡ self.settings)

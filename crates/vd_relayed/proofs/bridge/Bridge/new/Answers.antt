@@ -62,7 +62,7 @@ returns g c =
         };
         outstanding = refl;
         fresh = refl;
-        empty = c.in_ok-table.ensures;
+        empty = ap (λ t. t.origins) c.in_ok-table.ensures;
       });
       script = c.boot.ensures.script ∙ c.in_ok-load.ensures.ok.1 ∙ ap Some c.in_ok-script.ensures;
       offered = c.boot.ensures.offered ∙ c.load.ensures.offered ∙ c.requires.guest.1;
@@ -123,7 +123,7 @@ invariant_of-result g c =
         };
         outstanding = refl;
         fresh = refl;
-        empty = c.in_ok-table.ensures;
+        empty = ap (λ t. t.origins) c.in_ok-table.ensures;
       });
       map = refl;
     }
