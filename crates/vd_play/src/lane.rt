@@ -26,6 +26,7 @@ pub(crate) fn suspend<L: Layout, V: Device<L>>(still: &mut Option<L::Device>, de
 
 /// The guest's turn and then, while it is attached, the device's. A device that is done is suspended. It answers how many
 /// steps were no look of a sleeper.
+#[inline(never)]
 fn pass_round<L: Layout, G: Guest<L>, V: Device<L>>(
     lane: &mut Lane<L>,
     guest: &mut G,
@@ -54,6 +55,7 @@ fn pass_round<L: Layout, G: Guest<L>, V: Device<L>>(
 }
 
 /// A turn of each live party of a lane. It answers how many steps were no look of a sleeper.
+#[inline(always)]
 pub(crate) fn lane_round<L: Layout, G: Guest<L>, V: Device<L>>(
     lane: &mut Lane<L>,
     tree: &IovaTree,

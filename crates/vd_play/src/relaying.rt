@@ -34,6 +34,7 @@ fn stop<L: Layout>(relaying: &mut Option<Relaying<L>>, still: &mut Option<L::Dev
 
 /// The guest's turn, the relay's and then, while it is attached, the device's. A device that is done is suspended, and its relay winds up;
 /// a relay that rests hands the end of the guest's ring back to the lane. It answers how many steps were no look of a sleeper.
+#[inline(always)]
 pub(crate) fn shadow_round<L: Layout, G: Guest<L>, V: Device<L>>(
     lane: &mut Lane<L>,
     tree: &IovaTree,
