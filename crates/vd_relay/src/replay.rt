@@ -7,8 +7,8 @@ ghost use Rattle.vd_ring.specs.History.{next_head};
 ghost use Rattle.vd_layout.specs.Begun.{DriverOp};
 ghost use Rattle.vd_control.specs.Commands.{spelled};
 ghost use Rattle.vd_control.specs.Settings.{HasPairs, replay};
-ghost use Rattle.vd_relay.specs.declared.replay.ReplayStage.TheVariants.{First, Second, Loading, Arming};
-ghost use Rattle.vd_relay.specs.Replays.{Replays, ReplayHolds, ReplayTurn, IsSameReplay, IsFreshShadow, HasNext, Goes, after_ack, control_chain, replay_owes, is_done, is_over, is_control, wound, Winds, replay_waking};
+ghost use Rattle.vd_relay.specs.declared.replay.ReplayStage.TheVariants.{First, Second, Loading, Arming, Hearing, Disarming};
+ghost use Rattle.vd_relay.specs.Replays.{Replays, ReplayHolds, ReplayTurn, IsSameReplay, IsAsFar, IsWound, IsFreshShadow, HasNext, Goes, after_ack, control_chain, replay_owes, is_done, is_over, is_control, wound, Winds, replay_waking};
 
 use crate::counts::Turn;
 use vd_commands::words_of;
@@ -173,6 +173,8 @@ impl Replay {
         requires once { self.old.winding ≡ false }
         ensures winds { (v : DriverView) → ReplayHolds L.layout L.Driver.driver self.old shadow.now v
             → Winds L.layout L.Driver.driver self.old self.new shadow.now v }
+        ensures stage { (self.new.stage ≡ self.old.stage) ⊎ ((self.old.stage ≡ Hearing) × (self.new.stage ≡ Disarming)) }
+        ensures far { IsAsFar self.old self.new }
         ensures winding { self.new.winding ≡ true }
         ensures target { self.new.target ≡ given }
     {
@@ -190,6 +192,11 @@ impl Replay {
             → Winds L.layout L.Driver.driver self.old self.new shadow.now v }
         ensures stage { (self.new.stage ≡ self.old.stage) ⊎ ((enough : Bool) × (self.new.stage ≡ wound self.old.stage enough)) }
         ensures arms { self.new.winding ≡ true → self.new.stage ≡ Arming → ¬ (L.Driver.driver.begun shadow.now ≡ DriverOp.idle) }
+        ensures turned { (v : DriverView) → L.Driver.driver.stands shadow.now v → self.old.winding ≡ true
+            → L.Driver.driver.begun shadow.now ≡ DriverOp.idle → IsWound self.old self.new v }
+        ensures still { self.old.winding ≡ false → self.new.stage ≡ self.old.stage }
+        ensures busy { ¬ (L.Driver.driver.begun shadow.now ≡ DriverOp.idle) → self.new.stage ≡ self.old.stage }
+        ensures far { IsAsFar self.old self.new }
         ensures same { IsSameReplay self.old self.new }
     {
         if self.winding && shadow.idle() {
