@@ -216,6 +216,10 @@ pub record Goes {D : Type 0} (l : LayoutModel) (d : DriverModel D) (r : Replay) 
   pub replays : Replays l d r x' v
   pub owes : replay_owes d r.winding r.stage x' v ≤ replay_owes d r.winding r.stage x v
 
+-- an offer is begun only with the second word
+abbrev pub BeginsOffer : {D : Type 0} → DriverModel D → ReplayStage → D → D → Type 0
+BeginsOffer d st x x' = (c : List Piece) → d.begun x' ≡ DriverOp.offer c → (st ≡ Second) ⊎ (d.begun x ≡ DriverOp.offer c)
+
 -- how much of it was acknowledged
 abbrev pub IsAsFar : Replay → Replay → Type 0
 IsAsFar r r' = (r'.settings ≡ r.settings) × (r'.count ≡ r.count) × (r'.next ≡ r.next)

@@ -1,5 +1,6 @@
 //! A replay: on a fresh shadow ring of a control queue the commands that set the settings again, one after the other.
-ghost use Rattle.std.specs.Prelude.{◌≡◌, ◌+◌, ◌<◌, ◌≤◌, ◌↔◌, ◌⊎◌, Bool, ◌∷◌, ◌*◌, ◌^◌, [], IsTrue, Some, length, true, false};
+ghost use Rattle.std.specs.Prelude.{◌≡◌, ◌+◌, ◌<◌, ◌≤◌, ◌↔◌, ◌⊎◌, Bool, ◌∷◌, ◌*◌, ◌^◌, [], IsTrue, Some, length, List, true, false};
+ghost use Rattle.vd_model.specs.declared.chain.Piece.{Piece};
 ghost use Rattle.vd_model.specs.Chains.{IsChain};
 ghost use Rattle.vd_words.specs.Own.{IsOwn};
 ghost use Rattle.vd_ring.specs.declared.driver.DriverView.{DriverView};
@@ -8,7 +9,7 @@ ghost use Rattle.vd_layout.specs.Begun.{DriverOp};
 ghost use Rattle.vd_control.specs.Commands.{spelled};
 ghost use Rattle.vd_control.specs.Settings.{HasPairs, replay};
 ghost use Rattle.vd_relay.specs.declared.replay.ReplayStage.TheVariants.{First, Second, Loading, Arming, Hearing, Disarming};
-ghost use Rattle.vd_relay.specs.Replays.{Replays, ReplayHolds, ReplayTurn, IsSameReplay, IsAsFar, IsWound, IsFreshShadow, HasNext, Goes, after_ack, control_chain, replay_owes, is_done, is_over, is_control, wound, Winds, replay_waking};
+ghost use Rattle.vd_relay.specs.Replays.{Replays, ReplayHolds, ReplayTurn, IsSameReplay, IsAsFar, IsWound, BeginsOffer, IsFreshShadow, HasNext, Goes, after_ack, control_chain, replay_owes, is_done, is_over, is_control, wound, Winds, replay_waking};
 
 use crate::counts::Turn;
 use vd_commands::words_of;
@@ -213,6 +214,7 @@ impl Replay {
         ensures turn { (v : DriverView) → ReplayHolds L.layout L.Driver.driver self.old shadow.old v
             → IsOwn Q.port L.Driver.driver.side port.old v
             → ReplayTurn Q.port L.layout L.Driver.driver port.old port.new self.old self.new shadow.old shadow.new v result }
+        ensures quiet { BeginsOffer L.Driver.driver self.old.stage shadow.old shadow.new }
         ensures same { IsSameReplay self.old self.new }
     {
         match self.stage {
@@ -285,6 +287,8 @@ impl Replay {
         ensures begun { (v : DriverView) → Replays L.layout L.Driver.driver self.now shadow.old v
             → Goes L.layout L.Driver.driver self.now shadow.old shadow.new v }
         ensures busy { ¬ (L.Driver.driver.begun shadow.new ≡ DriverOp.idle) }
+        ensures quiet { (c : List Piece) → L.Driver.driver.begun shadow.new ≡ DriverOp.offer c
+            → L.Driver.driver.begun shadow.old ≡ DriverOp.offer c }
         ensures was { (L.Driver.driver.begun shadow.old ≡ DriverOp.idle) ⊎ (shadow.new ≡ shadow.old) }
     {
         if shadow.idle() {
@@ -306,6 +310,8 @@ impl Replay {
         ensures turn { (v : DriverView) → ReplayHolds L.layout L.Driver.driver self.old shadow.old v
             → IsOwn Q.port L.Driver.driver.side port.old v
             → ReplayTurn Q.port L.layout L.Driver.driver port.old port.new self.old self.new shadow.old shadow.new v result }
+        ensures quiet { (c : List Piece) → L.Driver.driver.begun shadow.new ≡ DriverOp.offer c
+            → L.Driver.driver.begun shadow.old ≡ DriverOp.offer c }
         ensures same { IsSameReplay self.old self.new }
     {
         self.begin::<L>(shadow);
