@@ -1,5 +1,5 @@
 -- The end of a replay: the relay goes on over the same shadow end, or it leaves the guest's end as it found it.
-use Rattle.std.proofs.Common.{◌≡◌, ◌⊎◌, ℕ, ◌+◌, ◌≤◌, Bool, true, false, Option, None, List, [], ◌∷◌, ◌++◌, length, drop, map, replicate, refl, sym, ◌∙◌, ap, subst, arith, inl, inr}
+use Rattle.std.proofs.Common.{◌≡◌, ◌≢◌, ◌⊎◌, ℕ, ◌+◌, ◌≤◌, Bool, true, false, Option, None, List, [], ◌∷◌, ◌++◌, length, drop, map, replicate, if◌then◌else◌, refl, sym, ◌∙◌, ap, subst, arith, inl, inr}
 use Rattle.std.proofs.lemmas.List.{append-nil, nil_from_length}
 use Rattle.vd_ring.specs.declared.frame.Frame.{Frame}
 use Rattle.vd_ring.specs.declared.frame.Used.{Used}
@@ -24,7 +24,7 @@ use Rattle.vd_relay.specs.Ways.{Way, carrying, shift_by, came}
 use Rattle.vd_relay.specs.Pairing.{AreControls}
 use Rattle.vd_relay.specs.Relay.{Holds, Begins, HandsBack, start}
 use Rattle.vd_relay.specs.Tie.{returned}
-use Rattle.vd_relay.specs.Leaving.{IsFree, IsLeft}
+use Rattle.vd_relay.specs.Leaving.{IsFree, RestIs, IsLeft, rest_owes, leave_owes}
 use Rattle.vd_relay.specs.Replays.{Replays, IsBetween, Awaits, IsAt, LeavesOut, is_over, as_stage, replay_owes}
 use Rattle.vd_relay.proofs.Begins.{begun_at, pace_to}
 use Rattle.vd_relay.proofs.Ops.{shadow_idle}
@@ -106,6 +106,41 @@ module _ {E D : Type 0} (l : LayoutModel) (e : DeviceModel E) (d : DriverModel D
         (record { guest = a; shadow = x; table = t; stage = stage.Taking; winding = r.winding; target = r.target }) c w v
     goes_on c o none pace = begun_at e d law ldr r.winding r.target c a x t (carrying (length (offers v.done))) w v
         (λ i j k. omega (arith, over_owes o, pace i j k)) free.idle free.awake free.unarmed (over_idle o) (over_unarmed o) (begins o none)
+
+  -- whether one is open, by how many are offered and collected
+  pub over_even : is_over r.stage ≡ true → length (offers v.done) ≡ length (collects v.done) → open_at v.done ≡ []
+  over_even o even = over_is (λ z. r.stage ≡ z → open_at v.done ≡ []) r.stage o
+      (λ i is. (subst (λ (z : ReplayStage). IsAt z (replay r.settings) r.next v.frame v.done) is h.at).1.none)
+      (λ i is. elim (h.left is).1 [ inl b ↦ b.none | inr b ↦ absurd (omega (arith, even, b.0.offered, b.0.collected)) ]) refl
+
+  pub over_odd : is_over r.stage ≡ true → length (offers v.done) ≢ length (collects v.done)
+      → (r.stage ≡ Left) × (open_at v.done ≡ r.next ∷ []) × (r.target ≤ length (collects v.done))
+  over_odd o odd = over_is (λ z. r.stage ≡ z → (r.stage ≡ Left) × (open_at v.done ≡ r.next ∷ []) × (r.target ≤ length (collects v.done)))
+      r.stage o
+      (λ i is.
+      let b = (subst (λ (z : ReplayStage). IsAt z (replay r.settings) r.next v.frame v.done) is h.at).1 in
+      absurd (odd (b.offered ∙ sym b.collected)))
+      (λ i is. elim (h.left is).1 [
+        | inl b ↦ absurd (odd (b.offered ∙ sym b.collected))
+        | inr b ↦ (is, b.0.one, b.1)
+      ]) refl
+
+  -- a guest's end that is free is left next, and what is owed pays for its rest
+  pub free_left : (a : E) (w : DeviceView) → IsFree e a w → IsLeft e a w
+  free_left a w f = record {
+    serves = f.serves;
+    even = f.even;
+    op = subst (λ y. RestIs y (e.begun a)) (sym f.awake) (subst (λ b. RestIs false b) (sym f.idle) tt);
+    unarmed = law.not_armed a w f.serves f.unarmed;
+  }
+
+  pub free_owes : (a : E) (w : DeviceView) → r.stage ≡ Left → IsFree e a w → leave_owes e a ≤ replay_owes d r.winding r.stage x v
+  free_owes a w is f = omega (
+    arith,
+    ap {B = ℕ} (λ (y : Bool). if y then 0 else rest_owes (e.begun a) (e.left a)) f.awake,
+    ap (λ b. rest_owes b (e.left a)) f.idle,
+    ap (λ (z : ReplayStage). replay_owes d r.winding z x v) is,
+  )
 
   -- where one is open, as many are collected as were given: the guest's end is left, and handed back with what stood there before
   pub hands_back : (a : E) (w0 w : DeviceView) → r.stage ≡ Left → open_at v.done ≡ r.next ∷ [] → IsLeft e a w → e.resting a ≡ true

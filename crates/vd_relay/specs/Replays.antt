@@ -1,6 +1,6 @@
 -- A replay on a fresh shadow ring of a control queue: the commands of a list, one after the other, each offered, collected and its ack
 -- loaded before the next. Lists of acts have the newest first.
-use Rattle.std.specs.Prelude.{◌≡◌, ◌↔◌, ◌⊎◌, ℕ, ◌+◌, ◌*◌, ◌<◌, ◌≤◌, Bool, true, false, Some, None, IsSome, List, [], ◌∷◌, length, slice_get, nat_lt, if◌then◌else◌}
+use Rattle.std.specs.Prelude.{◌≡◌, ◌↔◌, ◌⊎◌, ℕ, ◌+◌, ◌*◌, ◌<◌, ◌≤◌, Bool, true, false, IsTrue, Some, None, IsSome, List, [], ◌∷◌, length, slice_get, nat_lt, if◌then◌else◌}
 use Rattle.vd_model.specs.declared.chain.Piece.{Piece}
 use Rattle.vd_model.specs.Chains.{readable}
 use Rattle.vd_words.specs.declared.access.Access.{Access}
@@ -207,10 +207,22 @@ wound Collecting enough = if enough then Left else Collecting
 wound Arming enough = if enough then Left else Collecting
 wound st enough = st
 
+-- what comes next, by whether as many are collected as were given
+abbrev pub IsWound : Replay → Replay → DriverView → Type 0
+IsWound r r' v = (enough : Bool) × (IsTrue enough ↔ (r.target ≤ length (collects v.done))) × (r'.stage ≡ wound r.stage enough)
+
 -- its end has begun an operation; it owes no more
 pub record Goes {D : Type 0} (l : LayoutModel) (d : DriverModel D) (r : Replay) (x x' : D) (v : DriverView) : Type 0 where
   pub replays : Replays l d r x' v
   pub owes : replay_owes d r.winding r.stage x' v ≤ replay_owes d r.winding r.stage x v
+
+-- an offer is begun only with the second word
+abbrev pub BeginsOffer : {D : Type 0} → DriverModel D → ReplayStage → D → D → Type 0
+BeginsOffer d st x x' = (c : List Piece) → d.begun x' ≡ DriverOp.offer c → (st ≡ Second) ⊎ (d.begun x ≡ DriverOp.offer c)
+
+-- how much of it was acknowledged
+abbrev pub IsAsFar : Replay → Replay → Type 0
+IsAsFar r r' = (r'.settings ≡ r.settings) × (r'.count ≡ r.count) × (r'.next ≡ r.next)
 
 -- what is replayed, and how much of it
 abbrev pub IsSameReplay : Replay → Replay → Type 0

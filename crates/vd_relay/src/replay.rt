@@ -1,5 +1,6 @@
 //! A replay: on a fresh shadow ring of a control queue the commands that set the settings again, one after the other.
-ghost use Rattle.std.specs.Prelude.{◌≡◌, ◌+◌, ◌<◌, ◌≤◌, ◌↔◌, ◌⊎◌, Bool, ◌∷◌, ◌*◌, ◌^◌, [], IsTrue, Some, length, true, false};
+ghost use Rattle.std.specs.Prelude.{◌≡◌, ◌+◌, ◌<◌, ◌≤◌, ◌↔◌, ◌⊎◌, Bool, ◌∷◌, ◌*◌, ◌^◌, [], IsTrue, Some, length, List, true, false};
+ghost use Rattle.vd_model.specs.declared.chain.Piece.{Piece};
 ghost use Rattle.vd_model.specs.Chains.{IsChain};
 ghost use Rattle.vd_words.specs.Own.{IsOwn};
 ghost use Rattle.vd_ring.specs.declared.driver.DriverView.{DriverView};
@@ -7,8 +8,8 @@ ghost use Rattle.vd_ring.specs.History.{next_head};
 ghost use Rattle.vd_layout.specs.Begun.{DriverOp};
 ghost use Rattle.vd_control.specs.Commands.{spelled};
 ghost use Rattle.vd_control.specs.Settings.{HasPairs, replay};
-ghost use Rattle.vd_relay.specs.declared.replay.ReplayStage.TheVariants.{First, Second, Loading, Arming};
-ghost use Rattle.vd_relay.specs.Replays.{Replays, ReplayHolds, ReplayTurn, IsSameReplay, IsFreshShadow, HasNext, Goes, after_ack, control_chain, replay_owes, is_done, is_over, is_control, wound, Winds, replay_waking};
+ghost use Rattle.vd_relay.specs.declared.replay.ReplayStage.TheVariants.{First, Second, Loading, Arming, Hearing, Disarming};
+ghost use Rattle.vd_relay.specs.Replays.{Replays, ReplayHolds, ReplayTurn, IsSameReplay, IsAsFar, IsWound, BeginsOffer, IsFreshShadow, HasNext, Goes, after_ack, control_chain, replay_owes, is_done, is_over, is_control, wound, Winds, replay_waking};
 
 use crate::counts::Turn;
 use vd_commands::words_of;
@@ -173,6 +174,8 @@ impl Replay {
         requires once { self.old.winding ≡ false }
         ensures winds { (v : DriverView) → ReplayHolds L.layout L.Driver.driver self.old shadow.now v
             → Winds L.layout L.Driver.driver self.old self.new shadow.now v }
+        ensures stage { (self.new.stage ≡ self.old.stage) ⊎ ((self.old.stage ≡ Hearing) × (self.new.stage ≡ Disarming)) }
+        ensures far { IsAsFar self.old self.new }
         ensures winding { self.new.winding ≡ true }
         ensures target { self.new.target ≡ given }
     {
@@ -190,6 +193,11 @@ impl Replay {
             → Winds L.layout L.Driver.driver self.old self.new shadow.now v }
         ensures stage { (self.new.stage ≡ self.old.stage) ⊎ ((enough : Bool) × (self.new.stage ≡ wound self.old.stage enough)) }
         ensures arms { self.new.winding ≡ true → self.new.stage ≡ Arming → ¬ (L.Driver.driver.begun shadow.now ≡ DriverOp.idle) }
+        ensures turned { (v : DriverView) → L.Driver.driver.stands shadow.now v → self.old.winding ≡ true
+            → L.Driver.driver.begun shadow.now ≡ DriverOp.idle → IsWound self.old self.new v }
+        ensures still { self.old.winding ≡ false → self.new.stage ≡ self.old.stage }
+        ensures busy { ¬ (L.Driver.driver.begun shadow.now ≡ DriverOp.idle) → self.new.stage ≡ self.old.stage }
+        ensures far { IsAsFar self.old self.new }
         ensures same { IsSameReplay self.old self.new }
     {
         if self.winding && shadow.idle() {
@@ -206,6 +214,7 @@ impl Replay {
         ensures turn { (v : DriverView) → ReplayHolds L.layout L.Driver.driver self.old shadow.old v
             → IsOwn Q.port L.Driver.driver.side port.old v
             → ReplayTurn Q.port L.layout L.Driver.driver port.old port.new self.old self.new shadow.old shadow.new v result }
+        ensures quiet { BeginsOffer L.Driver.driver self.old.stage shadow.old shadow.new }
         ensures same { IsSameReplay self.old self.new }
     {
         match self.stage {
@@ -278,6 +287,8 @@ impl Replay {
         ensures begun { (v : DriverView) → Replays L.layout L.Driver.driver self.now shadow.old v
             → Goes L.layout L.Driver.driver self.now shadow.old shadow.new v }
         ensures busy { ¬ (L.Driver.driver.begun shadow.new ≡ DriverOp.idle) }
+        ensures quiet { (c : List Piece) → L.Driver.driver.begun shadow.new ≡ DriverOp.offer c
+            → L.Driver.driver.begun shadow.old ≡ DriverOp.offer c }
         ensures was { (L.Driver.driver.begun shadow.old ≡ DriverOp.idle) ⊎ (shadow.new ≡ shadow.old) }
     {
         if shadow.idle() {
@@ -299,6 +310,8 @@ impl Replay {
         ensures turn { (v : DriverView) → ReplayHolds L.layout L.Driver.driver self.old shadow.old v
             → IsOwn Q.port L.Driver.driver.side port.old v
             → ReplayTurn Q.port L.layout L.Driver.driver port.old port.new self.old self.new shadow.old shadow.new v result }
+        ensures quiet { (c : List Piece) → L.Driver.driver.begun shadow.new ≡ DriverOp.offer c
+            → L.Driver.driver.begun shadow.old ≡ DriverOp.offer c }
         ensures same { IsSameReplay self.old self.new }
     {
         self.begin::<L>(shadow);
