@@ -58,3 +58,5 @@ pub mod CarryTies
 pub mod CarryWords
 pub mod CarryAcks
 pub mod CarryTurns
+pub mod CarryTakes
+pub mod CarryRows
