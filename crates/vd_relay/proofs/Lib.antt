@@ -60,3 +60,4 @@ pub mod CarryAcks
 pub mod CarryTurns
 pub mod CarryTakes
 pub mod CarryRows
+pub mod CarryHanded
