@@ -33,7 +33,7 @@ chain_taken : (s : List DeviceDone) (c : List Piece) (h j : ℕ) → j < length 
     → chain_at (takes (Take c h ∷ s)) j ≡ chain_at (takes s) j
 chain_taken s c h j below = get_or_append_left (takes s) (c ∷ []) [] j below
 
-head_taken : (s : List DeviceDone) (c : List Piece) (h j : ℕ) → length (heads s) ≡ length (takes s) → j < length (takes s)
+pub head_taken : (s : List DeviceDone) (c : List Piece) (h j : ℕ) → length (heads s) ≡ length (takes s) → j < length (takes s)
     → taken_head (Take c h ∷ s) j ≡ taken_head s j
 head_taken s c h j even below = get_or_append_left (heads s) (h ∷ []) 0 j (omega (arith, even, below))
 

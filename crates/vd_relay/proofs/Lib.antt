@@ -61,3 +61,4 @@ pub mod CarryTurns
 pub mod CarryTakes
 pub mod CarryRows
 pub mod CarryHanded
+pub mod CarryKept
