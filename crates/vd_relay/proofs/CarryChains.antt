@@ -32,7 +32,7 @@ pub has_free : {E D : Type 0} (l : LayoutModel) (d : DriverModel D) (e : DeviceM
 has_free l d e lay x f v drives paired sized room =
     record { drives = drives; ring = shadow_ring l d e lay x f v drives paired sized; room = room }
 
-readable_is : (at_command at_ack : ℕ) (c : List Piece) (h : IsControlChain at_command at_ack c) → readable c ≡ h.len
+pub readable_is : (at_command at_ack : ℕ) (c : List Piece) (h : IsControlChain at_command at_ack c) → readable c ≡ h.len
 readable_is at_command at_ack c h = ap (λ (x : List Piece). readable x) h.is ∙ count at_command at_ack h.len
   where
     count : (a b n : ℕ) → readable (control_chain a b n) ≡ n

@@ -53,13 +53,9 @@ module _ {E D : Type 0} (l : LayoutModel) (d : DriverModel D) (e : DeviceModel E
         )),
       )
 
+  pub is_command_at : (c : List Piece) → IsTaken e.words w.frame w.done c head
+      → IsCommandAt (e.words.command w.frame head) (e.words.ack w.frame head) c
+  is_command_at c t = record { chain = t.control control; low = command_low; ack_low = ack_low }
+
   pub command_at : (c : List Piece) → IsTaken e.words w.frame w.done c head → (a : ℕ) × (b : ℕ) × IsCommandAt a b c
-  command_at c t = (
-    e.words.command w.frame head,
-    e.words.ack w.frame head,
-    record {
-      chain = t.control control;
-      low = command_low;
-      ack_low = ack_low;
-    },
-  )
+  command_at c t = (e.words.command w.frame head, e.words.ack w.frame head, is_command_at c t)

@@ -52,11 +52,11 @@ module _ {E D : Type 0} (l : LayoutModel) (e : DeviceModel E) (d : DriverModel D
   to_offer w v number h = inl (number, next_head v.frame v.done, h.stage)
 
   -- the number of the command in hand
-  number_is : (w : DeviceView) (v : DriverView) (number : ℕ) → Stands e d (carries z) r w v → IsToOffer e d r w v number
+  pub number_is : (w : DeviceView) (v : DriverView) (number : ℕ) → Stands e d (carries z) r w v → IsToOffer e d r w v number
       → number ≡ guests (carries z) (length (offers v.done))
   number_is w v number h o = (subst (λ (x : Stage). OfferIs x (guests (carries z)) v.frame v.done) o.stage h.offer).0
 
-  all_carried : IsLawfulDriver d → (w : DeviceView) (v : DriverView) → Stands e d (carries z) r w v → (k : ℕ)
+  pub all_carried : IsLawfulDriver d → (w : DeviceView) (v : DriverView) → Stands e d (carries z) r w v → (k : ℕ)
       → 1 ≤ occurs k (open_at v.done) → IsCarried z v.done k
   all_carried law w v h k some = record {
     not_replayed = h.tied.follows.closed k some;

@@ -59,3 +59,7 @@ pub mod CarryTies
 pub mod CarryWords
 pub mod CarryAcks
 pub mod CarryTurns
+pub mod CarryTakes
+pub mod CarryRows
+pub mod CarryHanded
+pub mod CarryKept

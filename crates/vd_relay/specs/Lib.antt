@@ -13,3 +13,4 @@ pub mod Carrying
 pub mod Commanding
 pub mod Underway
 pub mod Controls
+pub mod Commanders

@@ -1,5 +1,5 @@
 //! A control queue's carrier.
-ghost use Rattle.std.specs.Prelude.{◌≡◌, ℕ, true};
+ghost use Rattle.std.specs.Prelude.{◌≡◌, ℕ};
 ghost use Rattle.vd_model.specs.Chains.{IsChain, readable};
 ghost use Rattle.vd_ring.specs.declared.driver.DriverView.{DriverView};
 ghost use Rattle.vd_ring.specs.History.{next_head};
@@ -37,17 +37,9 @@ fn to_next_head<L: Layout>(chain: &mut Chain, shadow: &L::Driver)
 }
 
 impl<L: Layout> Carrier<L> for Commander {
-    ghost use Rattle.std.specs.Prelude.{◌≡◌, ℕ, true};
-    ghost use Rattle.vd_model.specs.Chains.{readable};
-    ghost use Rattle.vd_relay.specs.declared.carry.Carry.TheVariants.{First};
-    ghost use Rattle.vd_relay.specs.Carrying.{IsCommandAt};
-    ghost use Rattle.vd_relay.specs.Ways.{carrying};
+    ghost use Rattle.vd_relay.specs.Commanders.{commander};
 
-    ghost carrier = { record {
-      by = λ m way g. (n : ℕ) × (way ≡ carrying n) × (L.layout.lawful_size g.size ≡ true);
-      took = λ m number c m'. (a b : ℕ) → IsCommandAt a b c
-          → m'.hand ≡ First (record { number = number; place = a; ack_place = b; count = readable c });
-    } };
+    ghost carrier = { commander L.layout };
 
     fn carry(&mut self, number: u32, chain: &mut Chain, shadow: &L::Driver) {
         self.hand = Carry::First {
