@@ -12,8 +12,8 @@ use Rattle.vd_ring.specs.declared.driver.DriverDone.TheVariants.{Offer, Collect}
 use Rattle.vd_ring.specs.declared.driver.DriverNow.TheVariants as driver
 use Rattle.vd_ring.specs.declared.driver.DriverView.{DriverView}
 use Rattle.vd_ring.specs.declared.frame.Used.{Used}
-use Rattle.vd_ring.specs.History.{entry, offers, open_at, without_all, takes, gives, running, numbers, occurs, head, next_head}
-use Rattle.vd_ring.specs.Control.{last_collected}
+use Rattle.vd_ring.specs.History.{free, entry, offers, open_at, without_all, takes, gives, running, numbers, occurs, head, next_head}
+use Rattle.vd_ring.specs.Control.{last_collected, last_command}
 use Rattle.vd_ring.proofs.Counts.{one_small, occurs_from, Contains_from}
 use Rattle.vd_ring.proofs.HeldPlaces.{head_inside}
 use Rattle.vd_ring.proofs.ListSteps.{some_same}
@@ -33,7 +33,7 @@ use Rattle.vd_relay.specs.Tie.{guests, numbered}
 use Rattle.vd_relay.specs.Replays.{IsShadowRing}
 use Rattle.vd_relay.specs.Relay.{Stands}
 use Rattle.vd_relay.specs.Commanding.{Takeover, carries, IsCarried, IsLoaded, AreCarried}
-use Rattle.vd_relay.specs.Underway.{AckStands, Commanding, is_offering}
+use Rattle.vd_relay.specs.Underway.{IsStored, AckStands, Commanding, is_offering}
 use Rattle.vd_relay.proofs.Shifts.{occurs_map_front}
 use Rattle.vd_relay.proofs.CarryWords.{carried_now, number_is, all_carried}
 use Rattle.vd_relay.proofs.CarryRows.{carried_offered, carried_collected}
@@ -47,6 +47,19 @@ module _ {E D : Type 0} (l : LayoutModel) (e : DeviceModel E) (d : DriverModel D
 
   acts_after : w.done ≡ stands.acts
   acts_after = live_acts r'.stage stands.acts w.done awake stands.before
+
+  carried_after : (table : List (Option Command)) → {a : List DeviceDone} → a ≡ stands.acts → v'.done ≡ v.done
+      → AreCarried z table settings (e.words.ack w.frame) a v.frame v.done
+      → AreCarried z table settings (e.words.ack w.frame) stands.acts v'.frame v'.done
+  carried_after table {a} acts same h =
+      subst (λ (f : Frame). AreCarried z table settings (e.words.ack w.frame) stands.acts f v'.done) (sym frame)
+      (subst (λ (o : List DriverDone). AreCarried z table settings (e.words.ack w.frame) stands.acts v.frame o) (sym same)
+      (subst (λ (s : List DeviceDone). AreCarried z table settings (e.words.ack w.frame) s v.frame v.done) acts h))
+
+  stored_after : (half word : ℕ) → next_head v'.frame v'.done ≡ next_head v.frame v.done → v'.done ≡ v.done → IsStored v half word
+      → IsStored v' half word
+  stored_after half word next same h = ap (λ (q : ℕ). last_command v'.done q half) next
+      ∙ ap (λ (o : List DriverDone). last_command o (next_head v.frame v.done) half) same ∙ h
 
   -- the command in hand is offered: the table has it from then on
   pub offered_on : (c : Command) (x : List Piece) → Commanding l e d z r (carry.Offer c) t settings w v
@@ -143,4 +156,55 @@ module _ {E D : Type 0} (l : LayoutModel) (e : DeviceModel E) (d : DriverModel D
               (subst (λ (y : Command). IsLoaded (e.words.ack w.frame) h.stands.acts (guests (carries z) k) y) same old.2),
         );
         still = (guest_still, shadow_still);
+      }
+
+  -- an access by which nothing is offered or collected: with no command in hand
+  pub still_none : Commanding l e d z r carry.None t settings w v → is_rested r.stage ≡ false → v'.done ≡ v.done
+      → is_offering r'.stage ≡ false → e.begun r'.guest ≡ DeviceOp.idle → Commanding l e d z r' carry.None t settings w v'
+  still_none h live same none idle =
+      let were : w.done ≡ h.stands.acts = live_acts r.stage h.stands.acts w.done live h.stands.before in
+      record {
+        stands = stands;
+        ring = ring_after h.ring;
+        carried = carried_after t (sym were ∙ acts_after) same h.carried;
+        in_hand = (none, subst (λ (o : DeviceOp). AckStands e d z r' w v' o) (sym idle) tt);
+        still = tt;
+      }
+
+  -- and in the middle of the offer of the one that is
+  pub still_offers : (c : Command) → (h : Commanding l e d z r (carry.Offer c) t settings w v) → is_rested r.stage ≡ false
+      → v'.done ≡ v.done → r'.stage ≡ r.stage → d.begun r'.shadow ≡ d.begun r.shadow
+      → Commanding l e d z r' (carry.Offer c) t settings w v'
+  still_offers c h live same at begun =
+      let were : w.done ≡ h.stands.acts = live_acts r.stage h.stands.acts w.done live h.stands.before in
+      let held = h.in_hand.0 in
+      let taken = held.taken in
+      let next : next_head v'.frame v'.done ≡ next_head v.frame v.done = ap (λ (f : Frame). next_head f v'.done) frame
+      ∙ ap (λ (o : List DriverDone). next_head v.frame o) same in
+      record {
+        stands = stands;
+        ring = ring_after h.ring;
+        carried = carried_after t (sym were ∙ acts_after) same h.carried;
+        in_hand = (
+          record {
+            number = held.number;
+            taken = record {
+              stage = at ∙ taken.stage ∙ ap (λ (q : ℕ). stage.Offering held.number q) (sym next);
+              chain = taken.chain;
+              begun = begun ∙ taken.begun;
+              bytes = taken.bytes;
+              room = omega (
+                arith,
+                taken.room,
+                ap (λ (f : Frame). length (free f v'.done)) frame,
+                ap (λ (o : List DriverDone). length (free v.frame o)) same,
+              );
+              runs = taken.runs;
+            };
+            loaded = held.loaded;
+          },
+          stored_after 0 c.first next same h.in_hand.1,
+          stored_after 1 c.second next same h.in_hand.2,
+        );
+        still = tt;
       }
