@@ -63,3 +63,4 @@ pub mod CarryTakes
 pub mod CarryRows
 pub mod CarryHanded
 pub mod CarryKept
+pub mod CarryMoved
