@@ -11,6 +11,7 @@ pub mod Leaving
 pub mod Accesses
 pub mod Carrying
 pub mod Commanding
+pub mod CommandSteps
 pub mod Underway
 pub mod Controls
 pub mod Commanders
