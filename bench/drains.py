@@ -1,5 +1,5 @@
 #!/usr/bin/env python3
-"""Plays 200,000 chains, the most that a machine may have, on small and large rings, in small and large windows, for both layouts and with
+"""Plays 200,000 chains, the most that a queue may have, on small and large rings, in small and large windows, for both layouts and with
 and without each feature, and compares each report with the one that the file orders: a row for each chain, and all drained.
 
 It stands outside the gate: that a play ends is proved, and this tries the proved program at its largest. It wants the proved program, which
