@@ -6,8 +6,8 @@ use std::alloc::{AllocError, Global};
 use vd_layout::{DeviceAct, DriverAct, Layout, PlainRing};
 use vd_model::{Chain, Features};
 
-/// A chain goes through the ring, all of whose used entries were collected, and comes back with the length in bytes that was given.
-/// None where a step isn't possible.
+/// Offers a chain on the ring, all of whose used entries were collected, takes the next chain that lies there, gives it with this length
+/// in bytes, and collects it: the length that came back. None where a step isn't possible.
 pub fn echo<L: Layout>(ring: &mut PlainRing<L>, chain: &Chain, len: u32) -> Option<u32>
     requires { ring.old.lists.collected ≡ ring.old.lists.given }
     ensures { IfSome result (λ back. back ≡ len) }
@@ -23,7 +23,7 @@ pub fn echo<L: Layout>(ring: &mut PlainRing<L>, chain: &Chain, len: u32) -> Opti
     Some(back)
 }
 
-/// The same through a fresh ring.
+/// The same on a fresh ring, on which no other chain lies.
 pub fn fresh_echo<L: Layout>(
     alloc: Global,
     size: u32,
