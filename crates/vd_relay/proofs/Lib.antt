@@ -71,3 +71,8 @@ pub mod CommandPlain
 pub mod CommandWords
 pub mod CommandBegins
 pub mod CommandWinds
+pub mod Modes
+pub mod ModeReplays
+pub mod ModeLeaves
+pub mod ModeCarries
+pub mod ModeEnds

@@ -158,7 +158,7 @@ is_slept Handled = false
 is_slept Woke = false
 is_slept Again = false
 
-abbrev is_left_out : Turn → Bool
+abbrev pub is_left_out : Turn → Bool
 is_left_out Slept = true
 is_left_out Again = true
 is_left_out Worked = false
@@ -179,14 +179,14 @@ slept_counts Worked n = refl
 slept_counts Handled n = refl
 slept_counts Woke n = refl
 
-left_counts : (t : Turn) → counted t ≡ unless (is_left_out t)
+pub left_counts : (t : Turn) → counted t ≡ unless (is_left_out t)
 left_counts Slept = refl
 left_counts Again = refl
 left_counts Worked = refl
 left_counts Handled = refl
 left_counts Woke = refl
 
-left_exact : (t : Turn) → IsTrue (is_left_out t) ↔ ((t ≡ Slept) ⊎ (t ≡ Again))
+pub left_exact : (t : Turn) → IsTrue (is_left_out t) ↔ ((t ≡ Slept) ⊎ (t ≡ Again))
 left_exact Slept = ((λ x. inl refl), λ x. refl)
 left_exact Again = ((λ x. inr refl), λ x. refl)
 left_exact Worked = ((λ x. absurd (cc x)), λ x. elim x [ inl y ↦ absurd (cc y) | inr y ↦ absurd (cc y) ])
@@ -219,7 +219,7 @@ finished_is m Woke false is live = ((λ x. absurd (cc (is, x))), λ x. absurd (c
 pub finished_at : (m : Move) (t : Turn) (b c : Bool) → m ≡ move_of t b → b ≡ c → (t ≡ Slept → c ≡ false) → (m ≡ move.Finished) ↔ (c ≡ true)
 finished_at m t b c is same live = subst (λ x. (m ≡ move.Finished) ↔ (x ≡ true)) same (finished_is m t b is (λ s. same ∙ live s))
 
-both : {X Y Z : Type 0} → X ↔ Y → Y ↔ Z → X ↔ Z
+pub both : {X Y Z : Type 0} → X ↔ Y → Y ↔ Z → X ↔ Z
 both f g = ((λ x. g.0 (f.0 x)), λ y. f.1 (g.1 y))
 
 back : {X Y : Type 0} → X ↔ Y → Y ↔ X
