@@ -5,6 +5,7 @@ ghost use Rattle.vd_ring.specs.declared.device.DeviceView.{DeviceView};
 ghost use Rattle.vd_ring.specs.declared.driver.DriverView.{DriverView};
 ghost use Rattle.vd_layout.specs.Begun.{DriverOp};
 ghost use Rattle.vd_layout.specs.declared.moves.Move.TheVariants.{Finished, Looked};
+ghost use Rattle.vd_control.specs.Settings.{HasPairs};
 ghost use Rattle.vd_relay.specs.declared.control.Mode.TheVariants.{Replaying, Leaving};
 ghost use Rattle.vd_relay.specs.declared.replay.ReplayStage.TheVariants.{Second, Arming};
 ghost use Rattle.vd_relay.specs.Stages.{is_rested};
@@ -100,11 +101,12 @@ pub(crate) fn control_step<L: Layout, P: Port, Q: Port>(
     requires live { is_rested state.old.stage ≡ false }
     requires own { CanControl P.port Q.port L.layout L.Device.device L.Driver.driver guest_port.old shadow_port.old state.old control.old
         settings.old counts.old }
-    ensures { (z : Opening) (w : DeviceView) (v : DriverView)
+    ensures step { (z : Opening) (w : DeviceView) (v : DriverView)
         → ControlHolds L.layout L.Device.device L.Driver.driver z state.old control.old settings.old counts.old w v
         → IsOwn P.port L.Device.device.side guest_port.old w → IsOwn Q.port L.Driver.driver.side shadow_port.old v
         → IsControlStep P.port Q.port L.layout L.Device.device L.Driver.driver z guest_port.old guest_port.new shadow_port.old
         shadow_port.new w v state.old state.new control.old control.new settings.old settings.new counts.old counts.new result }
+    ensures lawful { HasPairs settings.old → HasPairs settings.new }
 {
     control.turn::<L>(state);
     match control.mode {

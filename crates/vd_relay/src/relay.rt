@@ -171,6 +171,7 @@ impl<L: Layout> Relay<L> {
             self.old.state self.new.state self.old.counts self.new.counts result }
         ensures plain { self.old.control ≡ None → self.new.control ≡ None }
         ensures settings { self.old.control ≡ None → self.new.settings ≡ self.old.settings }
+        ensures lawful { HasPairs self.old.settings → HasPairs self.new.settings }
         ensures control { (k : Control) → self.old.control ≡ Some k → IsSomeAnd self.new.control (λ k'. (z : Opening) (w : DeviceView)
             (v : DriverView)
             → ControlHolds L.layout L.Device.device L.Driver.driver z self.old.state k self.old.settings self.old.counts w v

@@ -7,8 +7,8 @@ use Rattle.vd_relay.proofs.Modes.{carrying_of}
 use Rattle.vd_relay.proofs.ModeCarries.{carried_step, control_pace}
 use Rattle.vd_relay.proofs.control_step.control_step.Goals as goal
 
-pub returns-in-Replaying : goal.returns-in-Replaying
-returns-in-Replaying g c = λ z w v h own other.
+pub returns-in-Replaying-clause-step : goal.returns-in-Replaying-clause-step
+returns-in-Replaying-clause-step g c = λ z w v h own other.
     let at = c.in-Replaying.is in
     let t = c.replay_step.ensures in
     let m = c.turn.ensures.holds z c.args.settings.now c.args.counts.now w v h in
@@ -27,8 +27,8 @@ returns-in-Replaying g c = λ z w v h own other.
       pace = control_pace g.L.Layout.layout g.L.Device.DeviceEnd.device g.L.Driver.DriverEnd.driver z _ _ _ _ w _ o.holds;
     }
 
-pub returns-in-Carrying : goal.returns-in-Carrying
-returns-in-Carrying g c = λ z w v h own other.
+pub returns-in-Carrying-clause-step : goal.returns-in-Carrying-clause-step
+returns-in-Carrying-clause-step g c = λ z w v h own other.
     let l = g.L.Layout.layout in
     let e = g.L.Device.DeviceEnd.device in
     let d = g.L.Driver.DriverEnd.driver in
@@ -44,8 +44,8 @@ returns-in-Carrying g c = λ z w v h own other.
     c.turn.ensures.next
     (c.command_step.ensures.step (carries_from z k.replay.next) w v (carrying_of l e d z r k s n w v m at) own other)
 
-pub returns-in-Leaving : goal.returns-in-Leaving
-returns-in-Leaving g c = λ z w v h own other.
+pub returns-in-Leaving-clause-step : goal.returns-in-Leaving-clause-step
+returns-in-Leaving-clause-step g c = λ z w v h own other.
     let at = c.in-Leaving.is in
     let t = c.leave_step.ensures in
     let m = c.turn.ensures.holds z c.args.settings.now c.args.counts.now w v h in
