@@ -112,9 +112,12 @@ pub between_loaded : (o : List DriverDone) (m n x : ℕ) → IsBetween o m → I
 between_loaded o m n x h = record { offered = h.offered; collected = h.collected; none = h.none }
 
 pub acked_loaded : (n x : ℕ) (o : List DriverDone) → AreAcked n o → AreAcked (n + 1) (LoadAck n x ∷ o)
-acked_loaded n x o h = λ k below. elim (cases_eq n k) [
-  | inl e ↦ rw (eq-eqb n k e) refl
-  | inr ne ↦ rw (ne_eqb n k ne) (h k (elim (cases_lt k n) [ inl a ↦ a | inr b ↦ absurd (ne (omega (arith, b, below))) ]))
+acked_loaded n x o h = λ k. elim (cases_eq n k) [
+  | inl e ↦ rw (eq-eqb n k e) ((λ some. omega (arith, e)), λ below. refl)
+  | inr ne ↦ rw (ne_eqb n k ne) (
+    (λ some. omega (arith, (h k).0 some)),
+    λ below. (h k).1 (elim (cases_lt k n) [ inl a ↦ a | inr b ↦ absurd (ne (omega (arith, b, below))) ]),
+  )
 ]
 
 -- ---- the bytes of a command

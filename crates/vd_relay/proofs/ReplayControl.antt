@@ -31,9 +31,9 @@ use Rattle.vd_relay.specs.declared.stage.Stage.TheVariants as stage
 use Rattle.vd_relay.specs.declared.replay.Replay.{Replay}
 use Rattle.vd_relay.specs.declared.replay.ReplayStage.{ReplayStage}
 use Rattle.vd_relay.specs.declared.replay.ReplayStage.TheVariants.{First, Second, Offering, Loading, Hearing, Disarming, Done, Left}
-use Rattle.vd_relay.specs.Pace.{shadow_owes}
+use Rattle.vd_relay.specs.Pace.{shadow_handled, shadow_owes}
 use Rattle.vd_relay.specs.Stages.{ShadowIs, ShadowArmed, ShadowShown}
-use Rattle.vd_relay.specs.Replays.{as_stage, replay_owes, after_ack, control_chain, IsShadowRing, IsFreshShadow, HasNext, AreCarried, IsBetween, IsAt, OffersIt, Replays, ReplayHolds, ReplayTurn}
+use Rattle.vd_relay.specs.Replays.{as_stage, replay_owes, after_ack, control_chain, IsShadowRing, IsFreshShadow, HasNext, AreCarried, AreAcked, IsBetween, IsAt, OffersIt, Replays, ReplayHolds, ReplayTurn}
 use Rattle.vd_relay.proofs.Ops.{shadow_idle}
 use Rattle.vd_relay.proofs.ReplayStages.{next_by}
 use Rattle.vd_relay.proofs.ReplayChains.{stored_here, stored_other, acked_loaded, carried_stored, between_stored, carried_loaded, between_loaded}
@@ -128,6 +128,7 @@ module _ {Q D E : Type 0} (port : PortModel Q) (l : LayoutModel) (d : DriverMode
       hears = λ hears z. deaf hears;
       leaves = λ on at z. calm at;
     });
+    handled = ap shadow_handled (sym (lay.driver_end.control_moves v a got next));
     awake = λ z. absurd (cc z);
     grown = omega (
       arith,
@@ -352,7 +353,8 @@ opened l d ldr x v s count pairs counted few h = next_by
         few = few;
         at = is;
         carried = subst (λ (o : List DriverDone). AreCarried (replay s) v.frame o) (sym h.unused) nothing;
-        acked = λ k below. absurd (omega (arith, below));
+        acked = subst (λ (o : List DriverDone). AreAcked 0 o) (sym h.unused)
+            (λ k. ((λ some. absurd (cc some)), λ below. absurd (omega (arith, below))));
         op = subst (λ z. ShadowIs z (d.begun x)) (sym giving) (subst (λ o. ShadowIs stage.Giving o) (sym h.idle) tt);
         offer = subst (λ o. OffersIt o (replay s) 0) (sym h.idle) tt;
         armed = subst (λ z. ShadowArmed z (d.begun x) v.doing v.armed) (sym giving) (ldr.unarmed x v h.drives h.unarmed);

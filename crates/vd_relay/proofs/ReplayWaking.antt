@@ -54,7 +54,7 @@ module _ {Q D : Type 0} (port : PortModel Q) (l : LayoutModel) (d : DriverModel 
         (subst (λ (z : ReplayStage). ShadowArmed (as_stage z) (d.begun y) v.doing v.armed) e h.armed) in
         made port l d ldr p q r x y v b h less act.Armed s (to_stage r Hearing) Worked
         (settled port l d ldr p q r x y v b h less act.Armed s Hearing v.done s.says.2 (at, h.carried, h.acked) s.says.1 tt (armed_at s arms)
-        (λ z. absurd (cc z)) (λ z. off) (λ z. cc z)) (λ z. absurd (cc z))
+        (λ z. absurd (cc z)) (λ z. off) (λ z. cc z)) (λ z. absurd (cc z)) refl
         (same_grown v.done v'.done s.says.2) (worked_only act.Armed (λ z. cc z)) (once port l d ldr p q r x y v b h less act.Armed Worked
         (λ z. cc z) (λ z. cc z)) (not_woken s.op act.Armed (λ z. cc z))
         (omega (
@@ -79,7 +79,7 @@ module _ {Q D : Type 0} (port : PortModel Q) (l : LayoutModel) (d : DriverModel 
         (subst (λ (z : ReplayStage). ShadowArmed (as_stage z) (d.begun y) v.doing v.armed) e h.armed) in
         made port l d ldr p q r x y v b h less act.Armed s (to_stage r Disarming) Worked
         (settled port l d ldr p q r x y v b h less act.Armed s Disarming v.done s.says.2 (at, h.carried, h.acked) s.says.1 tt
-        (armed_at s arms) (λ z. on) (λ z. absurd (cc z)) (λ z. cc z)) (λ z. absurd (cc z))
+        (armed_at s arms) (λ z. on) (λ z. absurd (cc z)) (λ z. cc z)) (λ z. absurd (cc z)) refl
         (same_grown v.done v'.done s.says.2) (worked_only act.Armed (λ z. cc z))
         (once port l d ldr p q r x y v b h less act.Armed Worked (λ z. cc z) (λ z. cc z)) (not_woken s.op act.Armed (λ z. cc z))
         (omega (
@@ -120,7 +120,7 @@ module _ {Q D : Type 0} (port : PortModel Q) (l : LayoutModel) (d : DriverModel 
         subst (λ (z : ReplayStage). ReplayTurn port l d p q r (to_stage r z) x b v Slept) (sym e)
         (made port l d ldr p q r x y v b h less act.Asleep s (to_stage r Hearing) Slept
         (settled port l d ldr p q r x y v b h less act.Asleep s Hearing v.done s.says.2 (at, h.carried, h.acked) s.says.1 tt
-        (subst (λ (u : DriverView). IsSome u.armed) (sym same) some) (λ z. absurd (cc z)) (λ z. off) (λ z. cc z)) (λ z. off)
+        (subst (λ (u : DriverView). IsSome u.armed) (sym same) some) (λ z. absurd (cc z)) (λ z. off) (λ z. cc z)) (λ z. (off, refl, s.says.1)) refl
         (same_grown v.done v'.done s.says.2) ((λ z. refl), λ z. refl)
         (once port l d ldr p q r x y v b h less act.Asleep Slept (λ z. cc z) (λ z. cc z)) (not_woken s.op act.Asleep (λ z. cc z))
         (omega (
@@ -143,7 +143,7 @@ module _ {Q D : Type 0} (port : PortModel Q) (l : LayoutModel) (d : DriverModel 
         made port l d ldr p q r x y v b h less act.Awake s (to_stage r Collecting) t
         (settled port l d ldr p q r x y v b h less act.Awake s Collecting v.done s.says.2 (at, h.carried, h.acked) s.says.1 tt
         (ldr.stays.awake v s.op s.access s.got s.was_next (sym s.is_answer)) (λ z. absurd (cc z)) (λ z. absurd (cc z)) (λ z. cc z))
-        (λ z. absurd (ns z))
+        (λ z. absurd (ns z)) none
         (omega (arith, same_grown v.done v'.done s.says.2, none)) ((λ z. absurd (ns z)), λ z. absurd (cc z))
         (once port l d ldr p q r x y v b h less act.Awake t (λ z. cc z) na) wakes
         (omega (arith, paid, none, owes_idle port l d ldr p q r x y v b h less Collecting v' refl s.says.1))

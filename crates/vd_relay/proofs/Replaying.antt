@@ -33,7 +33,7 @@ use Rattle.vd_relay.specs.declared.stage.Stage.TheVariants as stage
 use Rattle.vd_relay.specs.declared.replay.Replay.{Replay}
 use Rattle.vd_relay.specs.declared.replay.ReplayStage.{ReplayStage}
 use Rattle.vd_relay.specs.declared.replay.ReplayStage.TheVariants.{Offering, Collecting, Loading, Arming, Hearing, Disarming, Left}
-use Rattle.vd_relay.specs.Pace.{counted, handled, woke, shadow_owes, collect_owes, collecting_owes}
+use Rattle.vd_relay.specs.Pace.{counted, handled, woke, shadow_handled, shadow_owes, collect_owes, collecting_owes}
 use Rattle.vd_relay.specs.Stages.{ShadowIs, ShadowArmed, ShadowHears, ShadowShown}
 use Rattle.vd_relay.specs.Replays.{is_control, as_stage, replay_owes, IsShadowRing, IsAt, OffersIt, Replays, ReplayHolds, ReplayTurn}
 use Rattle.vd_relay.proofs.ShadowGoing.{went, collect_most}
@@ -87,7 +87,8 @@ module _ {Q D : Type 0} (port : PortModel Q) (l : LayoutModel) (d : DriverModel 
     (v : DriverView) (b : D) (h : Replays l d r y v) (less : replay_owes d r.winding r.stage y v ≤ replay_owes d r.winding r.stage x v)
   where
     pub made : (answer : DriverAct) (s : IsDriverStep port d p q v y b answer) (r' : Replay) (t : Turn)
-        → ReplayHolds l d r' b (d.side.after v s.op s.access s.got) → (t ≡ Slept → r.winding ≡ false)
+        → ReplayHolds l d r' b (d.side.after v s.op s.access s.got)
+        → (t ≡ Slept → (r.winding ≡ false) × (r'.stage ≡ Hearing) × (d.begun b ≡ DriverOp.idle)) → handled t ≡ shadow_handled answer
         → length (offers (d.side.after v s.op s.access s.got).done) + length (collects (d.side.after v s.op s.access s.got).done)
         ≡ length (offers v.done) + length (collects v.done) + handled t
         → (t ≡ Slept) ↔ (answer ≡ act.Asleep) → (t ≡ Again) ↔ ((answer ≡ act.Nothing) × (r.winding ≡ true))
@@ -95,13 +96,14 @@ module _ {Q D : Type 0} (port : PortModel Q) (l : LayoutModel) (d : DriverModel 
         → replay_owes d r'.winding r'.stage b (d.side.after v s.op s.access s.got) + counted t ≤ replay_owes d r.winding r.stage y v + 64 *
         (handled t + woke t)
         → ReplayTurn port l d p q r r' x b v t
-    made answer s r' t holds awake grown sleeps agains wakes paid = record {
+    made answer s r' t holds awake counts grown sleeps agains wakes paid = record {
       op = s.op;
       access = s.access;
       got = s.got;
       was_next = s.was_next;
       moved = s.moved;
       holds = holds;
+      handled = counts ∙ ap shadow_handled s.is_answer;
       awake = awake;
       grown = grown;
       slept = subst (λ z. (t ≡ Slept) ↔ (z ≡ act.Asleep)) s.is_answer sleeps;
@@ -206,7 +208,7 @@ module _ {Q D : Type 0} (port : PortModel Q) (l : LayoutModel) (d : DriverModel 
           };
           hears = hears_on s;
           leaves = λ on at idle. hears_still s at idle;
-        }) (λ z. absurd (cc z)) (same_grown v.done v'.done done) (worked_only act.Moved (λ z. cc z))
+        }) (λ z. absurd (cc z)) refl (same_grown v.done v'.done done) (worked_only act.Moved (λ z. cc z))
         (once act.Moved Worked (λ z. cc z) (λ z. cc z))
         (not_woken s.op act.Moved (λ z. cc z))
         (omega (arith, g.paid, owes_at d r.winding r.stage b v' off, owes_at d r.winding r.stage y v off))
@@ -271,7 +273,7 @@ module _ {Q D : Type 0} (port : PortModel Q) (l : LayoutModel) (d : DriverModel 
           };
           hears = λ hears z. elim s.says.2 [ inl e ↦ cc (e, hears) | inr e ↦ cc (e, hears) ];
           leaves = λ on z. absurd (cc z);
-        }) (λ z. absurd (cc z)) (offer_grown c v.done v'.done s.says.4) (handled_only (act.Offered k) (λ z. cc z))
+        }) (λ z. absurd (cc z)) refl (offer_grown c v.done v'.done s.says.4) (handled_only (act.Offered k) (λ z. cc z))
         (once (act.Offered k) Handled (λ z. cc z)
         (λ z. cc z)) (not_woken s.op (act.Offered k) (λ z. cc z))
         (omega (
@@ -312,7 +314,7 @@ module _ {Q D : Type 0} (port : PortModel Q) (l : LayoutModel) (d : DriverModel 
         made (act.Collected k n m) s (to_stage r (Loading m)) Handled
         (settled (act.Collected k n m) s (Loading m) (Collect (entry k n ∷ []) ∷ v.done) one.done sent one.idle tt
         (ldr.stays_unarmed v s.op s.access s.got (λ z. cc (of, z)) unarmed) (λ z. absurd (cc z)) (λ z. absurd (cc z)) (λ z. cc z))
-        (λ z. absurd (cc z))
+        (λ z. absurd (cc z)) refl
         (collect_grown k n v.done v'.done one.done) (handled_only (act.Collected k n m) (λ z. cc z))
         (once (act.Collected k n m) Handled (λ z. cc z) (λ z. cc z))
         (not_woken s.op (act.Collected k n m) (λ z. cc z)) (omega arith)
@@ -345,7 +347,7 @@ module _ {Q D : Type 0} (port : PortModel Q) (l : LayoutModel) (d : DriverModel 
         made act.Nothing s (to_stage r Arming) Worked
         (settled act.Nothing s Arming v.done s.says.2 (at, h.carried, h.acked) s.says.1 tt
         (ldr.stays_unarmed v s.op s.access s.got (λ z. cc (of, z)) unarmed) (λ z. absurd (cc z)) (λ z. absurd (cc z)) (λ z. cc z))
-        (λ z. absurd (cc z))
+        (λ z. absurd (cc z)) refl
         (same_grown v.done v'.done s.says.2) (worked_only act.Nothing (λ z. cc z))
         ((λ z. absurd (cc z)), λ z. absurd (cc (off, z.1))) (not_woken s.op act.Nothing (λ z. cc z))
         (omega (
@@ -369,7 +371,7 @@ module _ {Q D : Type 0} (port : PortModel Q) (l : LayoutModel) (d : DriverModel 
         made act.Nothing s (to_stage r Collecting) Again
         (settled act.Nothing s Collecting v.done s.says.2 (at, h.carried, h.acked) s.says.1 tt
         (ldr.stays_unarmed v s.op s.access s.got (λ z. cc (of, z)) unarmed) (λ z. absurd (cc z)) (λ z. absurd (cc z)) (λ z. cc z))
-        (λ z. absurd (cc z))
+        (λ z. absurd (cc z)) refl
         (same_grown v.done v'.done s.says.2) ((λ z. absurd (cc z)), λ z. absurd (cc z)) ((λ z. (refl, on)), λ z. refl)
         (not_woken s.op act.Nothing (λ z. cc z))
         (omega (

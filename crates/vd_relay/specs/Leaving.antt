@@ -8,6 +8,7 @@ use Rattle.vd_ring.specs.declared.device.DeviceView.{DeviceView}
 use Rattle.vd_ring.specs.History.{takes, gives}
 use Rattle.vd_layout.specs.Begun.{DeviceOp}
 use Rattle.vd_layout.specs.Device.{DeviceModel}
+use Rattle.vd_relay.specs.Pace.{guest_handled}
 
 -- an end that is free: all that was taken is given, and it neither rests nor sleeps
 pub record IsFree {E : Type 0} (e : DeviceModel E) (a : E) (w : DeviceView) : Type 0 where
@@ -50,5 +51,6 @@ pub record IsLeave {P E : Type 0} (port : PortModel P) (e : DeviceModel E) (p q 
   pub left : IsLeft e a' (e.side.after w op access got)
   pub takes : Rattle.vd_ring.specs.History.takes (e.side.after w op access got).done ≡ Rattle.vd_ring.specs.History.takes w.done
   pub gives : Rattle.vd_ring.specs.History.gives (e.side.after w op access got).done ≡ Rattle.vd_ring.specs.History.gives w.done
+  pub handled : guest_handled (e.act w op access got) ≡ 0
   pub rests : e.resting a' ≡ rested
   pub paid : leave_owes e a' + 1 ≤ leave_owes e a

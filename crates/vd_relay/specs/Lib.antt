@@ -12,6 +12,9 @@ pub mod Accesses
 pub mod Carrying
 pub mod Commanding
 pub mod CommandSteps
+pub mod Modes
+pub mod ModeSteps
+pub mod ModeEnds
 pub mod Underway
 pub mod Controls
 pub mod Commanders

@@ -29,7 +29,7 @@ use Rattle.vd_relay.specs.declared.stage.Stage.TheVariants as stage
 use Rattle.vd_relay.specs.declared.replay.Replay.{Replay}
 use Rattle.vd_relay.specs.declared.replay.ReplayStage.{ReplayStage}
 use Rattle.vd_relay.specs.declared.replay.ReplayStage.TheVariants.{First, Second, Offering, Collecting, Loading, Arming, Hearing, Disarming, Done, Left}
-use Rattle.vd_relay.specs.Pace.{counted, handled, woke, take_owes, shadow_owes}
+use Rattle.vd_relay.specs.Pace.{counted, shadow_handled, take_owes, shadow_owes}
 use Rattle.vd_relay.specs.Stages.{ShadowIs, ShadowArmed, ShadowShown}
 
 abbrev pub is_done : ReplayStage → Bool
@@ -76,9 +76,9 @@ pub record IsCarried (g : Frame) (b : Command) (o : List DriverDone) (k : ℕ) :
 abbrev pub AreCarried : List Command → Frame → List DriverDone → Type 0
 AreCarried cs g o = (k : ℕ) (b : Command) → k < length (offers o) → slice_get cs k ≡ Some b → IsCarried g b o k
 
--- for each of the first n chains an ack was loaded
+-- an ack was loaded for exactly the first n chains
 abbrev pub AreAcked : ℕ → List DriverDone → Type 0
-AreAcked n o = (k : ℕ) → k < n → IsSome (ack_load o k)
+AreAcked n o = (k : ℕ) → IsSome (ack_load o k) ↔ (k < n)
 
 -- ---- where it stands
 
@@ -238,12 +238,13 @@ pub record ReplayTurn {Q D : Type 0} (port : PortModel Q) (l : LayoutModel) (d :
   pub moved : port.moves p op access got q
   pub holds : ReplayHolds l d r' x' (d.side.after v op access got)
   pub grown : length (offers (d.side.after v op access got).done) + length (collects (d.side.after v op access got).done)
-      ≡ length (offers v.done) + length (collects v.done) + handled t
+      ≡ length (offers v.done) + length (collects v.done) + Rattle.vd_relay.specs.Pace.handled t
   pub slept : (t ≡ Slept) ↔ (d.act v op access got ≡ act.Asleep)
-  -- in a wind-up it doesn't sleep
-  pub awake : t ≡ Slept → r.winding ≡ false
+  pub handled : Rattle.vd_relay.specs.Pace.handled t ≡ shadow_handled (d.act v op access got)
+  -- it sleeps only while it waits for a command, and not in a wind-up
+  pub awake : t ≡ Slept → (r.winding ≡ false) × (r'.stage ≡ Hearing) × (d.begun x' ≡ DriverOp.idle)
   -- a collect of the wind-up that shows nothing is made again, and isn't counted
   pub again : (t ≡ Again) ↔ ((d.act v op access got ≡ act.Nothing) × (r.winding ≡ true))
   pub woke : Rattle.vd_relay.specs.Pace.woke t ≡ driver_woken op (d.act v op access got)
   pub paid : replay_owes d r'.winding r'.stage x' (d.side.after v op access got) + counted t
-      ≤ replay_owes d r.winding r.stage x v + 64 * (handled t + Rattle.vd_relay.specs.Pace.woke t)
+      ≤ replay_owes d r.winding r.stage x v + 64 * (Rattle.vd_relay.specs.Pace.handled t + Rattle.vd_relay.specs.Pace.woke t)

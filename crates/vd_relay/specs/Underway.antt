@@ -22,6 +22,7 @@ use Rattle.vd_relay.specs.declared.carry.Found.{Found}
 use Rattle.vd_relay.specs.declared.stage.Stage.{Stage}
 use Rattle.vd_relay.specs.declared.stage.Stage.TheVariants as stage
 use Rattle.vd_relay.specs.declared.state.State.{State}
+use Rattle.vd_relay.specs.Stages.{is_offering}
 use Rattle.vd_relay.specs.Tie.{guests}
 use Rattle.vd_relay.specs.Replays.{IsShadowRing}
 use Rattle.vd_relay.specs.Relay.{Stands, owes}
@@ -81,10 +82,6 @@ AckStands e d z r w v (DeviceOp.give number len) = (k : ℕ) × (number ≡ gues
 AckStands e d z r w v _ = Unit {0}
 
 -- ---- by what is in hand
-
-abbrev pub is_offering : Stage → Bool
-is_offering (stage.Offering number head) = true
-is_offering _ = false
 
 abbrev pub HandIs : {E D : Type 0} → DeviceModel E → DriverModel D → Takeover → State E D → DeviceView → DriverView → Carry → Type 0
 HandIs e d z r w v carry.None = (is_offering r.stage ≡ false) × AckStands e d z r w v (e.begun r.guest)

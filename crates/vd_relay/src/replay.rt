@@ -138,6 +138,7 @@ impl Replay {
         ensures settings { result.settings ≡ settings }
         ensures next { result.next ≡ 0 }
         ensures winding { result.winding ≡ false }
+        ensures target { result.target ≡ 0 }
         ensures done { IsTrue (is_done result.stage) ↔ (length (replay settings) ≡ 0) }
         ensures holds { (v : DriverView) → IsFreshShadow L.layout L.Driver.driver shadow.now v
             → ReplayHolds L.layout L.Driver.driver result shadow.now v }
