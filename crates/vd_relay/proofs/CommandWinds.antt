@@ -41,7 +41,7 @@ module _ {E D : Type 0} (e : DeviceModel E) (d : DriverModel D) (z : Takeover) (
   }
 
   held : (c : Command) → IsHeld e d r w v c → IsHeld e d u w v c
-  held c h = record { number = h.number; taken = to_offer h.number h.taken; loaded = h.loaded }
+  held c h = record { number = h.number; taken = to_offer h.number h.taken; loaded = h.loaded; early = h.early }
 
   back : (k : ℕ) → IsBack e d z r w v k → IsBack e d z u w v k
   back k h = record {
@@ -75,7 +75,7 @@ module _ {E D : Type 0} (e : DeviceModel E) (d : DriverModel D) (z : Takeover) (
   hand_on (carry.StoreFirst c) h = held c h
   hand_on (carry.StoreSecond c) h = (held c h.0, h.1)
   hand_on (carry.Offer c) h = (held c h.0, h.1, h.2)
-  hand_on (carry.LoadAck k c) h = (h.0, back h.0 h.1, h.2, h.3, h.4, h.5)
+  hand_on (carry.LoadAck k c) h = (h.0, back h.0 h.1, h.2, h.3, h.4, h.5, h.6)
   hand_on (carry.StoreAck p x) h = (h.0, acked h.0 x h.1, h.2)
 
 -- a relay that hears has nothing in hand

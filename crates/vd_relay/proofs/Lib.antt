@@ -71,3 +71,8 @@ pub mod CommandPlain
 pub mod CommandWords
 pub mod CommandBegins
 pub mod CommandWinds
+pub mod SettingParts
+pub mod SettingFolds
+pub mod SettledChains
+pub mod Marking
+pub mod CarryMarks

@@ -11,6 +11,7 @@ pub mod Replays
 pub mod Leaving
 pub mod Accesses
 pub mod Carrying
+pub mod Settling
 pub mod Commanding
 pub mod CommandSteps
 pub mod Underway

@@ -42,6 +42,7 @@ fn word_step<L: Layout, P: Port, Q: Port>(
     carry_on::<L, P, Q>(
         state,
         &mut commander.hand,
+        &mut commander.commands,
         settings,
         guest_port,
         shadow_port,
