@@ -5,27 +5,29 @@ use Rattle.vd_ring.specs.declared.device.DeviceDone.TheVariants.{StoreAck}
 use Rattle.vd_ring.specs.declared.device.DeviceView.{DeviceView}
 use Rattle.vd_ring.specs.declared.driver.DriverDone.TheVariants.{LoadAck}
 use Rattle.vd_ring.specs.declared.driver.DriverView.{DriverView}
-use Rattle.vd_ring.specs.History.{gives, numbers, occurs, taken_head, takes, running}
-use Rattle.vd_ring.specs.Control.{command_of}
+use Rattle.vd_ring.specs.History.{offers, open_at, gives, numbers, occurs, taken_head, takes, running}
+use Rattle.vd_ring.specs.Control.{last_collected}
+use Rattle.vd_ring.specs.Places.{Places}
+use Rattle.vd_ring.proofs.ControlSteps.{last_is_collected}
 use Rattle.vd_ring.proofs.Counts.{occurs_from, one_small}
 use Rattle.vd_layout.specs.Begun.{DeviceOp}
-use Rattle.vd_layout.specs.Driver.{DriverModel}
+use Rattle.vd_layout.specs.Driver.{DriverModel, IsLawfulDriver}
 use Rattle.vd_layout.specs.Device.{DeviceModel, IsLawfulDevice}
 use Rattle.vd_layout.specs.Layout.{LayoutModel}
 use Rattle.vd_control.specs.declared.settings.Settings.{Settings}
-use Rattle.vd_commands.specs.Words.{word_bytes}
 use Rattle.vd_table.specs.declared.Command.{Command}
 use Rattle.vd_relay.specs.declared.carry.Carry.TheVariants as carry
 use Rattle.vd_relay.specs.declared.state.State.{State}
 use Rattle.vd_relay.specs.Tie.{guests}
 use Rattle.vd_relay.specs.Replays.{IsShadowRing}
-use Rattle.vd_relay.specs.Accesses.{acknowledged}
-use Rattle.vd_relay.specs.Commanding.{Takeover, carries, bytes_of}
+use Rattle.vd_relay.specs.Settling.{acknowledged, AreMarked}
+use Rattle.vd_relay.specs.Commanding.{Takeover, carries}
 use Rattle.vd_relay.specs.Stages.{is_offering}
 use Rattle.vd_relay.specs.Underway.{IsBack, AckStands, Commanding}
 use Rattle.vd_relay.proofs.CarryStands.{IsBusy, stands_acked, stands_answered}
-use Rattle.vd_relay.proofs.CarryTies.{answered_here, acked_here, words_same, carried_acked, carried_answered}
-use Rattle.vd_relay.proofs.CarryWords.{carried_now, commanding}
+use Rattle.vd_relay.proofs.CarryTies.{answered_here, acked_here, carried_acked}
+use Rattle.vd_relay.proofs.CarryMarks.{carried_answered}
+use Rattle.vd_relay.proofs.CarryWords.{carried_now, commanding, all_carried}
 
 module _ {E D : Type 0} (l : LayoutModel) (e : DeviceModel E) (d : DriverModel D) (z : Takeover) (r : State E D)
     (t : List (Option Command)) (s : Settings) (w : DeviceView) (v : DriverView) where
@@ -42,35 +44,26 @@ module _ {E D : Type 0} (l : LayoutModel) (e : DeviceModel E) (d : DriverModel D
         some,
       )
 
-  -- the bytes kept of a command are those that its chain carries
-  bytes_are : (k : ℕ) (c : Command) (x : ℕ) → (h : Commanding l e d z r (carry.LoadAck x c) t s w v) → h.in_hand.0 ≡ k → IsBusy r.stage
-      → bytes_of v.frame v.done k ≡ word_bytes c.count c.first c.second
-  bytes_are k c x h is busy =
-      let back = h.in_hand.1 in
-      let p = (carried_now l e d z r t s (carry.LoadAck x c) w v busy h).passed h.in_hand.0 back.carried in
-      let loaded = h.in_hand.5 in
-      let same = words_same _ _ _ _ _ p.words loaded.words in
-      subst (λ (j : ℕ). bytes_of v.frame v.done j ≡ word_bytes c.count c.first c.second) is
-      (ap (λ (n : ℕ). word_bytes n (command_of v.frame v.done h.in_hand.0 0) (command_of v.frame v.done h.in_hand.0 1))
-      (p.bytes ∙ sym loaded.bytes)
-      ∙ ap (λ (n : ℕ). word_bytes c.count n (command_of v.frame v.done h.in_hand.0 1)) same.0
-      ∙ ap (λ (n : ℕ). word_bytes c.count c.first n) same.1)
+  -- a chain that was collected isn't open
+  not_open : (k : ℕ) → Places v.frame v.done → last_collected v.done ≡ Some k → occurs k (open_at v.done) ≡ 0
+  not_open k ok last = omega (arith, ok.is_open k, last_is_collected v.done k last, one_small (nat_lt k (length (offers v.done))))
 
-  pub ack_loaded : IsLawfulDevice e → (x : ℕ) (c : Command) (y : ℕ) (after : Settings)
-      → after ≡ acknowledged s (word_bytes c.count c.first c.second) y
+  pub ack_loaded : IsLawfulDevice e → IsLawfulDriver d → (x : ℕ) (c : Command) (y : ℕ) (t' : List (Option Command)) (after : Settings)
+      → AreMarked c y t t' → after ≡ acknowledged s c y
       → (h : Commanding l e d z r (carry.LoadAck x c) t s w v)
       → d.stands r.shadow (record v { done = LoadAck h.in_hand.0 y ∷ v.done })
-      → Commanding l e d z r (carry.StoreAck c.ack_place y) t after w (record v { done = LoadAck h.in_hand.0 y ∷ v.done })
-  ack_loaded law x c y after is h drives =
+      → Commanding l e d z r (carry.StoreAck c.ack_place y) t' after w (record v { done = LoadAck h.in_hand.0 y ∷ v.done })
+  ack_loaded law ldr x c y t' after marks is h drives =
       let k : ℕ = h.in_hand.0 in
       let back = h.in_hand.1 in
       let busy : IsBusy r.stage = inr back.stage in
       let u : DriverView = record v { done = LoadAck k y ∷ v.done } in
-      commanding l e d z r t after (carry.StoreAck c.ack_place y) w u busy (stands_answered e d z r w v h.stands busy u k y refl drives)
+      commanding l e d z r t' after (carry.StoreAck c.ack_place y) w u busy (stands_answered e d z r w v h.stands busy u k y refl drives)
       (subst (λ (f : Frame). IsShadowRing l f) refl h.ring)
-      (carried_answered z t s (e.words.ack w.frame) w.done v.frame v.done (carried_now l e d z r t s (carry.LoadAck x c) w v busy h) k y
-      after back.carried.not_replayed (not_given law k h.stands.serves back)
-      (is ∙ ap (λ b. acknowledged s b y) (sym (bytes_are k c x h refl busy)))) (
+      (carried_answered z t t' s after (e.words.ack w.frame) w.done v.frame v.done
+      (carried_now l e d z r t s (carry.LoadAck x c) w v busy h) k y c back.carried h.in_hand.5 h.in_hand.6 marks is
+      (not_given law k h.stands.serves back) (all_carried l e d z r t s ldr w v h.stands)
+      (not_open k (ldr.places r.shadow v h.stands.drives) h.in_hand.2)) (
         k,
         record {
           back = record {

@@ -32,6 +32,7 @@ use Rattle.vd_relay.specs.Stages.{is_rested, is_offering}
 use Rattle.vd_relay.specs.Tie.{guests, numbered}
 use Rattle.vd_relay.specs.Replays.{IsShadowRing}
 use Rattle.vd_relay.specs.Relay.{Stands}
+use Rattle.vd_relay.specs.Settling.{IsUnsettled}
 use Rattle.vd_relay.specs.Commanding.{Takeover, carries, IsCarried, IsLoaded, AreCarried}
 use Rattle.vd_relay.specs.Underway.{IsStored, AckStands, Commanding}
 use Rattle.vd_relay.proofs.Shifts.{occurs_map_front}
@@ -75,7 +76,7 @@ module _ {E D : Type 0} (l : LayoutModel) (e : DeviceModel E) (d : DriverModel D
       let bytes : readable x ≡ c.count = ap (λ (y : List Piece). readable y) same ∙ taken.bytes ∙ sym held.loaded.bytes in
       let now = carried_now l e d z r t settings (carry.Offer c) w v (inl (held.number, next_head v.frame v.done, taken.stage)) h in
       let next = carried_offered z t settings (e.words.ack w.frame) w.done v.frame v.done x c ok was.fits
-      (room_free v.frame v.done x ok was.fits was.room)
+      (room_free v.frame v.done x ok was.fits was.room) held.early
       (subst (λ (j : ℕ). IsLoaded (e.words.ack w.frame) w.done j c) number held.loaded) bytes h.in_hand.1 h.in_hand.2
       (λ some. absurd (omega (
         arith,
@@ -154,6 +155,10 @@ module _ {E D : Type 0} (l : LayoutModel) (e : DeviceModel E) (d : DriverModel D
           omega (arith, head_inside v.frame v.done k ok some, ap (λ (f : Frame). f.size) frame),
           subst (λ (s : List DeviceDone). IsLoaded (e.words.ack w.frame) s (guests (carries z) k) c) (sym were)
               (subst (λ (y : Command). IsLoaded (e.words.ack w.frame) h.stands.acts (guests (carries z) k) y) same old.2),
+          subst (λ (f : Frame). IsUnsettled f v'.done k c) (sym frame)
+              (subst (λ (o : List DriverDone). IsUnsettled v.frame o k c) (sym more)
+              (let u = subst (λ (y : Command). IsUnsettled v.frame v.done k y) same old.3 in
+              record { none = u.none; late = u.late })),
         );
         still = (guest_still, shadow_still);
       }
@@ -202,6 +207,7 @@ module _ {E D : Type 0} (l : LayoutModel) (e : DeviceModel E) (d : DriverModel D
               runs = taken.runs;
             };
             loaded = held.loaded;
+            early = held.early;
           },
           stored_after 0 c.first next same h.in_hand.1,
           stored_after 1 c.second next same h.in_hand.2,

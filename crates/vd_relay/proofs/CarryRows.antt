@@ -1,5 +1,5 @@
 -- What an offer and a collect on the shadow ring leave of what was carried.
-use Rattle.std.proofs.Common.{◌≡◌, ◌≢◌, ℕ, ◌<◌, ◌≤◌, Some, None, IsSome, Option, List, [], ◌∷◌, length, nat_lt, slice_set, refl, sym, ◌∙◌, ap, subst, arith, inl, inr}
+use Rattle.std.proofs.Common.{◌≡◌, ◌≢◌, ℕ, ◌<◌, ◌≤◌, false, Some, None, IsSome, Option, List, [], ◌∷◌, length, nat_lt, slice_set, refl, sym, ◌∙◌, ap, subst, arith, inl, inr}
 use Rattle.std.proofs.lemmas.Bool.{cases_eq, cases_lt, eq-eqb, ne_eqb}
 use Rattle.std.proofs.lemmas.List.{get_or-set_same, get_or-set_other}
 use Rattle.std.proofs.Math.ListN.{length-set, length-append}
@@ -21,7 +21,9 @@ use Rattle.vd_commands.specs.Loads.{command_loads, AreLoaded}
 use Rattle.vd_table.specs.declared.Command.{Command}
 use Rattle.vd_table.specs.Rows.{row}
 use Rattle.vd_relay.specs.Tie.{guests}
+use Rattle.vd_relay.specs.Settling.{IsUnsettled}
 use Rattle.vd_relay.specs.Commanding.{Takeover, carries, IsLoaded, KeepsOpen, AreCarried}
+use Rattle.vd_relay.proofs.SettledChains.{acknowledged_new, acknowledged_old, settled_offered, late_old, late_new}
 
 -- ---- an offer
 
@@ -57,9 +59,9 @@ module _ (number : ℕ → ℕ) (table : List (Option Command)) (at_ack : ℕ �
   pub row_empty : row table (next_head g o) ≡ None
   row_empty = none_there (row table (next_head g o)) refl
 
-  keeps_offered : (x : Command) → IsLoaded at_ack s (number (length (offers o))) x
+  keeps_offered : (x : Command) → x.late ≡ false → IsLoaded at_ack s (number (length (offers o))) x
       → KeepsOpen (slice_set table (next_head g o) (Some x)) number at_ack s g (Offer c ∷ o)
-  keeps_offered x loaded =
+  keeps_offered x early loaded =
       let q : ℕ = next_head g o in
       let new : List (Option Command) = slice_set table q (Some x) in
       record {
@@ -70,6 +72,8 @@ module _ (number : ℕ → ℕ) (table : List (Option Command)) (at_ack : ℕ �
             ap (λ (j : ℕ). row new (head g (Offer c ∷ o) j)) (sym e) ∙ ap (λ (h : ℕ). row new h) head_new
                 ∙ get_or-set_same table q (Some x) None row_inside,
             subst (λ (j : ℕ). IsLoaded at_ack s (number j) x) e loaded,
+            subst (λ (j : ℕ). IsUnsettled g (Offer c ∷ o) j x) e
+                (record { none = acknowledged_new g o c; late = early ∙ sym (late_new g o c) }),
           )
           | inr ne ↦
               let old : 1 ≤ occurs k (open_at o) = omega (
@@ -83,6 +87,8 @@ module _ (number : ℕ → ℕ) (table : List (Option Command)) (at_ack : ℕ �
                 ap (λ (h : ℕ). row new h) (head_old k old)
                     ∙ get_or-set_other table q (head g o k) (Some x) None (head_other k old) ∙ was.1,
                 was.2,
+                (let low = open_below g o k ok old in
+                    record { none = acknowledged_old g o c k low ∙ was.3.none; late = was.3.late ∙ sym (late_old g o c k low) }),
               )
         ];
         only = λ h some. elim (cases_eq h q) [
@@ -103,12 +109,12 @@ module _ (number : ℕ → ℕ) (table : List (Option Command)) (at_ack : ℕ �
 
 pub carried_offered : (z : Takeover) (table : List (Option Command)) (settings : Settings) (at_ack : ℕ → ℕ) (s : List DeviceDone) (g : Frame)
     (o : List DriverDone) (c : List Piece) (x : Command) → Places g o → Fits g c → borrowed g c ≤ length (free g o)
-    → IsLoaded at_ack s (guests (carries z) (length (offers o))) x → readable c ≡ x.count
+    → x.late ≡ false → IsLoaded at_ack s (guests (carries z) (length (offers o))) x → readable c ≡ x.count
     → last_command o (next_head g o) 0 ≡ x.first → last_command o (next_head g o) 1 ≡ x.second
     → (1 ≤ occurs (guests (carries z) (length (offers o))) (numbers (gives s)) → ⊥)
     → AreCarried z table settings at_ack s g o
     → AreCarried z (slice_set table (next_head g o) (Some x)) settings at_ack s g (Offer c ∷ o)
-carried_offered z table settings at_ack s g o c x ok fits room loaded bytes first second new t =
+carried_offered z table settings at_ack s g o c x ok fits room early loaded bytes first second new t =
     let m : ℕ = length (offers o) in
     record {
       passed = λ k is. elim (cases_lt k m) [
@@ -137,8 +143,8 @@ carried_offered z table settings at_ack s g o c x ok fits room loaded bytes firs
             let e : k ≡ m = omega (arith, high, is.offered, length-append (offers o) (c ∷ [])) in
             absurd (new (subst (λ (j : ℕ). 1 ≤ occurs (guests (carries z) j) (numbers (gives s))) e some))
       ];
-      keeps = keeps_offered (guests (carries z)) table at_ack s g o c ok fits room t.keeps x loaded;
-      settled = t.settled;
+      keeps = keeps_offered (guests (carries z)) table at_ack s g o c ok fits room t.keeps x early loaded;
+      settled = t.settled ∙ sym (settled_offered g o c z.settings z.replayed);
     }
 
 -- ---- a collect
@@ -168,8 +174,12 @@ module _ (number : ℕ → ℕ) (table : List (Option Command)) (at_ack : ℕ �
         sized = length-set table q None ∙ t.sized;
         stored = λ j there.
             let a = apart j there in
-            let was = t.stored j a.1 in
-            (was.0, get_or-set_other table q (head g o j) None None (λ is. a.0 (same_head g o j k ok a.1 some is)) ∙ was.1, was.2);
+            let was = t.stored j a.1 in (
+              was.0,
+              get_or-set_other table q (head g o j) None None (λ is. a.0 (same_head g o j k ok a.1 some is)) ∙ was.1,
+              was.2,
+              record { none = was.3.none; late = was.3.late },
+            );
         only = λ h at. elim (cases_eq h q) [
           | inl e ↦ let none : row (slice_set table q None) h ≡ None = ap (λ (p : ℕ). row (slice_set table q None) p) e
               ∙ get_or-set_same table q None None row_stored in

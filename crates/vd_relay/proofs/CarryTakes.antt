@@ -40,6 +40,7 @@ head_taken s c h j even below = get_or_append_left (heads s) (h ∷ []) 0 j (ome
 loaded_taken : (at_ack : ℕ → ℕ) (s : List DeviceDone) (c : List Piece) (h j : ℕ) (x : Command) → length (heads s) ≡ length (takes s)
     → j < length (takes s) → IsLoaded at_ack s j x → IsLoaded at_ack (Take c h ∷ s) j x
 loaded_taken at_ack s c h j x even below l = record {
+  numbered = l.numbered;
   ack = l.ack ∙ ap at_ack (sym (head_taken s c h j even below));
   bytes = l.bytes ∙ ap readable (sym (chain_taken s c h j below));
   few = l.few;
@@ -63,7 +64,7 @@ carried_taken z table settings at_ack s g o c h even below all t = record {
     sized = t.keeps.sized;
     stored = λ k some.
         let q = t.keeps.stored k some in
-        (q.0, q.1, loaded_taken at_ack s c h (guests (carries z) k) q.0 even (below k (all k some)) q.2);
+        (q.0, q.1, loaded_taken at_ack s c h (guests (carries z) k) q.0 even (below k (all k some)) q.2, q.3);
     only = t.keeps.only;
   };
   settled = t.settled;
@@ -73,7 +74,7 @@ carried_taken z table settings at_ack s g o c h even below all t = record {
 
 loaded_given : (at_ack : ℕ → ℕ) (s : List DeviceDone) (us : List Used) (j : ℕ) (x : Command) → IsLoaded at_ack s j x
     → IsLoaded at_ack (Give us ∷ s) j x
-loaded_given at_ack s us j x l = record { ack = l.ack; bytes = l.bytes; few = l.few; words = l.words }
+loaded_given at_ack s us j x l = record { numbered = l.numbered; ack = l.ack; bytes = l.bytes; few = l.few; words = l.words }
 
 numbers_append : (us vs : List Used) → numbers (us ++ vs) ≡ numbers us ++ numbers vs
 numbers_append [] vs = refl
@@ -105,7 +106,7 @@ carried_given z table settings at_ack s g o us acked t = record {
     sized = t.keeps.sized;
     stored = λ k some.
         let q = t.keeps.stored k some in
-        (q.0, q.1, loaded_given at_ack s us (guests (carries z) k) q.0 q.2);
+        (q.0, q.1, loaded_given at_ack s us (guests (carries z) k) q.0 q.2, q.3);
     only = t.keeps.only;
   };
   settled = t.settled;

@@ -1,19 +1,18 @@
 -- What an access of a command or ack word leaves of what was carried.
-use Rattle.std.proofs.Common.{◌≡◌, ℕ, ◌<◌, ◌≤◌, Some, Option, List, [], ◌∷◌, length, refl, sym, ◌∙◌, ap, subst, arith, inl, inr, if◌then◌else◌}
-use Rattle.std.proofs.lemmas.Bool.{cases_eq, eq-eqb, ne_eqb, le-ltb}
+use Rattle.std.proofs.Common.{◌≡◌, ℕ, ◌<◌, ◌≤◌, Some, Option, List, [], ◌∷◌, length, refl, sym, ◌∙◌, ap, arith}
+use Rattle.std.proofs.lemmas.Bool.{eq-eqb, ne_eqb}
 use Rattle.vd_ring.specs.declared.frame.Frame.{Frame}
 use Rattle.vd_ring.specs.declared.driver.DriverDone.{DriverDone}
 use Rattle.vd_ring.specs.declared.driver.DriverDone.TheVariants.{StoreCommand, LoadAck}
 use Rattle.vd_ring.specs.declared.device.DeviceDone.{DeviceDone}
 use Rattle.vd_ring.specs.declared.device.DeviceDone.TheVariants.{LoadCommand, StoreAck}
-use Rattle.vd_ring.specs.History.{offers, open_at, gives, numbers, occurs}
+use Rattle.vd_ring.specs.History.{offers, open_at, occurs}
 use Rattle.vd_ring.specs.Control.{last_command, last_ack}
 use Rattle.vd_control.specs.declared.settings.Settings.{Settings}
 use Rattle.vd_commands.specs.Loads.{CommandLoad, command_loads, loaded, AreLoaded, ack_load}
 use Rattle.vd_table.specs.declared.Command.{Command}
 use Rattle.vd_relay.specs.Tie.{guests}
-use Rattle.vd_relay.specs.Accesses.{acknowledged}
-use Rattle.vd_relay.specs.Commanding.{Takeover, carries, IsCarried, IsLoaded, AreCarried, bytes_of, settled}
+use Rattle.vd_relay.specs.Commanding.{Takeover, carries, IsCarried, IsLoaded, AreCarried}
 
 -- chains of the shadow ring stand for different ones of the guest's
 pub guests_apart : (z : Takeover) (k n : ℕ) → z.replayed ≤ k → k < n → guests (carries z) n ≡ guests (carries z) k → ⊥
@@ -30,6 +29,7 @@ loads_here s number i x = rw (eq-eqb number number refl) refl
 loaded_other : (at_ack : ℕ → ℕ) (s : List DeviceDone) (number j i x : ℕ) (c : Command) → (number ≡ j → ⊥) → IsLoaded at_ack s j c
     → IsLoaded at_ack (LoadCommand number i x ∷ s) j c
 loaded_other at_ack s number j i x c ne h = record {
+  numbered = h.numbered;
   ack = h.ack;
   bytes = h.bytes;
   few = h.few;
@@ -38,7 +38,7 @@ loaded_other at_ack s number j i x c ne h = record {
 
 pub loaded_acked : (at_ack : ℕ → ℕ) (s : List DeviceDone) (j q x : ℕ) (c : Command) → IsLoaded at_ack s j c
     → IsLoaded at_ack (StoreAck q x ∷ s) j c
-loaded_acked at_ack s j q x c h = record { ack = h.ack; bytes = h.bytes; few = h.few; words = h.words }
+loaded_acked at_ack s j q x c h = record { numbered = h.numbered; ack = h.ack; bytes = h.bytes; few = h.few; words = h.words }
 
 module _ (z : Takeover) (table : List (Option Command)) (settings : Settings) (at_ack : ℕ → ℕ) (s : List DeviceDone) (g : Frame)
     (o : List DriverDone) (h : AreCarried z table settings at_ack s g o) where
@@ -57,7 +57,7 @@ module _ (z : Takeover) (table : List (Option Command)) (settings : Settings) (a
       sized = h.keeps.sized;
       stored = λ k some.
           let q = h.keeps.stored k some in
-          (q.0, q.1, loaded_other at_ack s number (guests (carries z) k) i x q.0 (other k (all k some)) q.2);
+          (q.0, q.1, loaded_other at_ack s number (guests (carries z) k) i x q.0 (other k (all k some)) q.2, q.3);
       only = h.keeps.only;
     };
     settled = h.settled;
@@ -74,7 +74,7 @@ module _ (z : Takeover) (table : List (Option Command)) (settings : Settings) (a
       sized = h.keeps.sized;
       stored = λ k some.
           let r = h.keeps.stored k some in
-          (r.0, r.1, loaded_acked at_ack s (guests (carries z) k) q x r.0 r.2);
+          (r.0, r.1, loaded_acked at_ack s (guests (carries z) k) q x r.0 r.2, r.3);
       only = h.keeps.only;
     };
     settled = h.settled;
@@ -86,30 +86,15 @@ module _ (z : Takeover) (table : List (Option Command)) (settings : Settings) (a
         let p = h.passed k (record { not_replayed = c.not_replayed; offered = c.offered }) in
         record { bytes = p.bytes; words = p.words };
     answered = λ k c given. h.answered k (record { not_replayed = c.not_replayed; offered = c.offered }) given;
-    keeps = record { sized = h.keeps.sized; stored = h.keeps.stored; only = h.keeps.only };
+    keeps = record {
+      sized = h.keeps.sized;
+      stored = λ k some.
+          let c = h.keeps.stored k some in
+          (c.0, c.1, c.2, record { none = c.3.none; late = c.3.late });
+      only = h.keeps.only;
+    };
     settled = h.settled;
   }
-
-  -- an ack is loaded for a command that isn't given yet
-  pub carried_answered : (n x : ℕ) (after : Settings) → z.replayed ≤ n
-      → (1 ≤ occurs (guests (carries z) n) (numbers (gives s)) → ⊥)
-      → after ≡ acknowledged settings (bytes_of g o n) x → AreCarried z table after at_ack s g (LoadAck n x ∷ o)
-  carried_answered n x after own none is = record {
-    passed = λ k c.
-        let p = h.passed k (record { not_replayed = c.not_replayed; offered = c.offered }) in
-        record { bytes = p.bytes; words = p.words };
-    answered = λ k c given. elim (cases_eq n k) [
-      | inl e ↦ absurd (none (subst (λ (j : ℕ). 1 ≤ occurs (guests (carries z) j) (numbers (gives s))) (sym e) given))
-      | inr ne ↦ rw (ne_eqb n k ne) (h.answered k (record { not_replayed = c.not_replayed; offered = c.offered }) given)
-    ];
-    keeps = record { sized = h.keeps.sized; stored = h.keeps.stored; only = h.keeps.only };
-    settled = is ∙ ap (λ (y : Settings). acknowledged y (bytes_of g o n) x) h.settled
-        ∙ sym (skipped (settled z.settings z.replayed g o));
-  }
-    where
-      skipped : (y : Settings) → (if Rattle.std.specs.Prelude.nat_lt n z.replayed then y else acknowledged y (bytes_of g o n) x)
-          ≡ acknowledged y (bytes_of g o n) x
-      skipped y = rw (le-ltb n z.replayed own) refl
 
 -- ---- single words
 

@@ -1,5 +1,5 @@
 -- A relay of a control queue after an access of a command or ack word.
-use Rattle.std.proofs.Common.{◌≡◌, ℕ, ◌≤◌, Option, List, [], ◌∷◌, length, slice_set, refl, sym, ◌∙◌, ap, subst, arith, inl}
+use Rattle.std.proofs.Common.{◌≡◌, ℕ, ◌≤◌, false, Option, List, [], ◌∷◌, length, slice_set, refl, sym, ◌∙◌, ap, subst, arith, inl}
 use Rattle.vd_ring.specs.declared.frame.Frame.{Frame}
 use Rattle.vd_ring.specs.declared.device.DeviceDone.{DeviceDone}
 use Rattle.vd_ring.specs.declared.device.DeviceDone.TheVariants.{LoadCommand}
@@ -95,11 +95,11 @@ module _ {E D : Type 0} (l : LayoutModel) (e : DeviceModel E) (d : DriverModel D
           loads_here w.done f.number 0 x ∙ ap (λ (ls : List CommandLoad). loaded 0 x ∷ ls) h.in_hand.2,
         ) h.still
 
-    pub second_loaded : IsLawfulDriver d → (f : Found) (c : Command) (a x : ℕ) → c.ack_place ≡ f.ack_place → c.count ≡ f.count → c.first ≡ a
-        → c.second ≡ x → Commanding l e d z r (carry.Second f a) t s w v
+    pub second_loaded : IsLawfulDriver d → (f : Found) (c : Command) (a x : ℕ) → c.number ≡ f.number → c.ack_place ≡ f.ack_place
+        → c.count ≡ f.count → c.first ≡ a → c.second ≡ x → c.late ≡ false → Commanding l e d z r (carry.Second f a) t s w v
         → e.stands r.guest (record w { done = LoadCommand f.number 1 x ∷ w.done })
         → Commanding l e d z r (carry.StoreFirst c) t s (record w { done = LoadCommand f.number 1 x ∷ w.done }) v
-    second_loaded law f c a x ack count first second h serves =
+    second_loaded law f c a x same ack count first second early h serves =
         let busy = to_offer w v f.number h.in_hand.0 in
         let u : DeviceView = record w { done = LoadCommand f.number 1 x ∷ w.done } in
         commanding (carry.StoreFirst c) u v busy (stands_loaded e d z r w v h.stands busy u f.number 1 x refl serves) h.ring
@@ -109,6 +109,7 @@ module _ {E D : Type 0} (l : LayoutModel) (e : DeviceModel E) (d : DriverModel D
           number = f.number;
           taken = offered_on f.number f.number 1 x h.in_hand.0;
           loaded = record {
+            numbered = same;
             ack = ack ∙ h.in_hand.1.ack;
             bytes = count ∙ h.in_hand.1.bytes;
             few = omega (arith, count, h.in_hand.1.few);
@@ -116,6 +117,7 @@ module _ {E D : Type 0} (l : LayoutModel) (e : DeviceModel E) (d : DriverModel D
                 ∙ ap (λ (y : ℕ). loaded 1 x ∷ loaded 0 y ∷ []) (sym first)
                 ∙ ap (λ (y : ℕ). loaded 1 y ∷ loaded 0 c.first ∷ []) (sym second);
           };
+          early = early;
         }) h.still
 
     -- the command words on the shadow ring
@@ -142,7 +144,7 @@ module _ {E D : Type 0} (l : LayoutModel) (e : DeviceModel E) (d : DriverModel D
         commanding (carry.StoreSecond c) w u busy (stands_stored e d z r w v h.stands busy u p q 0 c.first refl drives)
         (ring_on u refl h.ring)
         (carried_stored z t s (e.words.ack w.frame) w.done v.frame v.done (carried_now (carry.StoreFirst c) w v busy h) q 0 c.first) (
-          record { number = h.in_hand.number; taken = offer_stored h.in_hand.number p q 0 c.first h.in_hand.taken; loaded = h.in_hand.loaded },
+          record { number = h.in_hand.number; taken = offer_stored h.in_hand.number p q 0 c.first h.in_hand.taken; loaded = h.in_hand.loaded; early = h.in_hand.early },
           stored_here v.done q 0 c.first,
         ) h.still
 
@@ -158,7 +160,7 @@ module _ {E D : Type 0} (l : LayoutModel) (e : DeviceModel E) (d : DriverModel D
         let u : DriverView = record v { done = StoreCommand q 1 c.second ∷ v.done; stored = slice_set v.stored p c.second } in
         commanding (carry.Offer c) w u busy (stands_stored e d z r w v h.stands busy u p q 1 c.second refl drives) (ring_on u refl h.ring)
         (carried_stored z t s (e.words.ack w.frame) w.done v.frame v.done (carried_now (carry.StoreSecond c) w v busy h) q 1 c.second) (
-          record { number = held.number; taken = offer_stored held.number p q 1 c.second held.taken; loaded = held.loaded },
+          record { number = held.number; taken = offer_stored held.number p q 1 c.second held.taken; loaded = held.loaded; early = held.early },
           stored_first v.done q c.second ∙ h.in_hand.1,
           stored_here v.done q 1 c.second,
         ) tt

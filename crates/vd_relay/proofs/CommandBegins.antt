@@ -1,39 +1,34 @@
 -- A relay of a control queue that begins to carry.
-use Rattle.std.proofs.Common.{◌≡◌, ℕ, ◌<◌, ◌≤◌, true, false, Some, None, IsSome, Option, List, [], ◌∷◌, length, replicate, if◌then◌else◌, refl, sym, ◌∙◌, ap, subst, arith, inl, inr}
-use Rattle.std.proofs.lemmas.Bool.{cases_lt, lt-ltb, ne_eqb}
+use Rattle.std.proofs.Common.{◌≡◌, ℕ, ◌-◌, ◌≤◌, false, Some, None, IsSome, Option, List, [], length, map, filter, replicate, refl, sym, ◌∙◌, ap, subst, arith}
+use Rattle.std.specs.List.{range_with_len}
 use Rattle.std.proofs.lemmas.List.{length-replicate}
 use Rattle.vd_ring.specs.declared.frame.Frame.{Frame}
 use Rattle.vd_ring.specs.declared.driver.DriverDone.{DriverDone}
-use Rattle.vd_ring.specs.declared.driver.DriverDone.TheVariants.{Offer, Collect, StoreCommand, LoadAck}
 use Rattle.vd_ring.specs.declared.driver.DriverView.{DriverView}
 use Rattle.vd_ring.specs.declared.device.DeviceDone.{DeviceDone}
 use Rattle.vd_ring.specs.declared.device.DeviceView.{DeviceView}
-use Rattle.vd_ring.specs.History.{offers, open_at, takes, gives, occurs}
+use Rattle.vd_ring.specs.History.{offers, open_at, occurs}
 use Rattle.vd_layout.specs.Begun.{DeviceOp}
 use Rattle.vd_layout.specs.Driver.{DriverModel}
 use Rattle.vd_layout.specs.Device.{DeviceModel}
 use Rattle.vd_layout.specs.Layout.{LayoutModel}
 use Rattle.vd_control.specs.declared.settings.Settings.{Settings}
-use Rattle.vd_commands.specs.Loads.{ack_load}
+use Rattle.vd_commands.specs.Words.{set_by}
 use Rattle.vd_table.specs.declared.Command.{Command}
 use Rattle.vd_table.specs.Rows.{row}
 use Rattle.vd_relay.specs.declared.carry.Carry.{Carry}
 use Rattle.vd_relay.specs.declared.carry.Carry.TheVariants as carry
 use Rattle.vd_relay.specs.declared.commander.Commander.{Commander}
 use Rattle.vd_relay.specs.declared.counts.Counts.{Counts}
-use Rattle.vd_relay.specs.declared.stage.Stage.{Stage}
-use Rattle.vd_relay.specs.declared.stage.Stage.TheVariants as stage
 use Rattle.vd_relay.specs.declared.state.State.{State}
 use Rattle.vd_relay.specs.Pace.{KeepsPace}
-use Rattle.vd_relay.specs.Stages.{is_rested, is_offering}
-use Rattle.vd_relay.specs.Ways.{carrying}
-use Rattle.vd_relay.specs.Relay.{Holds, start, owes}
+use Rattle.vd_relay.specs.Stages.{is_offering}
+use Rattle.vd_relay.specs.Relay.{Holds}
 use Rattle.vd_relay.specs.Replays.{IsShadowRing}
-use Rattle.vd_relay.specs.Accesses.{acknowledged}
-use Rattle.vd_relay.specs.Commanding.{Takeover, carries, settled, bytes_of, AreCarried}
-use Rattle.vd_relay.specs.Underway.{HandIs, AckStands, Commanding, owed}
+use Rattle.vd_relay.specs.Settling.{settled, bytes_of, is_acknowledged}
+use Rattle.vd_relay.specs.Commanding.{Takeover, carries, AreCarried}
+use Rattle.vd_relay.specs.Underway.{AckStands, Commanding, owed}
 use Rattle.vd_relay.specs.CommandSteps.{CommandHolds}
-use Rattle.vd_relay.proofs.CarryTies.{answered_here}
 
 row_none : (n h : ℕ) → row {T = Command} (replicate n None) h ≡ None
 row_none ℕ.zero h = refl
@@ -44,24 +39,10 @@ nothing : (x : Option Command) → IsSome x → x ≡ None → ⊥
 nothing None some is = cc
 nothing (Some x) some is = cc
 
--- the acks of what was replayed change no settings
-pub settled_none : (n : ℕ) (g : Frame) (x : Settings) (o : List DriverDone) → ((k : ℕ) → n ≤ k → ack_load o k ≡ None) → x ≡ settled x n g o
-settled_none n g x [] none = refl
-settled_none n g x (Offer c ∷ o) none = settled_none n g x o none
-settled_none n g x (Collect us ∷ o) none = settled_none n g x o none
-settled_none n g x (StoreCommand h i w ∷ o) none = settled_none n g x o none
-settled_none n g x (LoadAck k w ∷ o) none = elim (cases_lt k n) [
-  | inl low ↦
-      let rest = settled_none n g x o (λ j high. sym (other j (λ e. absurd (omega (arith, low, high, e)))) ∙ none j high) in
-      rest ∙ sym (skipped low)
-  | inr high ↦ absurd (cc (answered_here o k w, none k high))
-]
-  where
-    other : (j : ℕ) → (k ≡ j → ⊥) → ack_load (LoadAck k w ∷ o) j ≡ ack_load o j
-    other j ne = rw (ne_eqb k j ne) refl
-
-    skipped : k < n → settled x n g (LoadAck k w ∷ o) ≡ settled x n g o
-    skipped low = rw (lt-ltb k n low) refl
+-- what was replayed changes no settings
+pub settled_none : (n : ℕ) (g : Frame) (x : Settings) (o : List DriverDone) → length (offers o) ≤ n → x ≡ settled x n g o
+settled_none n g x o few = ap (λ (k : ℕ). set_by x (map (bytes_of g o) (filter (is_acknowledged o) (range_with_len n k))))
+    (let e : 0 ≡ length (offers o) - n = omega (arith, few) in e)
 
 -- nothing is carried yet
 pub carried_new : (z : Takeover) (t : List (Option Command)) (x : Settings) (at_ack : ℕ → ℕ) (s : List DeviceDone) (g : Frame)

@@ -1,5 +1,5 @@
 -- A relay of a control queue that carries is a relay: it holds, with what is due left out, and its turns are those of any relay.
-use Rattle.std.proofs.Common.{◌≡◌, ℕ, ◌+◌, ◌≤◌, Bool, true, false, refl, sym, ◌∙◌, ap, subst, arith}
+use Rattle.std.proofs.Common.{◌≡◌, ℕ, ◌+◌, Bool, false, sym, subst, arith}
 use Rattle.vd_words.specs.Model.{PortModel}
 use Rattle.vd_ring.specs.declared.device.DeviceView.{DeviceView}
 use Rattle.vd_ring.specs.declared.driver.DriverView.{DriverView}
@@ -15,7 +15,8 @@ use Rattle.vd_relay.specs.declared.state.State.{State}
 use Rattle.vd_relay.specs.Pace.{KeepsPace, move_of}
 use Rattle.vd_relay.specs.Stages.{is_rested}
 use Rattle.vd_relay.specs.Relay.{Holds, IsKept, ShadowWaits, GuestWaits, owes}
-use Rattle.vd_relay.specs.Carriers.{CarriesOn, TellsOf}
+use Rattle.vd_relay.specs.Carriers.{CarriesOn}
+use Rattle.vd_relay.specs.Tellings.{TellsOf}
 use Rattle.vd_relay.specs.Commanders.{commander}
 use Rattle.vd_relay.specs.Commanding.{Takeover, carries}
 use Rattle.vd_relay.specs.Underway.{due, owed}

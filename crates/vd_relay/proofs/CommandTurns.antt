@@ -1,19 +1,17 @@
 -- What a turn of the rings leaves of a relay of a control queue: a command is taken, offered, collected or given, or none is.
-use Rattle.std.proofs.Common.{◌≡◌, ◌⊎◌, ℕ, ◌+◌, ◌*◌, ◌<◌, ◌≤◌, true, false, Some, None, Option, List, [], ◌∷◌, length, slice_set, if◌then◌else◌, refl, sym, ◌∙◌, ap, subst, arith, inl, inr}
+use Rattle.std.proofs.Common.{◌≡◌, ℕ, ◌+◌, ◌*◌, ◌≤◌, true, false, Option, List, [], ◌∷◌, length, if◌then◌else◌, refl, sym, ◌∙◌, ap, subst, arith, inl, inr}
 use Rattle.std.proofs.lemmas.Bool.{cases_lt}
 use Rattle.vd_model.specs.declared.chain.Piece.{Piece}
 use Rattle.vd_words.specs.Model.{PortModel}
 use Rattle.vd_ring.specs.declared.act.DeviceAct.{DeviceAct}
 use Rattle.vd_ring.specs.declared.act.DeviceAct.TheVariants as act
-use Rattle.vd_ring.specs.declared.frame.Used.{Used}
 use Rattle.vd_ring.specs.declared.device.DeviceDone.{DeviceDone}
 use Rattle.vd_ring.specs.declared.device.DeviceDone.TheVariants.{Take}
 use Rattle.vd_ring.specs.declared.device.DeviceView.{DeviceView}
-use Rattle.vd_ring.specs.declared.driver.DriverDone.{DriverDone}
 use Rattle.vd_ring.specs.declared.driver.DriverDone.TheVariants.{Collect}
 use Rattle.vd_ring.specs.declared.driver.DriverView.{DriverView}
-use Rattle.vd_ring.specs.History.{entry, free, head, next_head}
-use Rattle.vd_layout.specs.Begun.{DeviceOp, DriverOp}
+use Rattle.vd_ring.specs.History.{entry, free, head}
+use Rattle.vd_layout.specs.Begun.{DeviceOp}
 use Rattle.vd_layout.specs.Driver.{DriverModel}
 use Rattle.vd_layout.specs.Device.{DeviceModel, is_rested as is_rested_act}
 use Rattle.vd_layout.specs.Layout.{LayoutModel, IsLawfulLayout}
@@ -30,10 +28,11 @@ use Rattle.vd_relay.specs.declared.state.State.{State}
 use Rattle.vd_relay.specs.Pace.{counted, handled, woke, guest_handled, guest_owes, shadow_owes}
 use Rattle.vd_relay.specs.Stages.{is_rested, is_shadow, is_offering, BackIs}
 use Rattle.vd_relay.specs.Relay.{Stands, GuestDid, ShadowWaits, GuestWaits, owes}
-use Rattle.vd_relay.specs.Carriers.{CarriesOn, TellsOf, GoesOn, IsOffered, IsCollected}
+use Rattle.vd_relay.specs.Carriers.{CarriesOn}
+use Rattle.vd_relay.specs.Tellings.{TellsOf, GoesOn, IsOffered, IsCollected}
 use Rattle.vd_relay.specs.Commanders.{commander}
 use Rattle.vd_relay.specs.Commanding.{Takeover, carries}
-use Rattle.vd_relay.specs.Underway.{HandIs, Commanding, due, owed}
+use Rattle.vd_relay.specs.Underway.{Commanding, due, owed}
 use Rattle.vd_relay.proofs.CarryHanded.{handed, handed_paid}
 use Rattle.vd_relay.proofs.CarryKept.{kept_same, kept_taken, kept_given, kept_rested}
 use Rattle.vd_relay.proofs.CarryMoved.{offered_on, collected_on, still_none, still_offers}
@@ -203,8 +202,9 @@ module _ {P E D : Type 0} (port : PortModel P) (l : LayoutModel) (e : DeviceMode
 
   giving_owes : (v' : DriverView) (k n : ℕ) → r'.stage ≡ stage.Giving → e.begun r'.guest ≡ DeviceOp.give k n
       → owes e d r' w v' ≡ e.left r'.guest
-  giving_owes v' k n at begun = ap (λ (y : Stage). if is_shadow y then shadow_owes r'.winding y (d.begun r'.shadow) v'.doing w.shown v'.shown
-      (d.left r'.shadow) else guest_owes r'.winding y (e.begun r'.guest) w.doing w.shown v'.shown (e.left r'.guest)) at
+  giving_owes v' k n at begun =
+      ap (λ (y : Stage). if is_shadow y then shadow_owes r'.winding y (d.begun r'.shadow) v'.doing w.shown v'.shown (d.left r'.shadow)
+      else guest_owes r'.winding y (e.begun r'.guest) w.doing w.shown v'.shown (e.left r'.guest)) at
       ∙ ap (λ (o : DeviceOp). guest_owes r'.winding stage.Giving o w.doing w.shown v'.shown (e.left r'.guest)) begun
 
   pub shadow_leaves : GuestWaits e r r' → (t : TellsOf (commander l) port e d (carries z) x x' p q r r' w v turn)

@@ -1,14 +1,12 @@
 -- An access of a command or ack word is a step of a relay of a control queue.
-use Rattle.std.proofs.Common.{◌≡◌, ℕ, ◌+◌, ◌*◌, ◌≤◌, Bool, true, false, Option, List, length, if◌then◌else◌, refl, sym, ◌∙◌, ap, subst, arith, inl, inr}
+use Rattle.std.proofs.Common.{◌≡◌, ℕ, ◌+◌, ◌*◌, ◌≤◌, Bool, false, Option, List, length, if◌then◌else◌, sym, ◌∙◌, ap, subst, arith, inl, inr}
 use Rattle.vd_words.specs.declared.access.Access.{Access}
 use Rattle.vd_words.specs.declared.access.Access.TheVariants.{Load, Store}
 use Rattle.vd_words.specs.declared.access.Op.TheVariants.{Control}
 use Rattle.vd_words.specs.Model.{PortModel}
 use Rattle.vd_model.specs.declared.chain.Piece.{Piece}
 use Rattle.vd_ring.specs.declared.frame.Used.{Used}
-use Rattle.vd_ring.specs.declared.device.DeviceDone.{DeviceDone}
 use Rattle.vd_ring.specs.declared.device.DeviceView.{DeviceView}
-use Rattle.vd_ring.specs.declared.driver.DriverDone.{DriverDone}
 use Rattle.vd_ring.specs.declared.driver.DriverView.{DriverView}
 use Rattle.vd_ring.specs.History.{offers, collects, takes, gives}
 use Rattle.vd_ring.specs.Sleep.{driver_woken, device_woken}
@@ -64,11 +62,10 @@ paid_one i j is = omega (arith, is)
 
 module _ {P E D : Type 0} (port : PortModel P) (l : LayoutModel) (e : DeviceModel E) (d : DriverModel D) (z : Takeover) (p q : P)
     (r : State E D) (x x' : Commander) (s s' : Settings) (c c' : Counts) (w : DeviceView) (v : DriverView)
-    (h : CommandHolds l e d z r x s c w v) (live : is_rested r.stage ≡ false) (some : 1 ≤ due x.hand) (n : Noted c c' Worked)
-    (same : x'.commands ≡ x.commands) where
-  pub on_guest_word : IsLawfulDevice e → s' ≡ s → OnGuestWord port l e d z p q r x.hand x'.hand x.commands s w v
+    (h : CommandHolds l e d z r x s c w v) (live : is_rested r.stage ≡ false) (some : 1 ≤ due x.hand) (n : Noted c c' Worked) where
+  pub on_guest_word : IsLawfulDevice e → x'.commands ≡ x.commands → s' ≡ s → OnGuestWord port l e d z p q r x.hand x'.hand x.commands s w v
       → OnGuestCommand port l e d z p q r r x x' s' c c' w v move.Worked
-  on_guest_word law is o =
+  on_guest_word law same is o =
       let w' : DeviceView = e.side.after w Control o.access o.got in
       let moves = law.control_moves w o.access o.got o.was_next in
       let stays = guest_word e law r.guest w o.access o.got h.commands.stands.serves o.was_next in
@@ -117,7 +114,7 @@ module _ {P E D : Type 0} (port : PortModel P) (l : LayoutModel) (e : DeviceMode
         },
       )
 
-  pub on_shadow_word : IsLawfulDriver d → OnShadowWord port l e d z p q r x.hand x'.hand x.commands s s' w v
+  pub on_shadow_word : IsLawfulDriver d → OnShadowWord port l e d z p q r x.hand x'.hand x.commands x'.commands s s' w v
       → OnShadowCommand port l e d z p q r r x x' s' c c' w v move.Worked
   on_shadow_word law o =
       let v' : DriverView = d.side.after v Control o.access o.got in
@@ -160,8 +157,7 @@ module _ {P E D : Type 0} (port : PortModel P) (l : LayoutModel) (e : DeviceMode
           };
         },
         record {
-          commands = subst (λ (y : List (Option Command)).
-              Commanding l e d z r x'.hand y s' w v') (sym same) o.commands;
+          commands = o.commands;
           pace = pace;
           hears_guest = h.hears_guest;
           hears_shadow = λ i idle. h.hears_shadow i still.1;

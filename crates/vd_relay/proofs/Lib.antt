@@ -76,3 +76,8 @@ pub mod ModeReplays
 pub mod ModeLeaves
 pub mod ModeCarries
 pub mod ModeEnds
+pub mod SettingParts
+pub mod SettingFolds
+pub mod SettledChains
+pub mod Marking
+pub mod CarryMarks

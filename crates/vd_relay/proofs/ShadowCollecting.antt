@@ -23,7 +23,8 @@ use Rattle.vd_relay.specs.Pace.{guest_owes}
 use Rattle.vd_relay.specs.Stages.{is_offering, GuestIs, ShadowIs, TakesFrom, OffersHand, BackIs, GuestShown, ShadowShown}
 use Rattle.vd_relay.specs.Tie.{Course, IsTied, guests, origin}
 use Rattle.vd_relay.specs.Relay.{Stands}
-use Rattle.vd_relay.specs.Carriers.{CarrierModel, MayTell, TellsOf}
+use Rattle.vd_relay.specs.Carriers.{CarrierModel}
+use Rattle.vd_relay.specs.Tellings.{MayTell, TellsOf}
 use Rattle.vd_relay.proofs.Ways.{alike}
 use Rattle.vd_relay.proofs.Ties.{tied_collected, head_stored, may_give}
 use Rattle.vd_relay.proofs.Calm.{at_stage}

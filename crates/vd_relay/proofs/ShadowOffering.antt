@@ -21,7 +21,8 @@ use Rattle.vd_relay.specs.Pace.{shadow_owes}
 use Rattle.vd_relay.specs.Stages.{is_offering, GuestIs, ShadowIs, TakesFrom, OffersHand, OfferIs, BackIs, ShadowShown}
 use Rattle.vd_relay.specs.Tie.{Course, IsTied, guests, origin}
 use Rattle.vd_relay.specs.Relay.{Stands}
-use Rattle.vd_relay.specs.Carriers.{CarrierModel, TellsOf}
+use Rattle.vd_relay.specs.Carriers.{CarrierModel}
+use Rattle.vd_relay.specs.Tellings.{TellsOf}
 use Rattle.vd_relay.proofs.Ties.{tied_offered}
 use Rattle.vd_relay.proofs.Calm.{FewInHand, at_stage, hand_to}
 use Rattle.vd_relay.proofs.Ops.{at_offer}

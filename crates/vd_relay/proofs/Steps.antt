@@ -22,7 +22,8 @@ use Rattle.vd_relay.specs.declared.state.State.{State}
 use Rattle.vd_relay.specs.Pace.{last_count, raised, counted, handled, woke, move_of, guest_handled, shadow_handled, KeepsPace}
 use Rattle.vd_relay.specs.Stages.{GuestIs, ShadowIs, is_hearing, is_shadow, is_offering}
 use Rattle.vd_relay.specs.Tie.{Course}
-use Rattle.vd_relay.specs.Carriers.{CarrierModel, CarrierTurn, CarriesOn, TellsTurn, TellsOf}
+use Rattle.vd_relay.specs.Carriers.{CarrierModel, CarrierTurn, CarriesOn}
+use Rattle.vd_relay.specs.Tellings.{TellsTurn, TellsOf}
 use Rattle.vd_relay.proofs.Ops.{guest_idle, shadow_idle}
 use Rattle.vd_relay.proofs.GuestTurns.{TurnsTo}
 use Rattle.vd_relay.proofs.ShadowTurns.{TurnsTo as ShadowTo}
@@ -128,9 +129,11 @@ module _ {P E D : Type 0} (port : PortModel P) (e : DeviceModel E) (d : DriverMo
       → (is_offering r.stage ≡ false → is_offering u.stage ≡ false) → TellsOf m port e d z x x' p q u r' w v t
       → TellsOf m port e d z x x' p q r r' w v t
   shadow_from m x x' less k same guest offers other h =
-      let turn = shadow_from_to less k same h.0 in
-      (turn.0, subst (λ (y : DriverView). TellsTurn m e d z x x' r r' v y t) (sym turn.1)
-      (told_from m e d z x x' r u r' v (d.side.after v h.0.op h.0.access h.0.got) t guest offers other h.1))
+      let turn = shadow_from_to less k same h.0 in (
+        turn.0,
+        subst (λ (y : DriverView). TellsTurn m e d z x x' r r' v y t) (sym turn.1)
+            (told_from m e d z x x' r u r' v (d.side.after v h.0.op h.0.access h.0.got) t guest offers other h.1),
+      )
 
 -- ---- counts
 

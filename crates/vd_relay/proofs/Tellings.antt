@@ -15,7 +15,8 @@ use Rattle.vd_relay.specs.Pace.{handled}
 use Rattle.vd_relay.specs.Stages.{GuestIs, ShadowIs, is_offering}
 use Rattle.vd_relay.specs.Tie.{Course}
 use Rattle.vd_relay.specs.Relay.{Stands}
-use Rattle.vd_relay.specs.Carriers.{CarrierModel, MayTell, GoesOn, IsOffered, IsCollected, TellsTurn}
+use Rattle.vd_relay.specs.Carriers.{CarrierModel}
+use Rattle.vd_relay.specs.Tellings.{MayTell, GoesOn, IsOffered, IsCollected, TellsTurn}
 use Rattle.vd_relay.proofs.Ops.{at_give}
 use Rattle.vd_relay.proofs.ShadowTurns.{with_shadow}
 

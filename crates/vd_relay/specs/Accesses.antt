@@ -1,6 +1,6 @@
 -- The accesses of command and ack words that a relay of a control queue makes, one by one. On each of the two rings no access of an
 -- operation in progress is made yet: its end may have begun one.
-use Rattle.std.specs.Prelude.{◌≡◌, ℕ, ◌+◌, ◌<◌, ◌≤◌, ◌%◌, ◌==◌, true, length, Some, List, [], ◌∷◌, if◌then◌else◌, slice_set}
+use Rattle.std.specs.Prelude.{◌≡◌, ℕ, ◌+◌, ◌<◌, ◌≤◌, true, length, Some, [], ◌∷◌, slice_set}
 use Rattle.std.specs.List.{Contains}
 use Rattle.vd_words.specs.declared.access.Access.TheVariants.{Load, Store}
 use Rattle.vd_words.specs.declared.access.Op.TheVariants.{Control}
@@ -16,8 +16,6 @@ use Rattle.vd_ring.specs.Control.{last_collected}
 use Rattle.vd_layout.specs.Driver.{DriverModel}
 use Rattle.vd_layout.specs.Device.{DeviceModel}
 use Rattle.vd_layout.specs.Layout.{LayoutModel}
-use Rattle.vd_control.specs.declared.settings.Settings.{Settings}
-use Rattle.vd_commands.specs.Words.{set_by}
 use Rattle.vd_relay.specs.Replays.{IsShadowRing}
 
 -- ---- on the guest's ring
@@ -105,9 +103,3 @@ pub record LoadsAckWord {Q D : Type 0} (port : PortModel Q) (d : DriverModel D) 
   pub moved : port.moves p Control (Load (d.words.ack v.frame h)) got q
   pub after : d.side.after v Control (Load (d.words.ack v.frame h)) got ≡ record v { done = LoadAck k got ∷ v.done }
   pub stands : d.stands x (d.side.after v Control (Load (d.words.ack v.frame h)) got)
-
--- ---- the settings
-
--- the settings after an ack of these bytes: changed where its low byte is OK, 0, and the bytes are a command
-abbrev pub acknowledged : Settings → List ℕ → ℕ → Settings
-acknowledged s bytes ack = if ack % 256 == 0 then set_by s (bytes ∷ []) else s

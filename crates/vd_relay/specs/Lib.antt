@@ -5,11 +5,13 @@ pub mod Stages
 pub mod Pace
 pub mod Relay
 pub mod Carriers
+pub mod Tellings
 pub mod Moving
 pub mod Replays
 pub mod Leaving
 pub mod Accesses
 pub mod Carrying
+pub mod Settling
 pub mod Commanding
 pub mod CommandSteps
 pub mod Modes

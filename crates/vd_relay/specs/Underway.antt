@@ -1,5 +1,5 @@
 -- The command that a relay of a control queue has in hand: what is known of it before each of its accesses.
-use Rattle.std.specs.Prelude.{◌≡◌, ℕ, ◌+◌, ◌<◌, ◌≤◌, true, false, Bool, Some, Option, List, [], ◌∷◌, length}
+use Rattle.std.specs.Prelude.{◌≡◌, ℕ, ◌+◌, ◌<◌, ◌≤◌, false, Some, Option, List, [], ◌∷◌, length}
 use Rattle.std.specs.List.{Contains}
 use Rattle.vd_model.specs.declared.chain.Piece.{Piece}
 use Rattle.vd_model.specs.Chains.{readable}
@@ -19,13 +19,13 @@ use Rattle.vd_table.specs.declared.Command.{Command}
 use Rattle.vd_relay.specs.declared.carry.Carry.{Carry}
 use Rattle.vd_relay.specs.declared.carry.Carry.TheVariants as carry
 use Rattle.vd_relay.specs.declared.carry.Found.{Found}
-use Rattle.vd_relay.specs.declared.stage.Stage.{Stage}
 use Rattle.vd_relay.specs.declared.stage.Stage.TheVariants as stage
 use Rattle.vd_relay.specs.declared.state.State.{State}
 use Rattle.vd_relay.specs.Stages.{is_offering}
 use Rattle.vd_relay.specs.Tie.{guests}
 use Rattle.vd_relay.specs.Replays.{IsShadowRing}
 use Rattle.vd_relay.specs.Relay.{Stands, owes}
+use Rattle.vd_relay.specs.Settling.{IsUnsettled}
 use Rattle.vd_relay.specs.Commanding.{Takeover, carries, IsCarried, IsLoaded, AreCarried}
 
 -- ---- a command on its way to the shadow ring
@@ -47,12 +47,13 @@ pub record IsToOffer {E D : Type 0} (e : DeviceModel E) (d : DriverModel D) (r :
   pub room : 1 ≤ length (free v.frame v.done)
   pub runs : Contains (running w.done) number
 
--- it is loaded, and the words that it has are those loaded
+-- it is loaded, and the words that it has are those loaded. No later command was offered
 pub record IsHeld {E D : Type 0} (e : DeviceModel E) (d : DriverModel D) (r : State E D) (w : DeviceView) (v : DriverView) (c : Command)
     : Type 0 where
   pub number : ℕ
   pub taken : IsToOffer e d r w v number
   pub loaded : IsLoaded (e.words.ack w.frame) w.done number c
+  pub early : c.late ≡ false
 
 -- command word `half` of the next head is this
 abbrev pub IsStored : DriverView → ℕ → ℕ → Type 0
@@ -93,6 +94,7 @@ HandIs e d z r w v (carry.StoreSecond c) = IsHeld e d r w v c × IsStored v 0 c.
 HandIs e d z r w v (carry.Offer c) = IsHeld e d r w v c × IsStored v 0 c.first × IsStored v 1 c.second
 HandIs e d z r w v (carry.LoadAck h c) = (k : ℕ) × IsBack e d z r w v k × (last_collected v.done ≡ Some k)
     × (h ≡ head v.frame v.done k) × (h < v.frame.size) × IsLoaded (e.words.ack w.frame) w.done (guests (carries z) k) c
+    × IsUnsettled v.frame v.done k c
 HandIs e d z r w v (carry.StoreAck p x) = (k : ℕ) × IsAcked e d z r w v k x
     × (p ≡ e.words.ack w.frame (taken_head w.done (guests (carries z) k)))
 

@@ -1,16 +1,12 @@
 //! The accesses of command and ack words that a relay of a control queue makes: each is one load or one store.
-ghost use Rattle.std.specs.Prelude.{◌≡◌, ◌+◌, ◌<◌, ◌≤◌, ◌^◌, ℕ};
+ghost use Rattle.std.specs.Prelude.{◌≡◌, ◌+◌, ◌<◌, ◌^◌, ℕ};
 ghost use Rattle.vd_words.specs.Own.{IsOwn};
 ghost use Rattle.vd_ring.specs.declared.driver.DriverNow.TheVariants.{Idle};
 ghost use Rattle.vd_ring.specs.declared.driver.DriverView.{DriverView};
 ghost use Rattle.vd_ring.specs.declared.device.DeviceView.{DeviceView};
 ghost use Rattle.vd_ring.specs.History.{next_head};
-ghost use Rattle.vd_control.specs.Settings.{HasPairs};
-ghost use Rattle.vd_commands.specs.Words.{word_bytes};
-ghost use Rattle.vd_relay.specs.Accesses.{FindsCommand, FindsAck, LoadsWord, StoresAckWord, HasFree, FindsNext, StoresWord, HasCollected, LoadsAckWord, acknowledged};
+ghost use Rattle.vd_relay.specs.Accesses.{FindsCommand, FindsAck, LoadsWord, StoresAckWord, HasFree, FindsNext, StoresWord, HasCollected, LoadsAckWord};
 
-use vd_commands::{Words, bytes_of};
-use vd_control::{Command, Settings};
 use vd_layout::{DriverEnd, Layout};
 use vd_words::{Access, Op, Port};
 
@@ -68,17 +64,4 @@ pub fn load_ack<L: Layout, Q: Port>(shadow: &L::Driver, port: &mut Q, head: u32)
 {
     let place = L::ack_word(shadow.size(), shadow.features(), head);
     port.access(Op::Control, Access::Load(place))
-}
-
-/// Changes the settings by a command of so many bytes that was acknowledged: where the low byte of its ack is OK, 0.
-pub fn acknowledge(settings: &mut Settings, count: u32, words: Words, ack: u64)
-    requires { count ≤ 10 }
-    ensures value { settings.new ≡ acknowledged settings.old (word_bytes count words.first words.second) ack }
-    ensures lawful { HasPairs settings.old → HasPairs settings.new }
-{
-    if ack % 256 == 0 {
-        if let Some(command) = Command::read(bytes_of(count, words).as_slice()) {
-            settings.apply(&command);
-        }
-    }
 }

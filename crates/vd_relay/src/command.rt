@@ -11,13 +11,13 @@ ghost use Rattle.vd_relay.specs.Commanding.{Takeover};
 ghost use Rattle.vd_relay.specs.Underway.{Commanding, due};
 ghost use Rattle.vd_relay.specs.Controls.{CanAccess, OnGuestWord, OnShadowWord, OneWord};
 
-use crate::accesses::{acknowledge, load_ack, load_command, next_word, store_ack, store_command};
+use crate::accesses::{load_ack, load_command, next_word, store_ack, store_command};
 use crate::carry::{Carry, Found};
+use crate::settle::acknowledge;
 use crate::state::State;
-use vd_commands::Words;
 use vd_control::Settings;
 use vd_layout::Layout;
-use vd_table::Command;
+use vd_table::{Command, Rows};
 use vd_words::Port;
 
 /// Loads the first word of the command that was taken.
@@ -26,8 +26,8 @@ pub(crate) fn load_first<L: Layout, P: Port>(
     port: &mut P,
     found: Found,
 ) -> Carry
-    requires { (s : Settings) × (w : DeviceView) × (v : DriverView)
-        × CanAccess L.layout L.Device.device L.Driver.driver state.now (First found) s w v × IsOwn P.port L.Device.device.side port.old w }
+    requires { (t : List (Option Command)) × (s : Settings) × (w : DeviceView) × (v : DriverView)
+        × CanAccess L.layout L.Device.device L.Driver.driver state.now (First found) t s w v × IsOwn P.port L.Device.device.side port.old w }
     ensures { (z : Takeover) (t : List (Option Command)) (s : Settings) (w : DeviceView) (v : DriverView)
         → Commanding L.layout L.Device.device L.Driver.driver z state.now (First found) t s w v
         → OnGuestWord P.port L.layout L.Device.device L.Driver.driver z port.old port.new state.now (First found) result t s w v }
@@ -43,8 +43,8 @@ pub(crate) fn load_second<L: Layout, P: Port>(
     found: Found,
     first: u64,
 ) -> Carry
-    requires { (s : Settings) × (w : DeviceView) × (v : DriverView)
-        × CanAccess L.layout L.Device.device L.Driver.driver state.now (Second found first) s w v
+    requires { (t : List (Option Command)) × (s : Settings) × (w : DeviceView) × (v : DriverView)
+        × CanAccess L.layout L.Device.device L.Driver.driver state.now (Second found first) t s w v
         × IsOwn P.port L.Device.device.side port.old w }
     ensures { (z : Takeover) (t : List (Option Command)) (s : Settings) (w : DeviceView) (v : DriverView)
         → Commanding L.layout L.Device.device L.Driver.driver z state.now (Second found first) t s w v
@@ -52,10 +52,12 @@ pub(crate) fn load_second<L: Layout, P: Port>(
 {
     let second = load_command::<L, P>(&state.guest, port, found.place + 1);
     let command = Command {
+        number: found.number,
         ack_place: found.ack_place,
         count: found.count,
         first,
         second,
+        late: false,
     };
     Carry::StoreFirst { command }
 }
@@ -66,12 +68,12 @@ pub(crate) fn store_first<L: Layout, Q: Port>(
     port: &mut Q,
     command: Command,
 ) -> Carry
-    requires { (s : Settings) × (w : DeviceView) × (v : DriverView)
-        × CanAccess L.layout L.Device.device L.Driver.driver state.now (StoreFirst command) s w v
+    requires { (t : List (Option Command)) × (s : Settings) × (w : DeviceView) × (v : DriverView)
+        × CanAccess L.layout L.Device.device L.Driver.driver state.now (StoreFirst command) t s w v
         × IsOwn Q.port L.Driver.driver.side port.old v }
     ensures { (z : Takeover) (t : List (Option Command)) (s : Settings) (w : DeviceView) (v : DriverView)
         → Commanding L.layout L.Device.device L.Driver.driver z state.now (StoreFirst command) t s w v
-        → OnShadowWord Q.port L.layout L.Device.device L.Driver.driver z port.old port.new state.now (StoreFirst command) result t s s w v }
+        → OnShadowWord Q.port L.layout L.Device.device L.Driver.driver z port.old port.new state.now (StoreFirst command) result t t s s w v }
 {
     let place = next_word::<L>(&state.shadow);
     store_command::<L, Q>(&state.shadow, port, place, command.first);
@@ -84,41 +86,39 @@ pub(crate) fn store_second<L: Layout, Q: Port>(
     port: &mut Q,
     command: Command,
 ) -> Carry
-    requires { (s : Settings) × (w : DeviceView) × (v : DriverView)
-        × CanAccess L.layout L.Device.device L.Driver.driver state.now (StoreSecond command) s w v
+    requires { (t : List (Option Command)) × (s : Settings) × (w : DeviceView) × (v : DriverView)
+        × CanAccess L.layout L.Device.device L.Driver.driver state.now (StoreSecond command) t s w v
         × IsOwn Q.port L.Driver.driver.side port.old v }
     ensures { (z : Takeover) (t : List (Option Command)) (s : Settings) (w : DeviceView) (v : DriverView)
         → Commanding L.layout L.Device.device L.Driver.driver z state.now (StoreSecond command) t s w v
-        → OnShadowWord Q.port L.layout L.Device.device L.Driver.driver z port.old port.new state.now (StoreSecond command) result t s s w v }
+        → OnShadowWord Q.port L.layout L.Device.device L.Driver.driver z port.old port.new state.now (StoreSecond command) result t t s s w v }
 {
     let place = next_word::<L>(&state.shadow);
     store_command::<L, Q>(&state.shadow, port, place + 1, command.second);
     Carry::Offer { command }
 }
 
-/// Loads the ack of the command that came back. The settings are changed where it is OK.
+/// Loads the ack of the command that came back. Where it is OK the settings are changed, unless the command is late, and earlier
+/// commands that set the same are late from then on.
 pub(crate) fn load_answer<L: Layout, Q: Port>(
     state: &State<L::Device, L::Driver>,
+    commands: &mut Rows<Command>,
     settings: &mut Settings,
     port: &mut Q,
     head: u32,
     command: Command,
 ) -> Carry
     requires { (w : DeviceView) × (v : DriverView)
-        × CanAccess L.layout L.Device.device L.Driver.driver state.now (LoadAck head command) settings.old w v
+        × CanAccess L.layout L.Device.device L.Driver.driver state.now (LoadAck head command) commands.old settings.old w v
         × IsOwn Q.port L.Driver.driver.side port.old v }
-    ensures load { (z : Takeover) (t : List (Option Command)) (w : DeviceView) (v : DriverView)
-        → Commanding L.layout L.Device.device L.Driver.driver z state.now (LoadAck head command) t settings.old w v
-        → OnShadowWord Q.port L.layout L.Device.device L.Driver.driver z port.old port.new state.now (LoadAck head command) result t
-        settings.old settings.new w v }
+    ensures load { (z : Takeover) (w : DeviceView) (v : DriverView)
+        → Commanding L.layout L.Device.device L.Driver.driver z state.now (LoadAck head command) commands.old settings.old w v
+        → OnShadowWord Q.port L.layout L.Device.device L.Driver.driver z port.old port.new state.now (LoadAck head command) result
+        commands.old commands.new settings.old settings.new w v }
     ensures lawful { HasPairs settings.old → HasPairs settings.new }
 {
     let ack = load_ack::<L, Q>(&state.shadow, port, head);
-    let words = Words {
-        first: command.first,
-        second: command.second,
-    };
-    acknowledge(settings, command.count, words, ack);
+    acknowledge(settings, commands, &command, ack);
     Carry::StoreAck {
         place: command.ack_place,
         ack,
@@ -132,8 +132,8 @@ pub(crate) fn store_answer<L: Layout, P: Port>(
     place: u32,
     ack: u64,
 ) -> Carry
-    requires { (s : Settings) × (w : DeviceView) × (v : DriverView)
-        × CanAccess L.layout L.Device.device L.Driver.driver state.now (StoreAck place ack) s w v
+    requires { (t : List (Option Command)) × (s : Settings) × (w : DeviceView) × (v : DriverView)
+        × CanAccess L.layout L.Device.device L.Driver.driver state.now (StoreAck place ack) t s w v
         × IsOwn P.port L.Device.device.side port.old w }
     ensures { (z : Takeover) (t : List (Option Command)) (s : Settings) (w : DeviceView) (v : DriverView)
         → Commanding L.layout L.Device.device L.Driver.driver z state.now (StoreAck place ack) t s w v
@@ -147,18 +147,19 @@ pub(crate) fn store_answer<L: Layout, P: Port>(
 pub fn carry_on<L: Layout, P: Port, Q: Port>(
     state: &State<L::Device, L::Driver>,
     carry: &mut Carry,
+    commands: &mut Rows<Command>,
     settings: &mut Settings,
     guest_port: &mut P,
     shadow_port: &mut Q,
 )
     requires due { 1 ≤ due carry.old }
     requires own { (w : DeviceView) × (v : DriverView)
-        × CanAccess L.layout L.Device.device L.Driver.driver state.now carry.old settings.old w v
+        × CanAccess L.layout L.Device.device L.Driver.driver state.now carry.old commands.old settings.old w v
         × IsOwn P.port L.Device.device.side guest_port.old w × IsOwn Q.port L.Driver.driver.side shadow_port.old v }
-    ensures made { (z : Takeover) (t : List (Option Command)) (w : DeviceView) (v : DriverView)
-        → Commanding L.layout L.Device.device L.Driver.driver z state.now carry.old t settings.old w v
+    ensures made { (z : Takeover) (w : DeviceView) (v : DriverView)
+        → Commanding L.layout L.Device.device L.Driver.driver z state.now carry.old commands.old settings.old w v
         → OneWord P.port Q.port L.layout L.Device.device L.Driver.driver z guest_port.old guest_port.new shadow_port.old shadow_port.new
-        state.now carry.old carry.new t settings.old settings.new w v }
+        state.now carry.old carry.new commands.old commands.new settings.old settings.new w v }
     ensures lawful { HasPairs settings.old → HasPairs settings.new }
 {
     *carry = match *carry {
@@ -167,7 +168,7 @@ pub fn carry_on<L: Layout, P: Port, Q: Port>(
         Carry::StoreFirst { command } => store_first::<L, Q>(state, shadow_port, command),
         Carry::StoreSecond { command } => store_second::<L, Q>(state, shadow_port, command),
         Carry::LoadAck { head, command } => {
-            load_answer::<L, Q>(state, settings, shadow_port, head, command)
+            load_answer::<L, Q>(state, commands, settings, shadow_port, head, command)
         }
         Carry::StoreAck { place, ack } => store_answer::<L, P>(state, guest_port, place, ack),
         Carry::None | Carry::Offer { .. } => unreachable!(),

@@ -35,13 +35,14 @@ fn word_step<L: Layout, P: Port, Q: Port>(
         × IsOwn P.port L.Device.device.side guest_port.old w × IsOwn Q.port L.Driver.driver.side shadow_port.old v }
     ensures step { (z : Takeover) (w : DeviceView) (v : DriverView)
         → CommandHolds L.layout L.Device.device L.Driver.driver z state.now commander.old settings.old counts.old w v
-        → IsCommandStep P.port Q.port L.layout L.Device.device L.Driver.driver z guest_port.old guest_port.new shadow_port.old shadow_port.new
-        w v state.now state.now commander.old commander.new settings.old settings.new counts.old counts.new result }
+        → IsCommandStep P.port Q.port L.layout L.Device.device L.Driver.driver z guest_port.old guest_port.new
+        shadow_port.old shadow_port.new w v state.now state.now commander.old commander.new settings.old settings.new counts.old counts.new result }
     ensures lawful { HasPairs settings.old → HasPairs settings.new }
 {
     carry_on::<L, P, Q>(
         state,
         &mut commander.hand,
+        &mut commander.commands,
         settings,
         guest_port,
         shadow_port,
@@ -66,8 +67,8 @@ fn ring_step<L: Layout, P: Port, Q: Port>(
     ensures { (z : Takeover) (s : Settings) (w : DeviceView) (v : DriverView)
         → CommandHolds L.layout L.Device.device L.Driver.driver z state.old commander.old s counts.old w v
         → IsOwn P.port L.Device.device.side guest_port.old w → IsOwn Q.port L.Driver.driver.side shadow_port.old v
-        → IsCommandStep P.port Q.port L.layout L.Device.device L.Driver.driver z guest_port.old guest_port.new shadow_port.old shadow_port.new
-        w v state.old state.new commander.old commander.new s s counts.old counts.new result }
+        → IsCommandStep P.port Q.port L.layout L.Device.device L.Driver.driver z guest_port.old guest_port.new
+        shadow_port.old shadow_port.new w v state.old state.new commander.old commander.new s s counts.old counts.new result }
 {
     let turn = make_turn::<L, Commander, P, Q>(state, commander, guest_port, shadow_port);
     counts.note(turn);
@@ -90,8 +91,8 @@ pub(crate) fn command_step<L: Layout, P: Port, Q: Port>(
     ensures step { (z : Takeover) (w : DeviceView) (v : DriverView)
         → CommandHolds L.layout L.Device.device L.Driver.driver z state.old commander.old settings.old counts.old w v
         → IsOwn P.port L.Device.device.side guest_port.old w → IsOwn Q.port L.Driver.driver.side shadow_port.old v
-        → IsCommandStep P.port Q.port L.layout L.Device.device L.Driver.driver z guest_port.old guest_port.new shadow_port.old shadow_port.new
-        w v state.old state.new commander.old commander.new settings.old settings.new counts.old counts.new result }
+        → IsCommandStep P.port Q.port L.layout L.Device.device L.Driver.driver z guest_port.old guest_port.new
+        shadow_port.old shadow_port.new w v state.old state.new commander.old commander.new settings.old settings.new counts.old counts.new result }
     ensures lawful { HasPairs settings.old → HasPairs settings.new }
 {
     if commander.hand.is_due() {

@@ -6,7 +6,7 @@ ghost use Rattle.vd_ring.specs.declared.driver.DriverView.{DriverView};
 ghost use Rattle.vd_relay.specs.Stages.{is_rested};
 ghost use Rattle.vd_relay.specs.Tie.{Course};
 ghost use Rattle.vd_relay.specs.Relay.{Stands, IsKept, IsQuiet};
-ghost use Rattle.vd_relay.specs.Carriers.{CanTurn, CarriesOne};
+ghost use Rattle.vd_relay.specs.Tellings.{CanTurn, CarriesOne};
 
 use crate::begin::{begin, turn};
 use crate::carrier::Carrier;

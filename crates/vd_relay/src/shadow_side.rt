@@ -8,7 +8,7 @@ ghost use Rattle.vd_relay.specs.Stages.{is_shadow, none_next};
 ghost use Rattle.vd_relay.specs.Pace.{repeating};
 ghost use Rattle.vd_relay.specs.Tie.{Course};
 ghost use Rattle.vd_relay.specs.Relay.{Stands, IsQuiet, IsKept};
-ghost use Rattle.vd_relay.specs.Carriers.{MayTell, TellsOf};
+ghost use Rattle.vd_relay.specs.Tellings.{MayTell, TellsOf};
 
 use crate::begin::after_sleep;
 use crate::carrier::Carrier;
@@ -53,7 +53,8 @@ pub(crate) fn shadow_turn<L: Layout, C: Carrier<L>, Q: Port>(
         × MayTell C.carrier carrier.old state.old v × IsOwn Q.port L.Driver.driver.side port.old v }
     ensures turn { (z : Course) (w : DeviceView) (v : DriverView) → Stands L.Device.device L.Driver.driver z state.old w v
         → IsOwn Q.port L.Driver.driver.side port.old v
-        → TellsOf C.carrier Q.port L.Device.device L.Driver.driver z carrier.old carrier.new port.old port.new state.old state.new w v result }
+        → TellsOf C.carrier Q.port L.Device.device L.Driver.driver z carrier.old carrier.new port.old port.new
+        state.old state.new w v result }
     ensures kept { IsKept state.old state.new }
     ensures quiet { IsQuiet L.Driver.driver state.old state.new }
     ensures calm { L.Device.device.begun state.new.guest ≡ DeviceOp.hear → L.Device.device.begun state.old.guest ≡ DeviceOp.hear }

@@ -18,14 +18,16 @@ pub enum Origin {
     Replay(u32),
 }
 
-/// What a relay keeps of a command that stands on a shadow ring: the place of its ack word on the guest's ring, how many bytes it
-/// has, and its two words.
+/// What a relay keeps of a command that stands on a shadow ring: its number and the place of its ack word on the guest's ring, how
+/// many bytes it has, its two words, and whether a later command that sets the same was acknowledged already.
 #[derive(Copy, Clone, Debug, PartialEq, Eq)]
 pub struct Command {
+    pub number: u32,
     pub ack_place: u32,
     pub count: u32,
     pub first: u64,
     pub second: u64,
+    pub late: bool,
 }
 
 /// The origins and the commands of a shadow ring, by heads below its size.

@@ -56,6 +56,30 @@ impl<T: Copy> Rows<T> {
         }
     }
 
+    /// What is stored at a head, if something is.
+    pub fn get(&self, head: u32) -> Option<T>
+        requires inside { head < length self.now }
+        ensures { result ≡ row self.now head }
+    {
+        self.rows[head as usize]
+    }
+
+    /// Stores something else at a head, where something is stored.
+    pub fn replace(&mut self, head: u32, item: T)
+        requires inside { head < length self.old }
+        requires there { IsSome (row self.old head) }
+        ensures { self.new ≡ slice_set self.old head (Some item) }
+    {
+        self.rows[head as usize] = Some(item);
+    }
+
+    /// The size below which its heads are.
+    pub fn size(&self) -> u32
+        ensures { result ≡ length self.now }
+    {
+        self.rows.len() as u32
+    }
+
     /// At how many heads something is stored.
     pub fn len(&self) -> u32
         ensures { result ≡ stored self.now }

@@ -5,13 +5,13 @@ use Rattle.vd_relay.proofs.command.load_first.Goals as goal
 pub load_command-first-requires : goal.load_command-first-requires
 load_command-first-requires g c =
     let o = c.requires in
-    let k = o.3 in (
-      o.1,
+    let k = o.4 in (
+      o.2,
       c.args.found.number,
       0,
       finds_first g.L.Layout.layout g.L.Device.DeviceEnd.device g.L.Driver.DriverEnd.driver k.from
-          c.args.state.now k.table o.0 o.1 o.2 c.args.found k.commands,
-      o.4,
+          c.args.state.now o.0 o.1 o.2 o.3 c.args.found k.commands,
+      o.5,
     )
 
 pub returns : goal.returns

@@ -7,12 +7,12 @@ use Rattle.vd_relay.proofs.command.store_answer.Goals as goal
 pub store_ack-requires : goal.store_ack-requires
 store_ack-requires g c =
     let o = c.requires in
-    let k = o.3 in (
-      o.1,
+    let k = o.4 in (
+      o.2,
       guests (carries k.from) k.commands.in_hand.0,
       finds_ack g.L.Layout.layout g.L.Device.DeviceEnd.device
-          g.L.Driver.DriverEnd.driver k.from c.args.state.now k.table o.0 o.1 o.2 c.args.place c.args.ack k.commands,
-      o.4,
+          g.L.Driver.DriverEnd.driver k.from c.args.state.now o.0 o.1 o.2 o.3 c.args.place c.args.ack k.commands,
+      o.5,
     )
 
 pub returns : goal.returns

@@ -6,9 +6,9 @@ use Rattle.vd_relay.proofs.command.store_first.Goals as goal
 pub next_word-place-requires : goal.next_word-place-requires
 next_word-place-requires g c =
     let o = c.requires in
-    let k = o.3 in (
-      o.2,
-      first_free g.L.Layout.layout g.L.Device.DeviceEnd.device g.L.Driver.DriverEnd.driver k.from c.args.state.now k.table o.0 o.1 o.2
+    let k = o.4 in (
+      o.3,
+      first_free g.L.Layout.layout g.L.Device.DeviceEnd.device g.L.Driver.DriverEnd.driver k.from c.args.state.now o.0 o.1 o.2 o.3
           c.args.command k.commands,
       k.commands.still.1,
     )
@@ -16,15 +16,15 @@ next_word-place-requires g c =
 pub store_command-requires : goal.store_command-requires
 store_command-requires g c =
     let o = c.requires in
-    let k = o.3 in
+    let k = o.4 in
     let l = g.L.Layout.layout in
     let d = g.L.Driver.DriverEnd.driver in
-    let free = first_free l g.L.Device.DeviceEnd.device d k.from c.args.state.now k.table o.0 o.1 o.2 c.args.command k.commands in (
-      o.2,
+    let free = first_free l g.L.Device.DeviceEnd.device d k.from c.args.state.now o.0 o.1 o.2 o.3 c.args.command k.commands in (
+      o.3,
       0,
-      finds_next l d c.args.state.now.shadow o.2 0 c.next_word-place.result (omega arith)
-          (omega (arith, c.next_word-place.ensures.value o.2 free)) free k.commands.still.1,
-      o.4,
+      finds_next l d c.args.state.now.shadow o.3 0 c.next_word-place.result (omega arith)
+          (omega (arith, c.next_word-place.ensures.value o.3 free)) free k.commands.still.1,
+      o.5,
     )
 
 pub returns : goal.returns

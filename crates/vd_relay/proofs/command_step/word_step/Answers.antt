@@ -9,7 +9,7 @@ carry_on-requires-clause-own g c =
     let o = c.requires.own in (
       o.0,
       o.1,
-      record { from = o.2.from; table = c.args.commander.now.commands; commands = o.2.holds.commands },
+      record { from = o.2.from; commands = o.2.holds.commands },
       o.3,
       o.4,
     )
@@ -28,13 +28,13 @@ returns-clause-step g c = λ z w v h.
       handled = c.note.ensures.handled;
       heard = c.note.ensures.heard;
     } in
-    elim (c.carry_on.ensures.made z x.commands w v h.commands) [
+    elim (c.carry_on.ensures.made z w v h.commands) [
       | inl o ↦ (
           let t = on_guest_word g.P.Port.port l e d z c.args.guest_port.now c.carry_on.new.guest_port r x
-          (record { hand = c.carry_on.new.carry; commands = x.commands }) s s c.args.counts.now
-          c.note.new.self w v h c.requires.live c.requires.due n refl lay.device_end refl o.2 in
+          (record { hand = c.carry_on.new.carry; commands = c.carry_on.new.commands }) s s c.args.counts.now
+          c.note.new.self w v h c.requires.live c.requires.due n lay.device_end o.1 refl o.3 in
           record {
-            made = inl (o.0, o.1, t);
+            made = inl (o.0, o.2, t);
             kept = (refl, refl);
             quiet = λ on y is. is;
             finished = ((λ i. absurd (cc i)), λ i. absurd (cc (i, c.requires.live)));
@@ -44,8 +44,8 @@ returns-clause-step g c = λ z w v h.
           )
       | inr o ↦ (
           let t = on_shadow_word g.Q.Port.port l e d z c.args.shadow_port.now c.carry_on.new.shadow_port r x
-          (record { hand = c.carry_on.new.carry; commands = x.commands }) s c.carry_on.new.settings c.args.counts.now
-          c.note.new.self w v h c.requires.live c.requires.due n refl lay.driver_end o.1 in
+          (record { hand = c.carry_on.new.carry; commands = c.carry_on.new.commands }) s c.carry_on.new.settings c.args.counts.now
+          c.note.new.self w v h c.requires.live c.requires.due n lay.driver_end o.1 in
           record {
             made = inr (o.0, t);
             kept = (refl, refl);
