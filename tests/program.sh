@@ -162,7 +162,15 @@ breaks 11 'queues = .*' 'queues = [["r4096+1 r4096+1 r4096+1 r4096+1 r4096+1"]]'
 breaks 12 'queues = .*' 'queues = [["r12287+2"]]'
 breaks 13 'queues = .*' 'queues = []'
 breaks 13 'queues = .*' 'queues = [[], [], [], [], [], [], [], [], []]'
+breaks 14 'size = 4' 'size = 4\nswitches = [{ after = 5, to = "pass" }, { after = 4, to = "pass" }]'
 breaks 16 'size = 4' 'size = 4\niova_last = 8191'
+{
+    printf 'layout = "split"\nsize = 1024\nfeatures = ["indirect"]\nstart = "shadow"\n'
+    printf 'regions = [{ addr = 4096, size = 8192 }]\nqueues = [[], [], [], [], [], [], [], []]\nswitches = ['
+    for _ in 1 2 3 4 5 6 7 8 9 10 11 12 13 14 15 16; do printf '{ after = 0, to = "shadow" },'; done
+    echo ']'
+} >"$work/in"
+expect 'M17: 144 rings with tables' 2 'vdpa: machine file breaks rule M17' '' play
 
 : >"$work/in"
 expect 'an empty file' 2 'vdpa: machine file breaks rule M3' '' play
