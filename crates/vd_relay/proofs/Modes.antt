@@ -92,10 +92,6 @@ abbrev pub winding_as : {E D : Type 0} → State E D → Bool → ℕ → State 
 winding_as r y t = record { guest = r.guest; shadow = r.shadow; table = r.table; stage = r.stage; winding = y; target = t }
 
 -- no ack was loaded of a chain that isn't one of the replay's
-unloaded : (x : Option ℕ) → (IsSome x → ⊥) → x ≡ None
-unloaded None none = refl
-unloaded (Some y) none = absurd (none refl)
-
 -- the course of a relay that carries, by where it takes over
 pub course_is : (z : Opening) (n n' : ℕ) (w : DeviceView) → takes w.done ≡ z.takes → gives w.done ≡ z.gives → n' ≡ n
     → start (carrying n') w ≡ carries (carries_from z n)
@@ -163,8 +159,7 @@ module _ {E D : Type 0} (l : LayoutModel) (e : DeviceModel E) (d : DriverModel D
           done = done_now;
           does = command_begins l e d t r k.commander s c w v b q.ring (ap is_offering h.waits) h.free.idle h.hand h.commands none
               (omega (arith, between.offered))
-              (h.settings ∙ settled_none k.replay.next v.frame z.settings v.done
-              (λ j high. unloaded (ack_load v.done j) (λ some. absurd (omega (arith, high, (q.acked j).0 some)))));
+              (h.settings ∙ settled_none k.replay.next v.frame z.settings v.done (omega (arith, between.offered)));
         }
 
     -- it leaves

@@ -16,7 +16,8 @@ use Rattle.vd_relay.specs.declared.control.Mode.TheVariants.{Replaying, Carrying
 use Rattle.vd_relay.specs.Pairing.{AreControls}
 use Rattle.vd_relay.specs.Relay.{HandsBack}
 use Rattle.vd_relay.specs.Tie.{guests}
-use Rattle.vd_relay.specs.Commanding.{Takeover, IsAnswered, IsCarried, carries, settled}
+use Rattle.vd_relay.specs.Commanding.{Takeover, IsAnswered, IsCarried, carries}
+use Rattle.vd_relay.specs.Settling.{settled}
 use Rattle.vd_relay.specs.Replays.{IsFreshShadow}
 use Rattle.vd_relay.specs.Modes.{Opening, IsUntouched, carries_from}
 
@@ -41,7 +42,7 @@ pub record HasAnswered (z : Takeover) (s : Settings) (w : DeviceView) (v : Drive
   pub rested : gives w.done ≡ gives acts
   pub answered : (k : ℕ) → IsCarried z v.done k → 1 ≤ occurs (guests (carries z) k) (numbers (gives acts))
       → IsAnswered acts (guests (carries z) k) v.done k
-  pub settled : s ≡ Rattle.vd_relay.specs.Commanding.settled z.settings z.replayed v.frame v.done
+  pub settled : s ≡ Rattle.vd_relay.specs.Settling.settled z.settings z.replayed v.frame v.done
 
 -- a relay that left has taken and given nothing
 abbrev pub Answers : Mode → Opening → ℕ → Settings → DeviceView → DriverView → Type 0
