@@ -1,5 +1,5 @@
 -- A relay of a control queue that begins to carry.
-use Rattle.std.proofs.Common.{◌≡◌, ℕ, ◌<◌, ◌≤◌, true, false, Some, None, IsSome, Option, List, [], ◌∷◌, length, replicate, if◌then◌else◌, refl, sym, ◌∙◌, ap, subst, arith, inl, inr}
+use Rattle.std.proofs.Common.{◌≡◌, ℕ, ◌<◌, ◌≤◌, false, Some, None, IsSome, Option, List, [], ◌∷◌, length, replicate, refl, sym, ◌∙◌, ap, subst, arith, inl, inr}
 use Rattle.std.proofs.lemmas.Bool.{cases_lt, lt-ltb, ne_eqb}
 use Rattle.std.proofs.lemmas.List.{length-replicate}
 use Rattle.vd_ring.specs.declared.frame.Frame.{Frame}
@@ -8,7 +8,7 @@ use Rattle.vd_ring.specs.declared.driver.DriverDone.TheVariants.{Offer, Collect,
 use Rattle.vd_ring.specs.declared.driver.DriverView.{DriverView}
 use Rattle.vd_ring.specs.declared.device.DeviceDone.{DeviceDone}
 use Rattle.vd_ring.specs.declared.device.DeviceView.{DeviceView}
-use Rattle.vd_ring.specs.History.{offers, open_at, takes, gives, occurs}
+use Rattle.vd_ring.specs.History.{offers, open_at, occurs}
 use Rattle.vd_layout.specs.Begun.{DeviceOp}
 use Rattle.vd_layout.specs.Driver.{DriverModel}
 use Rattle.vd_layout.specs.Device.{DeviceModel}
@@ -21,17 +21,13 @@ use Rattle.vd_relay.specs.declared.carry.Carry.{Carry}
 use Rattle.vd_relay.specs.declared.carry.Carry.TheVariants as carry
 use Rattle.vd_relay.specs.declared.commander.Commander.{Commander}
 use Rattle.vd_relay.specs.declared.counts.Counts.{Counts}
-use Rattle.vd_relay.specs.declared.stage.Stage.{Stage}
-use Rattle.vd_relay.specs.declared.stage.Stage.TheVariants as stage
 use Rattle.vd_relay.specs.declared.state.State.{State}
 use Rattle.vd_relay.specs.Pace.{KeepsPace}
-use Rattle.vd_relay.specs.Stages.{is_rested, is_offering}
-use Rattle.vd_relay.specs.Ways.{carrying}
-use Rattle.vd_relay.specs.Relay.{Holds, start, owes}
+use Rattle.vd_relay.specs.Stages.{is_offering}
+use Rattle.vd_relay.specs.Relay.{Holds}
 use Rattle.vd_relay.specs.Replays.{IsShadowRing}
-use Rattle.vd_relay.specs.Accesses.{acknowledged}
-use Rattle.vd_relay.specs.Commanding.{Takeover, carries, settled, bytes_of, AreCarried}
-use Rattle.vd_relay.specs.Underway.{HandIs, AckStands, Commanding, owed}
+use Rattle.vd_relay.specs.Commanding.{Takeover, carries, settled, AreCarried}
+use Rattle.vd_relay.specs.Underway.{AckStands, Commanding, owed}
 use Rattle.vd_relay.specs.CommandSteps.{CommandHolds}
 use Rattle.vd_relay.proofs.CarryTies.{answered_here}
 

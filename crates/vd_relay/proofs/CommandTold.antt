@@ -1,10 +1,10 @@
 -- The carrier of a relay of a control queue may be told of what stands on the shadow ring: what is in hand where no access is due.
-use Rattle.std.proofs.Common.{◌≡◌, ◌⊎◌, ℕ, ◌<◌, ◌≤◌, true, false, Some, None, IsSome, Option, List, length, refl, sym, ◌∙◌, ap, subst, arith, inl, inr}
+use Rattle.std.proofs.Common.{◌≡◌, ◌⊎◌, ℕ, ◌<◌, ◌≤◌, Some, None, IsSome, Option, length, refl, sym, ◌∙◌, ap, subst, arith, inl, inr}
 use Rattle.vd_ring.specs.declared.device.DeviceView.{DeviceView}
 use Rattle.vd_ring.specs.declared.device.DeviceNow.TheVariants as device
 use Rattle.vd_ring.specs.declared.driver.DriverNow.TheVariants as driver
 use Rattle.vd_ring.specs.declared.driver.DriverView.{DriverView}
-use Rattle.vd_ring.specs.History.{open_at, free, places, head, next_head, occurs}
+use Rattle.vd_ring.specs.History.{free, places, next_head, occurs}
 use Rattle.vd_ring.specs.Places.{Places}
 use Rattle.vd_ring.proofs.HeldPlaces.{free_inside, free_apart, head_held}
 use Rattle.vd_ring.proofs.ControlSteps.{next_free}

@@ -1,19 +1,17 @@
 -- What a turn of the rings leaves of a relay of a control queue: a command is taken, offered, collected or given, or none is.
-use Rattle.std.proofs.Common.{◌≡◌, ◌⊎◌, ℕ, ◌+◌, ◌*◌, ◌<◌, ◌≤◌, true, false, Some, None, Option, List, [], ◌∷◌, length, slice_set, if◌then◌else◌, refl, sym, ◌∙◌, ap, subst, arith, inl, inr}
+use Rattle.std.proofs.Common.{◌≡◌, ℕ, ◌+◌, ◌*◌, ◌≤◌, true, false, Option, List, [], ◌∷◌, length, if◌then◌else◌, refl, sym, ◌∙◌, ap, subst, arith, inl, inr}
 use Rattle.std.proofs.lemmas.Bool.{cases_lt}
 use Rattle.vd_model.specs.declared.chain.Piece.{Piece}
 use Rattle.vd_words.specs.Model.{PortModel}
 use Rattle.vd_ring.specs.declared.act.DeviceAct.{DeviceAct}
 use Rattle.vd_ring.specs.declared.act.DeviceAct.TheVariants as act
-use Rattle.vd_ring.specs.declared.frame.Used.{Used}
 use Rattle.vd_ring.specs.declared.device.DeviceDone.{DeviceDone}
 use Rattle.vd_ring.specs.declared.device.DeviceDone.TheVariants.{Take}
 use Rattle.vd_ring.specs.declared.device.DeviceView.{DeviceView}
-use Rattle.vd_ring.specs.declared.driver.DriverDone.{DriverDone}
 use Rattle.vd_ring.specs.declared.driver.DriverDone.TheVariants.{Collect}
 use Rattle.vd_ring.specs.declared.driver.DriverView.{DriverView}
-use Rattle.vd_ring.specs.History.{entry, free, head, next_head}
-use Rattle.vd_layout.specs.Begun.{DeviceOp, DriverOp}
+use Rattle.vd_ring.specs.History.{entry, free, head}
+use Rattle.vd_layout.specs.Begun.{DeviceOp}
 use Rattle.vd_layout.specs.Driver.{DriverModel}
 use Rattle.vd_layout.specs.Device.{DeviceModel, is_rested as is_rested_act}
 use Rattle.vd_layout.specs.Layout.{LayoutModel, IsLawfulLayout}
@@ -33,7 +31,7 @@ use Rattle.vd_relay.specs.Relay.{Stands, GuestDid, ShadowWaits, GuestWaits, owes
 use Rattle.vd_relay.specs.Carriers.{CarriesOn, TellsOf, GoesOn, IsOffered, IsCollected}
 use Rattle.vd_relay.specs.Commanders.{commander}
 use Rattle.vd_relay.specs.Commanding.{Takeover, carries}
-use Rattle.vd_relay.specs.Underway.{HandIs, Commanding, due, owed}
+use Rattle.vd_relay.specs.Underway.{Commanding, due, owed}
 use Rattle.vd_relay.proofs.CarryHanded.{handed, handed_paid}
 use Rattle.vd_relay.proofs.CarryKept.{kept_same, kept_taken, kept_given, kept_rested}
 use Rattle.vd_relay.proofs.CarryMoved.{offered_on, collected_on, still_none, still_offers}

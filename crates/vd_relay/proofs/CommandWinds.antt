@@ -1,5 +1,5 @@
 -- A relay of a control queue that begins to wind up goes on with the command in hand.
-use Rattle.std.proofs.Common.{◌≡◌, ◌≢◌, ℕ, ◌≤◌, Bool, true, false, Option, List, refl, sym, ◌∙◌, ap, subst, arith}
+use Rattle.std.proofs.Common.{◌≡◌, ℕ, true, false, List, refl, sym, ◌∙◌, ap, subst, arith}
 use Rattle.vd_ring.specs.declared.device.DeviceDone.{DeviceDone}
 use Rattle.vd_ring.specs.declared.device.DeviceView.{DeviceView}
 use Rattle.vd_ring.specs.declared.driver.DriverView.{DriverView}
@@ -14,13 +14,12 @@ use Rattle.vd_relay.specs.declared.carry.Carry.TheVariants as carry
 use Rattle.vd_relay.specs.declared.commander.Commander.{Commander}
 use Rattle.vd_relay.specs.declared.counts.Counts.{Counts}
 use Rattle.vd_relay.specs.declared.stage.Stage.{Stage}
-use Rattle.vd_relay.specs.declared.stage.Stage.TheVariants as stage
 use Rattle.vd_relay.specs.declared.state.State.{State}
 use Rattle.vd_relay.specs.Pace.{KeepsPace}
 use Rattle.vd_relay.specs.Stages.{is_rested, is_hearing, is_offering}
-use Rattle.vd_relay.specs.Relay.{Holds, IsRoused, owes}
+use Rattle.vd_relay.specs.Relay.{Holds, IsRoused}
 use Rattle.vd_relay.specs.Commanding.{Takeover, carries, AreCarried}
-use Rattle.vd_relay.specs.Underway.{IsToOffer, IsHeld, IsBack, IsAcked, AckStands, HandIs, Commanding, due, owed}
+use Rattle.vd_relay.specs.Underway.{IsToOffer, IsHeld, IsBack, IsAcked, AckStands, HandIs, Commanding, owed}
 use Rattle.vd_relay.specs.CommandSteps.{CommandHolds}
 use Rattle.vd_relay.proofs.Calm.{at_stage, roused_live}
 use Rattle.vd_relay.proofs.Offerings.{roused_none}

@@ -128,9 +128,11 @@ module _ {P E D : Type 0} (port : PortModel P) (e : DeviceModel E) (d : DriverMo
       → (is_offering r.stage ≡ false → is_offering u.stage ≡ false) → TellsOf m port e d z x x' p q u r' w v t
       → TellsOf m port e d z x x' p q r r' w v t
   shadow_from m x x' less k same guest offers other h =
-      let turn = shadow_from_to less k same h.0 in
-      (turn.0, subst (λ (y : DriverView). TellsTurn m e d z x x' r r' v y t) (sym turn.1)
-      (told_from m e d z x x' r u r' v (d.side.after v h.0.op h.0.access h.0.got) t guest offers other h.1))
+      let turn = shadow_from_to less k same h.0 in (
+        turn.0,
+        subst (λ (y : DriverView). TellsTurn m e d z x x' r r' v y t) (sym turn.1)
+            (told_from m e d z x x' r u r' v (d.side.after v h.0.op h.0.access h.0.got) t guest offers other h.1),
+      )
 
 -- ---- counts
 

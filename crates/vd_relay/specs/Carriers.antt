@@ -1,5 +1,5 @@
 -- A carrier of a relay: it makes of each chain that was taken from the guest's ring the one that is offered on the shadow ring.
-use Rattle.std.specs.Prelude.{◌≡◌, ◌⊎◌, ℕ, ◌<◌, ◌≤◌, Bool, true, false, List, [], ◌∷◌, length}
+use Rattle.std.specs.Prelude.{◌≡◌, ◌⊎◌, ℕ, ◌<◌, ◌≤◌, true, false, List, [], ◌∷◌, length}
 use Rattle.vd_model.specs.declared.chain.Piece.{Piece}
 use Rattle.vd_words.specs.Model.{PortModel}
 use Rattle.vd_words.specs.Own.{IsOwn}
@@ -14,7 +14,6 @@ use Rattle.vd_layout.specs.Begun.{DriverOp, DeviceOp}
 use Rattle.vd_layout.specs.Driver.{DriverModel, WasOffered}
 use Rattle.vd_layout.specs.Device.{DeviceModel, IsTaken}
 use Rattle.vd_layout.specs.Layout.{LayoutModel}
-use Rattle.vd_relay.specs.declared.stage.Stage.{Stage}
 use Rattle.vd_relay.specs.declared.stage.Stage.TheVariants as stage
 use Rattle.vd_relay.specs.declared.state.State.{State}
 use Rattle.vd_relay.specs.Stages.{is_offering}

@@ -1,5 +1,5 @@
 -- The command that a relay of a control queue has in hand: what is known of it before each of its accesses.
-use Rattle.std.specs.Prelude.{◌≡◌, ℕ, ◌+◌, ◌<◌, ◌≤◌, true, false, Bool, Some, Option, List, [], ◌∷◌, length}
+use Rattle.std.specs.Prelude.{◌≡◌, ℕ, ◌+◌, ◌<◌, ◌≤◌, false, Some, Option, List, [], ◌∷◌, length}
 use Rattle.std.specs.List.{Contains}
 use Rattle.vd_model.specs.declared.chain.Piece.{Piece}
 use Rattle.vd_model.specs.Chains.{readable}
@@ -19,7 +19,6 @@ use Rattle.vd_table.specs.declared.Command.{Command}
 use Rattle.vd_relay.specs.declared.carry.Carry.{Carry}
 use Rattle.vd_relay.specs.declared.carry.Carry.TheVariants as carry
 use Rattle.vd_relay.specs.declared.carry.Found.{Found}
-use Rattle.vd_relay.specs.declared.stage.Stage.{Stage}
 use Rattle.vd_relay.specs.declared.stage.Stage.TheVariants as stage
 use Rattle.vd_relay.specs.declared.state.State.{State}
 use Rattle.vd_relay.specs.Stages.{is_offering}
