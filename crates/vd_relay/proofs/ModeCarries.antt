@@ -1,5 +1,5 @@
 -- A step of a relay of a control queue that carries.
-use Rattle.std.proofs.Common.{◌≡◌, ◌⊎◌, ℕ, Bool, true, false, refl, sym, ◌∙◌, ap, subst, arith, inl, inr}
+use Rattle.std.proofs.Common.{◌≡◌, false, refl, sym, ◌∙◌, subst, inl, inr}
 use Rattle.vd_words.specs.Model.{PortModel}
 use Rattle.vd_ring.specs.declared.driver.DriverView.{DriverView}
 use Rattle.vd_ring.specs.declared.device.DeviceView.{DeviceView}
@@ -15,7 +15,6 @@ use Rattle.vd_relay.specs.declared.control.Mode.TheVariants.{Replaying, Carrying
 use Rattle.vd_relay.specs.declared.counts.Counts.{Counts}
 use Rattle.vd_relay.specs.declared.state.State.{State}
 use Rattle.vd_relay.specs.Pace.{KeepsPace}
-use Rattle.vd_relay.specs.Relay.{owes}
 use Rattle.vd_relay.specs.Underway.{owed}
 use Rattle.vd_relay.specs.Leaving.{leave_owes}
 use Rattle.vd_relay.specs.Replays.{replay_owes}

@@ -1,12 +1,11 @@
 -- A step of a relay of a control queue that leaves the guest's end.
-use Rattle.std.proofs.Common.{◌≡◌, ◌≢◌, ◌↔◌, ℕ, ◌+◌, ◌≤◌, Bool, true, false, IsTrue, length, if◌then◌else◌, refl, sym, ◌∙◌, ap, subst, arith, inl, inr}
-use Rattle.vd_words.specs.declared.access.Op.TheVariants as op
+use Rattle.std.proofs.Common.{◌≡◌, ◌≢◌, ℕ, Bool, true, false, length, if◌then◌else◌, refl, sym, ◌∙◌, ap, subst, arith, inl}
 use Rattle.vd_words.specs.Model.{PortModel}
 use Rattle.vd_ring.specs.declared.act.DeviceAct.TheVariants as device_act
 use Rattle.vd_ring.specs.declared.frame.Frame.{Frame}
 use Rattle.vd_ring.specs.declared.driver.DriverView.{DriverView}
 use Rattle.vd_ring.specs.declared.device.DeviceView.{DeviceView}
-use Rattle.vd_ring.specs.History.{takes, gives}
+use Rattle.vd_ring.specs.History.{takes}
 use Rattle.vd_ring.specs.Sleep.{device_woken}
 use Rattle.vd_layout.specs.Driver.{DriverModel}
 use Rattle.vd_layout.specs.Device.{DeviceModel, IsLawfulDevice}
@@ -21,7 +20,7 @@ use Rattle.vd_relay.specs.declared.counts.Counts.{Counts}
 use Rattle.vd_relay.specs.declared.counts.Turn.TheVariants.{Worked}
 use Rattle.vd_relay.specs.declared.stage.Stage.{Stage}
 use Rattle.vd_relay.specs.declared.state.State.{State}
-use Rattle.vd_relay.specs.Pace.{raised, guest_handled}
+use Rattle.vd_relay.specs.Pace.{raised}
 use Rattle.vd_relay.specs.Pairing.{AreControls}
 use Rattle.vd_relay.specs.Stages.{is_rested}
 use Rattle.vd_relay.specs.Leaving.{IsLeave, leave_owes}

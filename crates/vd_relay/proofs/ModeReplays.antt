@@ -1,11 +1,10 @@
 -- A step of a relay of a control queue that replays.
-use Rattle.std.proofs.Common.{◌≡◌, ◌↔◌, ℕ, ◌+◌, ◌≤◌, Bool, true, false, None, List, length, replicate, refl, sym, ◌∙◌, ap, subst, arith, inl, inr}
+use Rattle.std.proofs.Common.{◌≡◌, ◌≤◌, Bool, false, None, replicate, refl, sym, ◌∙◌, ap, subst, arith, inl, inr}
 use Rattle.vd_words.specs.Model.{PortModel}
 use Rattle.vd_ring.specs.declared.frame.Frame.{Frame}
 use Rattle.vd_ring.specs.declared.driver.DriverView.{DriverView}
 use Rattle.vd_ring.specs.declared.device.DeviceView.{DeviceView}
-use Rattle.vd_ring.specs.History.{takes, gives}
-use Rattle.vd_layout.specs.Begun.{DeviceOp, DriverOp}
+use Rattle.vd_layout.specs.Begun.{DeviceOp}
 use Rattle.vd_layout.specs.Driver.{DriverModel, IsLawfulDriver}
 use Rattle.vd_layout.specs.Device.{DeviceModel}
 use Rattle.vd_layout.specs.Layout.{LayoutModel}
@@ -21,9 +20,8 @@ use Rattle.vd_relay.specs.declared.stage.Stage.TheVariants as stage
 use Rattle.vd_relay.specs.declared.state.State.{State}
 use Rattle.vd_relay.specs.Pace.{raised, move_of}
 use Rattle.vd_relay.specs.Pairing.{AreControls}
-use Rattle.vd_relay.specs.Leaving.{IsFree}
-use Rattle.vd_relay.specs.Replays.{IsSameReplay, IsFreshShadow, ReplayHolds, ReplayTurn, replay_owes}
-use Rattle.vd_relay.specs.Modes.{Opening, IsReplaying, IsUntouched, ControlHolds}
+use Rattle.vd_relay.specs.Replays.{IsSameReplay, ReplayHolds, ReplayTurn, replay_owes}
+use Rattle.vd_relay.specs.Modes.{Opening, IsReplaying, ControlHolds}
 use Rattle.vd_relay.specs.ModeEnds.{IsControlOpen, opening}
 use Rattle.vd_relay.specs.ModeSteps.{OnShadowControl}
 use Rattle.vd_relay.proofs.Steps.{Noted, paces, looked_is, both, is_left_out, left_exact, left_counts}

@@ -1,12 +1,12 @@
 -- What a relay of a control queue holds as it goes on from its replay.
-use Rattle.std.proofs.Common.{◌≡◌, ◌≢◌, ◌⊎◌, ◌↔◌, ℕ, ◌+◌, ◌<◌, ◌≤◌, Bool, true, false, IsTrue, IsSome, Option, Some, None, List, [], ◌∷◌, length, replicate, refl, sym, ◌∙◌, ap, subst, arith, inl, inr}
+use Rattle.std.proofs.Common.{◌≡◌, ◌≢◌, ◌⊎◌, ◌↔◌, ℕ, ◌<◌, ◌≤◌, Bool, true, false, IsTrue, IsSome, Option, Some, None, List, length, refl, sym, ◌∙◌, ap, subst, arith, inl, inr}
 use Rattle.vd_model.specs.declared.chain.Piece.{Piece}
 use Rattle.vd_ring.specs.declared.frame.Frame.{Frame}
 use Rattle.vd_ring.specs.declared.frame.Used.{Used}
 use Rattle.vd_ring.specs.declared.driver.DriverDone.{DriverDone}
 use Rattle.vd_ring.specs.declared.driver.DriverView.{DriverView}
 use Rattle.vd_ring.specs.declared.device.DeviceView.{DeviceView}
-use Rattle.vd_ring.specs.History.{offers, collects, open_at, takes, gives}
+use Rattle.vd_ring.specs.History.{offers, collects, takes, gives}
 use Rattle.vd_layout.specs.Begun.{DriverOp}
 use Rattle.vd_layout.specs.Driver.{DriverModel, IsLawfulDriver}
 use Rattle.vd_layout.specs.Device.{DeviceModel, IsLawfulDevice}
@@ -25,12 +25,11 @@ use Rattle.vd_relay.specs.declared.state.State.{State}
 use Rattle.vd_relay.specs.declared.replay.Replay.{Replay}
 use Rattle.vd_relay.specs.declared.replay.ReplayStage.{ReplayStage}
 use Rattle.vd_relay.specs.declared.replay.ReplayStage.TheVariants.{First, Second, Offering, Collecting, Loading, Arming, Hearing, Disarming, Done, Left}
-use Rattle.vd_relay.specs.Pace.{KeepsPace}
 use Rattle.vd_relay.specs.Stages.{is_rested, is_offering, ShadowIs}
 use Rattle.vd_relay.specs.Ways.{carrying}
 use Rattle.vd_relay.specs.Tie.{Course}
 use Rattle.vd_relay.specs.Relay.{Holds, start}
-use Rattle.vd_relay.specs.Commanding.{Takeover, carries, settled}
+use Rattle.vd_relay.specs.Commanding.{Takeover, carries}
 use Rattle.vd_relay.specs.CommandSteps.{CommandHolds}
 use Rattle.vd_relay.specs.Leaving.{leave_owes}
 use Rattle.vd_relay.specs.Replays.{Replays, IsAt, IsSameReplay, IsWound, Winds, as_stage, is_done, is_over, replay_owes, wound}
@@ -91,7 +90,6 @@ with_replay k r = record { mode = k.mode; replay = r; commander = k.commander }
 abbrev pub winding_as : {E D : Type 0} → State E D → Bool → ℕ → State E D
 winding_as r y t = record { guest = r.guest; shadow = r.shadow; table = r.table; stage = r.stage; winding = y; target = t }
 
--- no ack was loaded of a chain that isn't one of the replay's
 -- the course of a relay that carries, by where it takes over
 pub course_is : (z : Opening) (n n' : ℕ) (w : DeviceView) → takes w.done ≡ z.takes → gives w.done ≡ z.gives → n' ≡ n
     → start (carrying n') w ≡ carries (carries_from z n)
@@ -134,14 +132,14 @@ module _ {E D : Type 0} (l : LayoutModel) (e : DeviceModel E) (d : DriverModel D
         c w v → Holds e d c' r c w v
     state_is c' a =
         let b = subst (λ (x : Stage). Holds e d c'
-            (record { guest = r.guest; shadow = r.shadow; table = r.table; stage = x; winding = k.replay.winding; target = k.replay.target }) c w v)
-            (sym h.waits) a in
+        (record { guest = r.guest; shadow = r.shadow; table = r.table; stage = x; winding = k.replay.winding; target = k.replay.target }) c w v)
+        (sym h.waits) a in
         let b2 = subst (λ (x : Bool). Holds e d c'
-            (record { guest = r.guest; shadow = r.shadow; table = r.table; stage = r.stage; winding = x; target = k.replay.target }) c w v)
-            (sym h.winding) b in
+        (record { guest = r.guest; shadow = r.shadow; table = r.table; stage = r.stage; winding = x; target = k.replay.target }) c w v)
+        (sym h.winding) b in
         subst (λ (x : ℕ). Holds e d c'
-            (record { guest = r.guest; shadow = r.shadow; table = r.table; stage = r.stage; winding = r.winding; target = x }) c w v)
-            (sym h.target) b2
+        (record { guest = r.guest; shadow = r.shadow; table = r.table; stage = r.stage; winding = r.winding; target = x }) c w v)
+        (sym h.target) b2
 
     pub carries_on : is_over k.replay.stage ≡ true → length (offers v.done) ≡ length (collects v.done)
         → ControlHolds l e d z r (in_mode k Carrying) s c w v
@@ -152,8 +150,8 @@ module _ {E D : Type 0} (l : LayoutModel) (e : DeviceModel E) (d : DriverModel D
         let a = goes_on l e d law ldr k.replay r.shadow v q r.guest r.table w h.free h.paired h.origins c over none h.pace in
         let t : Takeover = carries_from z k.replay.next in
         let b = subst (λ (x : Course). Holds e d x r c w v)
-            (course_is z k.replay.next (length (offers v.done)) w h.untouched.takes h.untouched.gives between.offered)
-            (state_is (start (carrying (length (offers v.done))) w) a) in
+        (course_is z k.replay.next (length (offers v.done)) w h.untouched.takes h.untouched.gives between.offered)
+        (state_is (start (carrying (length (offers v.done))) w) a) in
         record {
           again = same;
           done = done_now;
@@ -219,7 +217,7 @@ module _ {E D : Type 0} (l : LayoutModel) (e : DeviceModel E) (d : DriverModel D
   no_second r' h stays turns on at =
       let was : k.replay.stage ≡ Second = elim stays [ inl same ↦ sym same ∙ at | inr x ↦ second_was k.replay.stage x.0 (sym x.1 ∙ at) ] in
       let idle = shadow_idle stage.Giving (d.begun r.shadow) refl
-          (subst (λ (x : ReplayStage). ShadowIs (as_stage x) (d.begun r.shadow)) was h.replays.replays.op) in
+      (subst (λ (x : ReplayStage). ShadowIs (as_stage x) (d.begun r.shadow)) was h.replays.replays.op) in
       let x = turns on idle in
       cc (sym at ∙ x.2 ∙ ap (λ (y : ReplayStage). wound y x.0) was)
     where

@@ -181,7 +181,13 @@ impl<L: Layout> Relay<L> {
             result) }
     {
         match &mut self.control {
-            None => data_step::<L, P, Q>(&mut self.state, &mut self.counts, tree, guest_port, shadow_port),
+            None => data_step::<L, P, Q>(
+                &mut self.state,
+                &mut self.counts,
+                tree,
+                guest_port,
+                shadow_port,
+            ),
             Some(control) => control_step::<L, P, Q>(
                 &mut self.state,
                 control,

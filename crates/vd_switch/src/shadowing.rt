@@ -1,5 +1,5 @@
 //! A lane in an epoch of the mode shadow.
-ghost use Rattle.std.specs.Prelude.{◌≡◌, false, true, length};
+ghost use Rattle.std.specs.Prelude.{◌≡◌, None, false, true, length};
 ghost use Rattle.vd_words.specs.Own.{IsOwn};
 ghost use Rattle.vd_ring.specs.declared.device.DeviceView.{DeviceView};
 ghost use Rattle.vd_ring.specs.declared.driver.DriverView.{DriverView};
@@ -21,10 +21,12 @@ use vd_words::Port;
 #[derive(Drop)]
 pub struct Shadowing<L: Layout> {
     pub(crate) relay: Relay<L>,
+    ghost plain: { relay.control ≡ None },
 }
 
 impl<L: Layout> Shadowing<L> {
     pub(crate) fn new(relay: Relay<L>) -> Shadowing<L>
+        requires { relay.control ≡ None }
         ensures { result.relay ≡ relay }
     {
         Shadowing { relay }

@@ -10,7 +10,7 @@ returns-in-Ok g c = (
       let e = g.L.Device.DeviceEnd.device in let d = g.L.Driver.DriverEnd.driver in
       let even = (g.met.L.Device.DeviceEnd.device_lawful.whole c.args.self.end w stands (still_of e c.args.self.end c.args.self.still)).1 in
       let sized = paired.size ∙ (c.requires.kit.3 w stands).0 in
-      subst (λ r. Holds e d (start ms w) r.state r.counts w v) (sym c.new.ensures) (c.new-relay.ensures.holds ms w v (record {
+      subst (λ r. Holds e d (start ms w) r.state r.counts w v) (sym c.new.ensures) (c.new-relay.ensures.holds c.requires.lane ms w v (record {
         serves = c.awake-guest.ensures.stands w stands;
         drives = drives;
         paired = paired;
