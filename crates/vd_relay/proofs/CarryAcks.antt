@@ -21,7 +21,8 @@ use Rattle.vd_relay.specs.Tie.{guests}
 use Rattle.vd_relay.specs.Replays.{IsShadowRing}
 use Rattle.vd_relay.specs.Accesses.{acknowledged}
 use Rattle.vd_relay.specs.Commanding.{Takeover, carries, bytes_of}
-use Rattle.vd_relay.specs.Underway.{IsBack, AckStands, Commanding, is_offering}
+use Rattle.vd_relay.specs.Stages.{is_offering}
+use Rattle.vd_relay.specs.Underway.{IsBack, AckStands, Commanding}
 use Rattle.vd_relay.proofs.CarryStands.{IsBusy, stands_acked, stands_answered}
 use Rattle.vd_relay.proofs.CarryTies.{answered_here, acked_here, words_same, carried_acked, carried_answered}
 use Rattle.vd_relay.proofs.CarryWords.{carried_now, commanding}

@@ -151,7 +151,7 @@ module _ {E D : Type 0} (l : LayoutModel) (e : DeviceModel E) (d : DriverModel D
       }
 
   hand_is : x'.hand ≡ carry.First found
-  hand_is = k.carried.took (e.words.command w.frame k.head) (e.words.ack w.frame k.head) at ∙ ap (λ (n : ℕ). carry.First (record {
+  hand_is = k.carried.took.1 (e.words.command w.frame k.head) (e.words.ack w.frame k.head) at ∙ ap (λ (n : ℕ). carry.First (record {
     number = n;
     place = e.words.command w.frame k.head;
     ack_place = e.words.ack w.frame k.head;

@@ -25,11 +25,11 @@ use Rattle.vd_relay.specs.declared.carry.Carry.TheVariants as carry
 use Rattle.vd_relay.specs.declared.stage.Stage.{Stage}
 use Rattle.vd_relay.specs.declared.stage.Stage.TheVariants as stage
 use Rattle.vd_relay.specs.declared.state.State.{State}
-use Rattle.vd_relay.specs.Stages.{BackIs, BeforeRest, GuestIs, is_rested}
+use Rattle.vd_relay.specs.Stages.{BackIs, BeforeRest, GuestIs, is_rested, is_offering}
 use Rattle.vd_relay.specs.Tie.{guests}
 use Rattle.vd_relay.specs.Relay.{Stands}
 use Rattle.vd_relay.specs.Commanding.{Takeover, carries, IsCarried, AreCarried}
-use Rattle.vd_relay.specs.Underway.{AckStands, Commanding, is_offering}
+use Rattle.vd_relay.specs.Underway.{AckStands, Commanding}
 use Rattle.vd_relay.proofs.Ops.{at_give}
 use Rattle.vd_relay.proofs.Ties.{taken_count}
 use Rattle.vd_relay.proofs.CarryTakes.{head_taken, carried_taken, carried_given}

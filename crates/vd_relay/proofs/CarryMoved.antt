@@ -28,12 +28,12 @@ use Rattle.vd_table.specs.Rows.{row}
 use Rattle.vd_relay.specs.declared.carry.Carry.TheVariants as carry
 use Rattle.vd_relay.specs.declared.stage.Stage.TheVariants as stage
 use Rattle.vd_relay.specs.declared.state.State.{State}
-use Rattle.vd_relay.specs.Stages.{is_rested}
+use Rattle.vd_relay.specs.Stages.{is_rested, is_offering}
 use Rattle.vd_relay.specs.Tie.{guests, numbered}
 use Rattle.vd_relay.specs.Replays.{IsShadowRing}
 use Rattle.vd_relay.specs.Relay.{Stands}
 use Rattle.vd_relay.specs.Commanding.{Takeover, carries, IsCarried, IsLoaded, AreCarried}
-use Rattle.vd_relay.specs.Underway.{IsStored, AckStands, Commanding, is_offering}
+use Rattle.vd_relay.specs.Underway.{IsStored, AckStands, Commanding}
 use Rattle.vd_relay.proofs.Shifts.{occurs_map_front}
 use Rattle.vd_relay.proofs.CarryWords.{carried_now, number_is, all_carried}
 use Rattle.vd_relay.proofs.CarryRows.{carried_offered, carried_collected}

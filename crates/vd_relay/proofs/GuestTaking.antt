@@ -26,7 +26,7 @@ use Rattle.vd_relay.proofs.Ties.{taken_count, tied_taken}
 use Rattle.vd_relay.proofs.Calm.{at_stage}
 use Rattle.vd_relay.proofs.Turns.{handled_only}
 use Rattle.vd_relay.proofs.GuestTurns.{TurnsTo, framed_at, made_to, not_woken, to_stage_to}
-use Rattle.vd_relay.proofs.GuestChains.{takes_at, tied_at}
+use Rattle.vd_relay.proofs.GuestChains.{takes_at, tied_at, has_next}
 
 takes_some : (winding g s : Bool) (left : ℕ) → 1 ≤ left → 1 ≤ taking_owes winding g s left
 takes_some winding true s left some = some
@@ -124,5 +124,7 @@ module _ {P E D : Type 0} (port : PortModel P) (e : DeviceModel E) (d : DriverMo
           next = ap (λ (i : ℕ). stage.Offering k i) is;
           begun = begun;
           carried = carried;
+          has_free = has_next port e d law ldr z p q r w v b k x h s;
+          short = few;
         }),
       )

@@ -12,6 +12,7 @@ use Rattle.vd_ring.specs.declared.device.DeviceNow.TheVariants as now
 use Rattle.vd_ring.specs.declared.device.DeviceView.{DeviceView}
 use Rattle.vd_ring.specs.History.{takes, gives}
 use Rattle.vd_ring.specs.Sleep.{device_woken}
+use Rattle.vd_layout.proofs.OnePair.{says_given}
 use Rattle.vd_layout.specs.Driver.{DriverModel, IsLawfulDriver}
 use Rattle.vd_layout.specs.Begun.{DeviceOp}
 use Rattle.vd_layout.specs.Control.{ControlWords}
@@ -25,7 +26,7 @@ use Rattle.vd_relay.specs.Ways.{Pairs}
 use Rattle.vd_relay.specs.Pace.{counted, handled, woke, guest_handled, guest_owes, shadow_owes}
 use Rattle.vd_relay.specs.Stages.{is_rested, is_shadow}
 use Rattle.vd_relay.specs.Tie.{Course, returned}
-use Rattle.vd_relay.specs.Relay.{Stands, GuestTurn, GivesOne, HearsNone, IsGlance, owes}
+use Rattle.vd_relay.specs.Relay.{Stands, GuestDid, GuestTurn, GivesOne, HearsNone, IsGlance, owes}
 use Rattle.vd_relay.proofs.Calm.{at_stage}
 use Rattle.vd_relay.proofs.Growth.{guest_grown}
 
@@ -66,6 +67,19 @@ still_hears words f o o' X act.Armed a a' says moves is = absurd (cc (says.1, is
 still_hears words f o o' X act.Awake a a' says moves is = absurd (cc (says.1, is))
 still_hears words f o o' X act.Asleep a a' says moves is = absurd (cc (says.1, is))
 
+-- what was done, from what the answer says
+did_of : {E : Type 0} (e : DeviceModel E) (f : Frame) (o o' : List DeviceDone) (a a' : E) (answer : DeviceAct)
+    → DeviceSays e.words answer (e.begun a) (e.begun a') f o o' → GuestDid e answer a a' o o'
+did_of e f o o' a a' act.Moved says = says.1
+did_of e f o o' a a' act.Nothing says = says.2
+did_of e f o o' a a' (act.Taken k c) says = (says.0, says.4)
+did_of e f o o' a a' (act.Given k) says =
+    let g = says_given e.words k (e.begun a) (e.begun a') f o o' says in (says.0, g.begun, g.done)
+did_of e f o o' a a' act.Rested says = (says.1, says.2)
+did_of e f o o' a a' act.Armed says = says.2
+did_of e f o o' a a' act.Awake says = says.2
+did_of e f o o' a a' act.Asleep says = says.2
+
 -- a turn after which the guest's ring has this view
 abbrev pub TurnsTo : {P E D : Type 0} → PortModel P → DeviceModel E → DriverModel D → Course → P → P → State E D → State E D → DeviceView
     → DriverView → Turn → DeviceView → Type 0
@@ -98,6 +112,10 @@ module _ {P E D : Type 0} (port : PortModel P) (e : DeviceModel E) (d : DriverMo
       woke = wakes ∙ ap (device_woken s.op) s.is_answer;
       slept = subst (λ x. (t ≡ Slept) ↔ (x ≡ act.Asleep)) s.is_answer sleeps;
       once = once;
+      did = subst (λ x. GuestDid e x r.guest r'.guest w.done (e.side.after w s.op s.access s.got).done) s.is_answer
+          (subst (λ x. GuestDid e answer r.guest x w.done (e.side.after w s.op s.access s.got).done) (sym same)
+          (did_of e w.frame w.done (e.side.after w s.op s.access s.got).done r.guest b answer s.says));
+      rests = sym stands.rests ∙ ap e.resting same ∙ s.rests ∙ ap is_rested_act s.is_answer;
       live = live;
       grown =
           let rests : is_rested_act answer ≡ is_rested r'.stage = sym s.rests ∙ ap e.resting (sym same) ∙ stands.rests in

@@ -27,6 +27,7 @@ pub mod GuestKeeping
 pub mod ShadowGoing
 pub mod Origins
 pub mod ShadowTurns
+pub mod Tellings
 pub mod ShadowFree
 pub mod DriverGoing
 pub mod ShadowMoves
@@ -64,3 +65,9 @@ pub mod CarryRows
 pub mod CarryHanded
 pub mod CarryKept
 pub mod CarryMoved
+pub mod CommandTold
+pub mod CommandTurns
+pub mod CommandPlain
+pub mod CommandWords
+pub mod CommandBegins
+pub mod CommandWinds

@@ -1,9 +1,9 @@
--- Stages at which no offer is begun.
+-- Stages at which no offer is begun, and turns by which none is made.
 use Rattle.std.proofs.Common.{◌≡◌, Bool, true, false, refl}
 use Rattle.vd_relay.specs.declared.stage.Stage.{Stage}
 use Rattle.vd_relay.specs.declared.stage.Stage.TheVariants as stage
-use Rattle.vd_relay.specs.Stages.{is_shadow, roused, heard_next}
-use Rattle.vd_relay.specs.Carriers.{is_offering}
+use Rattle.vd_relay.specs.Pace.{handled, waking, repeating}
+use Rattle.vd_relay.specs.Stages.{is_shadow, is_offering, roused, heard_next, none_next}
 
 pub none_offered : (st : Stage) → is_shadow st ≡ false → is_offering st ≡ false
 none_offered (stage.Offering n h) i = absurd (cc i)
@@ -39,3 +39,62 @@ roused_none false true winding finished = refl
 roused_none false false false finished = refl
 roused_none false false true false = refl
 roused_none false false true true = refl
+
+pub none_next_none : (st : Stage) → is_offering (none_next st) ≡ false
+none_next_none (stage.Collecting true) = refl
+none_next_none (stage.Collecting false) = refl
+none_next_none (stage.Offering n h) = refl
+none_next_none stage.Taking = refl
+none_next_none stage.Giving = refl
+none_next_none stage.ArmingGuest = refl
+none_next_none stage.ArmingShadow = refl
+none_next_none stage.HearingGuest = refl
+none_next_none stage.HearingShadow = refl
+none_next_none stage.DisarmingGuest = refl
+none_next_none stage.DisarmingShadow = refl
+none_next_none stage.Resting = refl
+none_next_none stage.Rested = refl
+
+pub hears_none : (st : Stage) → is_offering st ≡ false → is_offering (heard_next st) ≡ false
+hears_none (stage.Offering n h) i = i
+hears_none stage.Taking i = refl
+hears_none (stage.Collecting n) i = refl
+hears_none stage.Giving i = refl
+hears_none stage.ArmingGuest i = refl
+hears_none stage.ArmingShadow i = refl
+hears_none stage.HearingGuest i = refl
+hears_none stage.HearingShadow i = refl
+hears_none stage.DisarmingGuest i = refl
+hears_none stage.DisarmingShadow i = refl
+hears_none stage.Resting i = refl
+hears_none stage.Rested i = refl
+
+-- ---- turns by which no chain is offered or collected
+
+pub repeats : (st : Stage) → handled (repeating st) ≡ 0
+repeats (stage.Offering n h) = refl
+repeats stage.Taking = refl
+repeats (stage.Collecting n) = refl
+repeats stage.Giving = refl
+repeats stage.ArmingGuest = refl
+repeats stage.ArmingShadow = refl
+repeats stage.HearingGuest = refl
+repeats stage.HearingShadow = refl
+repeats stage.DisarmingGuest = refl
+repeats stage.DisarmingShadow = refl
+repeats stage.Resting = refl
+repeats stage.Rested = refl
+
+pub wakes : (st : Stage) → handled (waking st) ≡ 0
+wakes (stage.Offering n h) = refl
+wakes stage.Taking = refl
+wakes (stage.Collecting n) = refl
+wakes stage.Giving = refl
+wakes stage.ArmingGuest = refl
+wakes stage.ArmingShadow = refl
+wakes stage.HearingGuest = refl
+wakes stage.HearingShadow = refl
+wakes stage.DisarmingGuest = refl
+wakes stage.DisarmingShadow = refl
+wakes stage.Resting = refl
+wakes stage.Rested = refl

@@ -1,7 +1,6 @@
 -- The end of a replay: the relay goes on over the same shadow end, or it leaves the guest's end as it found it.
-use Rattle.std.proofs.Common.{◌≡◌, ◌≢◌, ◌⊎◌, ℕ, ◌+◌, ◌≤◌, Bool, true, false, Option, None, List, [], ◌∷◌, ◌++◌, length, drop, map, replicate, if◌then◌else◌, refl, sym, ◌∙◌, ap, subst, arith, inl, inr}
+use Rattle.std.proofs.Common.{◌≡◌, ◌≢◌, ◌⊎◌, ℕ, ◌≤◌, Bool, true, false, Option, None, List, [], ◌∷◌, ◌++◌, length, drop, map, replicate, if◌then◌else◌, refl, sym, ◌∙◌, ap, subst, arith, inl, inr}
 use Rattle.std.proofs.lemmas.List.{append-nil, nil_from_length}
-use Rattle.vd_ring.specs.declared.frame.Frame.{Frame}
 use Rattle.vd_ring.specs.declared.frame.Used.{Used}
 use Rattle.vd_ring.specs.declared.driver.DriverView.{DriverView}
 use Rattle.vd_ring.specs.declared.device.DeviceView.{DeviceView}
@@ -20,13 +19,12 @@ use Rattle.vd_relay.specs.declared.replay.ReplayStage.{ReplayStage}
 use Rattle.vd_relay.specs.declared.replay.ReplayStage.TheVariants.{First, Second, Offering, Collecting, Loading, Arming, Hearing, Disarming, Done, Left}
 use Rattle.vd_relay.specs.Pace.{take_owes, KeepsPace}
 use Rattle.vd_relay.specs.Stages.{ShadowIs, ShadowArmed}
-use Rattle.vd_relay.specs.Ways.{Way, carrying, shift_by, came}
+use Rattle.vd_relay.specs.Ways.{carrying, shift_by}
 use Rattle.vd_relay.specs.Pairing.{AreControls}
 use Rattle.vd_relay.specs.Relay.{Holds, Begins, HandsBack, start}
-use Rattle.vd_relay.specs.Tie.{returned}
 use Rattle.vd_relay.specs.Leaving.{IsFree, RestIs, IsLeft, rest_owes, leave_owes}
-use Rattle.vd_relay.specs.Replays.{Replays, IsBetween, Awaits, IsAt, LeavesOut, is_over, as_stage, replay_owes}
-use Rattle.vd_relay.proofs.Begins.{begun_at, pace_to}
+use Rattle.vd_relay.specs.Replays.{Replays, IsBetween, Awaits, IsAt, is_over, as_stage, replay_owes}
+use Rattle.vd_relay.proofs.Begins.{begun_at}
 use Rattle.vd_relay.proofs.Ops.{shadow_idle}
 use Rattle.vd_relay.proofs.Ways.{drop_count}
 

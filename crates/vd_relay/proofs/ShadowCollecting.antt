@@ -1,5 +1,5 @@
 -- A collect of the shadow end: the give of the chain is begun.
-use Rattle.std.proofs.Common.{◌≡◌, ℕ, ◌<◌, ◌≤◌, Bool, false, Some, None, List, [], ◌∷◌, length, slice_set, refl, sym, ◌∙◌, ap, subst, arith}
+use Rattle.std.proofs.Common.{◌≡◌, ℕ, ◌<◌, ◌≤◌, Bool, false, Some, None, List, [], ◌∷◌, length, slice_set, refl, sym, ◌∙◌, ap, subst, arith, inr}
 use Rattle.vd_words.specs.declared.access.Op.TheVariants as op
 use Rattle.vd_words.specs.Model.{PortModel}
 use Rattle.vd_ring.specs.declared.act.DriverAct.TheVariants as act
@@ -20,15 +20,17 @@ use Rattle.vd_relay.specs.declared.stage.Stage.{Stage}
 use Rattle.vd_relay.specs.declared.stage.Stage.TheVariants as stage
 use Rattle.vd_relay.specs.declared.state.State.{State}
 use Rattle.vd_relay.specs.Pace.{guest_owes}
-use Rattle.vd_relay.specs.Stages.{GuestIs, ShadowIs, TakesFrom, OffersHand, BackIs, GuestShown, ShadowShown}
+use Rattle.vd_relay.specs.Stages.{is_offering, GuestIs, ShadowIs, TakesFrom, OffersHand, BackIs, GuestShown, ShadowShown}
 use Rattle.vd_relay.specs.Tie.{Course, IsTied, guests, origin}
-use Rattle.vd_relay.specs.Relay.{Stands, ShadowTurn}
+use Rattle.vd_relay.specs.Relay.{Stands}
+use Rattle.vd_relay.specs.Carriers.{CarrierModel}
+use Rattle.vd_relay.specs.Tellings.{MayTell, TellsOf}
 use Rattle.vd_relay.proofs.Ways.{alike}
 use Rattle.vd_relay.proofs.Ties.{tied_collected, head_stored, may_give}
 use Rattle.vd_relay.proofs.Calm.{at_stage}
 use Rattle.vd_relay.proofs.Ops.{at_collect, CollectsAt}
 use Rattle.vd_relay.proofs.Turns.{handled_only}
-use Rattle.vd_relay.proofs.ShadowTurns.{framed_at, made_at, not_woken, once, tied_after, to_stage}
+use Rattle.vd_relay.proofs.ShadowTurns.{TurnsTo, framed_at, made_to, not_woken, once, tied_after, to_stage_to}
 use Rattle.vd_relay.proofs.ShadowFree.{none_back}
 
 module _ {P E D : Type 0} (port : PortModel P) (e : DeviceModel E) (d : DriverModel D) (law : IsLawfulDevice e) (ldr : IsLawfulDriver d)
@@ -58,12 +60,12 @@ module _ {P E D : Type 0} (port : PortModel P) (e : DeviceModel E) (d : DriverMo
 
     collected_now : (none : Bool) (number : ℕ) (a' : E) → (h : Stands e d z (at_stage r (stage.Collecting none)) w v)
         → number ≡ guests z k → e.stands a' w → e.begun a' ≡ DeviceOp.give number l → e.resting a' ≡ false → e.left a' ≤ 5
-        → ShadowTurn port e d z p q (at_stage r (stage.Collecting none)) (giving a' b m) w v Handled
+        → TurnsTo port e d z p q (at_stage r (stage.Collecting none)) (giving a' b m) w v Handled (d.side.after v s.op s.access s.got)
     collected_now none number a' h is serves begun awake few =
         let v' : DriverView = d.side.after v s.op s.access s.got in
         let of : s.op ≡ op.Collect = subst (λ o. IsDriverOp o s.op) said_at.begun s.of_it in
         let gives : e.begun a' ≡ DeviceOp.give (guests z k) l = begun ∙ ap (λ (y : ℕ). DeviceOp.give y l) is in
-        made_at port e d law ldr z p q r w v b (act.Collected k l m) s (stage.Collecting none) (giving a' b m) Handled (record {
+        made_to port e d law ldr z p q r w v b (act.Collected k l m) s (stage.Collecting none) (giving a' b m) Handled (record {
           serves = serves;
           drives = s.now_stands;
           paired = framed_at port e d law ldr z p q r w v b (act.Collected k l m) s h.paired;
@@ -123,10 +125,31 @@ module _ {P E D : Type 0} (port : PortModel P) (e : DeviceModel E) (d : DriverMo
       (may_give z r.table u.hand u.acts w.frame v.frame v.done k (tied_here k l m s (collects_at k l m h s).none u) (was_open k l m s)
       (said_at k l m s).in_order (alike z.way w.frame v.frame u.paired).features)
 
-  pub collected : (k l m number : ℕ) (a' : E) → Stands e d z r w v → IsDriverStep port d p q v r.shadow b (act.Collected k l m)
-      → number ≡ guests z k → e.stands a' w → e.begun a' ≡ DeviceOp.give number l → e.resting a' ≡ false → e.left a' ≤ 5
-      → ShadowTurn port e d z p q r (giving a' b m) w v Handled
-  collected k l m number a' h s is serves begun awake few =
+  -- the carrier may be told that it came back
+  pub may_collect : {C : Type 0} (t : CarrierModel C) (c : C) (k l m : ℕ) → MayTell t c r v
+      → IsDriverStep port d p q v r.shadow b (act.Collected k l m) → t.may_collect c m
+  may_collect t c k l m tells s = subst (λ (y : ℕ). t.may_collect c y) (sym (said_at k l m s).is_head) (tells.collect k (was_open k l m s))
+
+  -- and is told so
+  pub collected : {C : Type 0} (t : CarrierModel C) (c c' : C) (k l m number : ℕ) (a' : E) → Stands e d z r w v
+      → IsDriverStep port d p q v r.shadow b (act.Collected k l m) → number ≡ guests z k → e.stands a' w
+      → e.begun a' ≡ DeviceOp.give number l → e.resting a' ≡ false → e.left a' ≤ 5 → t.collected c m c'
+      → TellsOf t port e d z c c' p q r (giving a' b m) w v Handled
+  collected t c c' k l m number a' h s is serves begun awake few told =
       let at = collects_at k l m h s in
-      to_stage port e d law ldr z p q r w v b (stage.Collecting at.none) (giving a' b m) Handled at.is
-      (λ x. collected_now k l m s at.none number a' x is serves begun awake few) h
+      let turn = to_stage_to port e d law ldr z p q r w v b (stage.Collecting at.none) (giving a' b m) Handled
+      (d.side.after v s.op s.access s.got) at.is (λ x. collected_now k l m s at.none number a' x is serves begun awake few) h in (
+        turn.0,
+        inr (inr (record {
+          other = ap is_offering at.is;
+          k = k;
+          len = l;
+          was_open = was_open k l m s;
+          done = ap (λ (u : DriverView). u.done) turn.1 ∙ (said_at k l m s).done;
+          next = refl;
+          begun = begun ∙ ap (λ (y : ℕ). DeviceOp.give y l) is;
+          short = few;
+          idle = (said_at k l m s).idle;
+          told = subst (λ (y : ℕ). t.collected c y c') (said_at k l m s).is_head told;
+        })),
+      )

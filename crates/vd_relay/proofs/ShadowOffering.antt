@@ -14,18 +14,21 @@ use Rattle.vd_layout.specs.Device.{DeviceModel, IsLawfulDevice}
 use Rattle.vd_table.specs.declared.Origin.{Origin}
 use Rattle.vd_table.specs.declared.Origin.TheVariants.{Guest}
 use Rattle.vd_relay.specs.declared.counts.Turn.TheVariants.{Handled}
+use Rattle.vd_relay.specs.declared.stage.Stage.{Stage}
 use Rattle.vd_relay.specs.declared.stage.Stage.TheVariants as stage
 use Rattle.vd_relay.specs.declared.state.State.{State}
 use Rattle.vd_relay.specs.Pace.{shadow_owes}
-use Rattle.vd_relay.specs.Stages.{GuestIs, ShadowIs, TakesFrom, OffersHand, BackIs, ShadowShown}
+use Rattle.vd_relay.specs.Stages.{is_offering, GuestIs, ShadowIs, TakesFrom, OffersHand, OfferIs, BackIs, ShadowShown}
 use Rattle.vd_relay.specs.Tie.{Course, IsTied, guests, origin}
-use Rattle.vd_relay.specs.Relay.{Stands, ShadowTurn}
+use Rattle.vd_relay.specs.Relay.{Stands}
+use Rattle.vd_relay.specs.Carriers.{CarrierModel}
+use Rattle.vd_relay.specs.Tellings.{TellsOf}
 use Rattle.vd_relay.proofs.Ties.{tied_offered}
 use Rattle.vd_relay.proofs.Calm.{FewInHand, at_stage, hand_to}
 use Rattle.vd_relay.proofs.Ops.{at_offer}
 use Rattle.vd_relay.proofs.ShadowGoing.{collect_most}
 use Rattle.vd_relay.proofs.Turns.{handled_only}
-use Rattle.vd_relay.proofs.ShadowTurns.{framed_at, made_at, not_woken, once, tied_after, to_stage}
+use Rattle.vd_relay.proofs.ShadowTurns.{TurnsTo, framed_at, made_to, not_woken, once, tied_after, to_stage_to}
 use Rattle.vd_relay.proofs.ShadowFree.{guest_free}
 use Rattle.vd_relay.proofs.ShadowRows.{fits, ok, room, tied_now}
 
@@ -73,7 +76,8 @@ module _ {P E D : Type 0} (port : PortModel P) (e : DeviceModel E) (d : DriverMo
 
   module _ (number head : ℕ) (h : Stands e d z (at_stage r (stage.Offering number head)) w v) (k : ℕ)
       (s : IsDriverStep port d p q v r.shadow b (act.Offered k)) where
-    offered_now : ShadowTurn port e d z p q (at_stage r (stage.Offering number head)) (stored b number head) w v Handled
+    offered_now : TurnsTo port e d z p q (at_stage r (stage.Offering number head)) (stored b number head) w v Handled
+        (d.side.after v s.op s.access s.got)
     offered_now =
         let x : List Piece = s.says.0 in
         let v' : DriverView = d.side.after v s.op s.access s.got in
@@ -83,7 +87,7 @@ module _ {P E D : Type 0} (port : PortModel P) (e : DeviceModel E) (d : DriverMo
         ap (λ (y : ℕ). slice_set r.table y (Some (origin (guests z (length (offers v.done)))))) (sym h.offer.1)
         ∙ ap (λ (y : ℕ). slice_set r.table head (Some (Guest y 0))) (sym h.offer.0) in
         let at = published_is (d.begun b) s.says.2 in
-        made_at port e d law ldr z p q r w v b (act.Offered k) s (stage.Offering number head) (stored b number head) Handled (record {
+        made_to port e d law ldr z p q r w v b (act.Offered k) s (stage.Offering number head) (stored b number head) Handled (record {
           serves = h.serves;
           drives = s.now_stands;
           paired = framed_at port e d law ldr z p q r w v b (act.Offered k) s h.paired;
@@ -120,10 +124,26 @@ module _ {P E D : Type 0} (port : PortModel P) (e : DeviceModel E) (d : DriverMo
           ap (λ o. shadow_owes r.winding (stage.Offering number head) o v.doing w.shown v.shown (d.left r.shadow)) s.says.1,
         )) refl (λ y. absurd (cc y)) (λ y. absurd (cc y)) (λ n on at. absurd (cc at))
 
-  pub offered : (number head k : ℕ) → r.stage ≡ stage.Offering number head → Stands e d z r w v
-      → IsDriverStep port d p q v r.shadow b (act.Offered k) → ShadowTurn port e d z p q r (stored b number head) w v Handled
-  offered number head k is h s = to_stage port e d law ldr z p q r w v b (stage.Offering number head) (stored b number head) Handled is
-      (λ x. offered_now number head x k s) h
+  -- the carrier is told so
+  pub offered : {C : Type 0} (m : CarrierModel C) (c c' : C) (number head k : ℕ) → r.stage ≡ stage.Offering number head → Stands e d z r w v
+      → IsDriverStep port d p q v r.shadow b (act.Offered k) → m.offered c head c'
+      → TellsOf m port e d z c c' p q r (stored b number head) w v Handled
+  offered m c c' number head k is h s told =
+      let t = to_stage_to port e d law ldr z p q r w v b (stage.Offering number head) (stored b number head) Handled
+      (d.side.after v s.op s.access s.got) is (λ x. offered_now number head x k s) h in (
+        t.0,
+        inr (inl (record {
+          chain = s.says.0;
+          at = ap is_offering is;
+          begun = s.says.1;
+          was = s.says.5;
+          done = ap (λ (u : DriverView). u.done) t.1 ∙ s.says.4;
+          next = refl;
+          guest = refl;
+          told = subst (λ (y : ℕ). m.offered c y c')
+              (subst (λ (x : Stage). OfferIs x (guests z) v.frame v.done) is h.offer).1 told;
+        })),
+      )
 
   pub offers_at : (k : ℕ) → Stands e d z r w v → IsDriverStep port d p q v r.shadow b (act.Offered k)
       → (number : ℕ) × (head : ℕ) × (r.stage ≡ stage.Offering number head)

@@ -1,6 +1,9 @@
 -- One step of a relay, from the access that it makes and from how that is counted.
-use Rattle.std.proofs.Common.{◌≡◌, ◌≢◌, ◌⊎◌, ◌↔◌, ℕ, ◌+◌, ◌*◌, ◌<◌, ◌≤◌, Bool, true, false, IsTrue, refl, sym, ◌∙◌, ap, subst, arith, inl, inr}
+use Rattle.std.proofs.Common.{◌≡◌, ◌≢◌, ◌⊎◌, ◌↔◌, ℕ, ◌+◌, ◌*◌, ◌<◌, ◌≤◌, Bool, true, false, IsTrue, List, refl, sym, ◌∙◌, ap, subst, arith, inl, inr}
 use Rattle.vd_words.specs.Model.{PortModel}
+use Rattle.vd_ring.specs.declared.act.DeviceAct.{DeviceAct}
+use Rattle.vd_ring.specs.declared.act.DeviceAct.TheVariants as act
+use Rattle.vd_ring.specs.declared.device.DeviceDone.{DeviceDone}
 use Rattle.vd_ring.specs.declared.driver.DriverNow.TheVariants as driver
 use Rattle.vd_ring.specs.declared.driver.DriverView.{DriverView}
 use Rattle.vd_ring.specs.declared.device.DeviceNow.TheVariants as device
@@ -17,13 +20,16 @@ use Rattle.vd_relay.specs.declared.stage.Stage.{Stage}
 use Rattle.vd_relay.specs.declared.stage.Stage.TheVariants as stage
 use Rattle.vd_relay.specs.declared.state.State.{State}
 use Rattle.vd_relay.specs.Pace.{last_count, raised, counted, handled, woke, move_of, guest_handled, shadow_handled, KeepsPace}
-use Rattle.vd_relay.specs.Stages.{GuestIs, ShadowIs, is_hearing, is_shadow}
+use Rattle.vd_relay.specs.Stages.{GuestIs, ShadowIs, is_hearing, is_shadow, is_offering}
 use Rattle.vd_relay.specs.Tie.{Course}
 use Rattle.vd_relay.specs.Carriers.{CarrierModel, CarrierTurn, CarriesOn}
+use Rattle.vd_relay.specs.Tellings.{TellsTurn, TellsOf}
 use Rattle.vd_relay.proofs.Ops.{guest_idle, shadow_idle}
 use Rattle.vd_relay.proofs.GuestTurns.{TurnsTo}
+use Rattle.vd_relay.proofs.ShadowTurns.{TurnsTo as ShadowTo}
+use Rattle.vd_relay.proofs.Tellings.{told_from}
 use Rattle.vd_relay.proofs.Hearings.{guest_hears, shadow_hears}
-use Rattle.vd_relay.specs.Relay.{Holds, IsKept, IsFinished, IsGlance, IsLook, HearsNone, ShadowWaits, GuestWaits, GuestTurn, ShadowTurn, OnGuest, OnShadow, owes, unless}
+use Rattle.vd_relay.specs.Relay.{Holds, IsKept, IsFinished, IsGlance, IsLook, HearsNone, ShadowWaits, GuestWaits, GuestDid, GuestTurn, ShadowTurn, OnGuest, OnShadow, owes, unless}
 
 -- ---- from before the operation was begun
 
@@ -38,10 +44,22 @@ module _ {P E D : Type 0} (port : PortModel P) (e : DeviceModel E) (d : DriverMo
     shadow_idle = g.shadow_idle;
   }
 
+  did_from : (a b c : E) (s s' : List DeviceDone) (answer : DeviceAct)
+      → ((k n : ℕ) → e.begun b ≡ DeviceOp.give k n → e.begun a ≡ DeviceOp.give k n) → GuestDid e answer b c s s' → GuestDid e answer a c s s'
+  did_from a b c s s' (act.Given k) gives x = (x.0, gives k x.0 x.1, x.2)
+  did_from a b c s s' (act.Taken k y) gives x = x
+  did_from a b c s s' act.Moved gives x = x
+  did_from a b c s s' act.Nothing gives x = x
+  did_from a b c s s' act.Rested gives x = x
+  did_from a b c s s' act.Armed gives x = x
+  did_from a b c s s' act.Awake gives x = x
+  did_from a b c s s' act.Asleep gives x = x
+
   guest_from_to : owes e d u w v ≤ owes e d r w v → (is_hearing u.stage ≡ true → u.stage ≡ r.stage)
+      → ((k n : ℕ) → e.begun u.guest ≡ DeviceOp.give k n → e.begun r.guest ≡ DeviceOp.give k n)
       → (h : GuestTurn port e d z p q u r' w v t)
       → TurnsTo port e d z p q r r' w v t (e.side.after w h.op h.access h.got)
-  guest_from_to less same h = (
+  guest_from_to less same gives h = (
     record {
       op = h.op;
       access = h.access;
@@ -54,6 +72,8 @@ module _ {P E D : Type 0} (port : PortModel P) (e : DeviceModel E) (d : DriverMo
       woke = h.woke;
       slept = h.slept;
       once = h.once;
+      did = did_from r.guest u.guest r'.guest w.done (e.side.after w h.op h.access h.got).done (e.act w h.op h.access h.got) gives h.did;
+      rests = h.rests;
       live = h.live;
       grown = h.grown;
       hears = h.hears;
@@ -65,38 +85,55 @@ module _ {P E D : Type 0} (port : PortModel P) (e : DeviceModel E) (d : DriverMo
   )
 
   pub guest_from : {C : Type 0} (m : CarrierModel C) (x x' : C) → owes e d u w v ≤ owes e d r w v
-      → (is_hearing u.stage ≡ true → u.stage ≡ r.stage) → CarriesOn m port e d z x x' p q u r' w v t
+      → (is_hearing u.stage ≡ true → u.stage ≡ r.stage)
+      → ((k n : ℕ) → e.begun u.guest ≡ DeviceOp.give k n → e.begun r.guest ≡ DeviceOp.give k n) → CarriesOn m port e d z x x' p q u r' w v t
       → CarriesOn m port e d z x x' p q r r' w v t
-  guest_from m x x' less same h =
-      let t = guest_from_to less same h.0 in
+  guest_from m x x' less same gives h =
+      let t = guest_from_to less same gives h.0 in
       (t.0, subst (λ (y : DeviceView). CarrierTurn m e d z.way x x' r' w y v) (sym t.1) h.1)
 
   same_finished : IsKept r u → IsFinished u w v ↔ IsFinished r w v
   same_finished k = ((λ f. (sym k.0 ∙ f.0, omega (arith, f.1, k.1), f.2)), λ f. (k.0 ∙ f.0, omega (arith, f.1, k.1), f.2))
 
-  pub shadow_from : owes e d u w v ≤ owes e d r w v → IsKept r u → (is_hearing u.stage ≡ true → u.stage ≡ r.stage)
-      → ShadowTurn port e d z p q u r' w v t → ShadowTurn port e d z p q r r' w v t
-  shadow_from less k same h = record {
-    op = h.op;
-    access = h.access;
-    got = h.got;
-    was_next = h.was_next;
-    moved = h.moved;
-    stands = h.stands;
-    handled = h.handled;
-    woke = h.woke;
-    slept = h.slept;
-    again = (
-      (λ i. let x = h.again.0 i in (x.0, sym k.0 ∙ x.1, λ f. x.2 ((same_finished k).1 f))),
-      λ x. h.again.1 (x.0, k.0 ∙ x.1, λ f. x.2 ((same_finished k).0 f)),
-    );
-    live = h.live;
-    grown = h.grown;
-    hears = h.hears;
-    look = λ i. glanced stage.HearingShadow stage.HearingGuest refl same (h.look i);
-    leaves = h.leaves;
-    paid = omega (arith, h.paid, less);
-  }
+  shadow_from_to : owes e d u w v ≤ owes e d r w v → IsKept r u → (is_hearing u.stage ≡ true → u.stage ≡ r.stage)
+      → (h : ShadowTurn port e d z p q u r' w v t) → ShadowTo port e d z p q r r' w v t (d.side.after v h.op h.access h.got)
+  shadow_from_to less k same h = (
+    record {
+      op = h.op;
+      access = h.access;
+      got = h.got;
+      was_next = h.was_next;
+      moved = h.moved;
+      stands = h.stands;
+      handled = h.handled;
+      woke = h.woke;
+      slept = h.slept;
+      again = (
+        (λ i. let x = h.again.0 i in (x.0, sym k.0 ∙ x.1, λ f. x.2 ((same_finished k).1 f))),
+        λ x. h.again.1 (x.0, k.0 ∙ x.1, λ f. x.2 ((same_finished k).0 f)),
+      );
+      same = h.same;
+      live = h.live;
+      grown = h.grown;
+      hears = h.hears;
+      look = λ i. glanced stage.HearingShadow stage.HearingGuest refl same (h.look i);
+      leaves = h.leaves;
+      paid = omega (arith, h.paid, less);
+    },
+    refl,
+  )
+
+  pub shadow_from : {C : Type 0} (m : CarrierModel C) (x x' : C) → owes e d u w v ≤ owes e d r w v → IsKept r u
+      → (is_hearing u.stage ≡ true → u.stage ≡ r.stage) → u.guest ≡ r.guest
+      → (is_offering r.stage ≡ true → (u.stage ≡ r.stage) × (d.begun u.shadow ≡ d.begun r.shadow))
+      → (is_offering r.stage ≡ false → is_offering u.stage ≡ false) → TellsOf m port e d z x x' p q u r' w v t
+      → TellsOf m port e d z x x' p q r r' w v t
+  shadow_from m x x' less k same guest offers other h =
+      let turn = shadow_from_to less k same h.0 in (
+        turn.0,
+        subst (λ (y : DriverView). TellsTurn m e d z x x' r r' v y t) (sym turn.1)
+            (told_from m e d z x x' r u r' v (d.side.after v h.0.op h.0.access h.0.got) t guest offers other h.1),
+      )
 
 -- ---- counts
 
@@ -254,74 +291,90 @@ module _ {P E D : Type 0} (port : PortModel P) (e : DeviceModel E) (d : DriverMo
   guest_looks law holds h i = guest_look e d z r r' c w v holds
       ((law.looks.asleep w h.op h.access h.got h.was_next).0 (h.slept.0 i)).1 (h.look i)
 
+  pub on_guest_to : IsLawfulDevice e → said ≡ move_of t b → Noted c c' t → IsKept r r' → ShadowWaits d r r' → Holds e d z r c w v
+      → (h : GuestTurn port e d z p q r r' w v t) → (o : OnGuest port e d z p q r r' c c' w v said)
+      × (e.side.after w o.op o.access o.got ≡ e.side.after w h.op h.access h.got)
+  on_guest_to law is n kept waits holds h = (
+    record {
+      op = h.op;
+      access = h.access;
+      got = h.got;
+      was_next = h.was_next;
+      moved = h.moved;
+      holds = record {
+        stands = h.stands;
+        pace = paces c c' t (owes e d r w v) (owes e d r' (e.side.after w h.op h.access h.got) v) n.accesses n.handled n.heard h.paid
+            holds.pace;
+        hears_guest = h.hears;
+        hears_shadow = λ i idle. waits.1 i;
+        leaves = leaves_on e d z r r' c w v holds t (λ i. (guest_looks law holds h i).live) kept.0 h.leaves;
+      };
+      bag = h.bag;
+      grown = h.grown;
+      looked = both (looked_is said t b is) h.slept;
+      look = λ i. guest_looks law holds h ((looked_is said t b is).0 i);
+      slept = is_slept t;
+      asleep = both (slept_exact t) (back (looked_is said t b is));
+      counts = record {
+        accesses = n.accesses ∙ ap (λ k. raised k c.accesses) (slept_counts t h.once);
+        handled = n.handled ∙ ap (λ k. raised k c.handled) h.handled;
+        heard = n.heard ∙ ap (λ k. raised k c.heard) h.woke;
+      };
+    },
+    refl,
+  )
+
   pub on_guest : IsLawfulDevice e → said ≡ move_of t b → Noted c c' t → IsKept r r' → ShadowWaits d r r' → Holds e d z r c w v
       → GuestTurn port e d z p q r r' w v t → OnGuest port e d z p q r r' c c' w v said
-  on_guest law is n kept waits holds h = record {
-    op = h.op;
-    access = h.access;
-    got = h.got;
-    was_next = h.was_next;
-    moved = h.moved;
-    holds = record {
-      stands = h.stands;
-      pace = paces c c' t (owes e d r w v) (owes e d r' (e.side.after w h.op h.access h.got) v) n.accesses n.handled n.heard h.paid
-          holds.pace;
-      hears_guest = h.hears;
-      hears_shadow = λ i idle. waits.1 i;
-      leaves = leaves_on e d z r r' c w v holds t (λ i. (guest_looks law holds h i).live) kept.0 h.leaves;
-    };
-    bag = h.bag;
-    grown = h.grown;
-    looked = both (looked_is said t b is) h.slept;
-    look = λ i. guest_looks law holds h ((looked_is said t b is).0 i);
-    slept = is_slept t;
-    asleep = both (slept_exact t) (back (looked_is said t b is));
-    counts = record {
-      accesses = n.accesses ∙ ap (λ k. raised k c.accesses) (slept_counts t h.once);
-      handled = n.handled ∙ ap (λ k. raised k c.handled) h.handled;
-      heard = n.heard ∙ ap (λ k. raised k c.heard) h.woke;
-    };
-  }
+  on_guest law is n kept waits holds h = (on_guest_to law is n kept waits holds h).0
 
   shadow_looks : IsLawfulDriver d → Holds e d z r c w v → ShadowTurn port e d z p q r r' w v t → t ≡ Slept
       → IsLook stage.HearingShadow stage.HearingGuest e d r r'
   shadow_looks law holds h i = shadow_look e d z r r' c w v holds
       ((law.looks.asleep v h.op h.access h.got h.was_next).0 (h.slept.0 i)).1 (h.look i)
 
+  pub on_shadow_to : IsLawfulDriver d → said ≡ move_of t b → Noted c c' t → IsKept r r' → GuestWaits e r r' → Holds e d z r c w v
+      → (h : ShadowTurn port e d z p q r r' w v t) → (o : OnShadow port e d z p q r r' c c' w v said)
+      × (d.side.after v o.op o.access o.got ≡ d.side.after v h.op h.access h.got)
+  on_shadow_to law is n kept waits holds h = (
+    record {
+      op = h.op;
+      access = h.access;
+      got = h.got;
+      was_next = h.was_next;
+      moved = h.moved;
+      holds = record {
+        stands = h.stands;
+        pace = paces c c' t (owes e d r w v) (owes e d r' w (d.side.after v h.op h.access h.got)) n.accesses n.handled n.heard h.paid
+            holds.pace;
+        hears_guest = λ i idle. waits.1 i;
+        hears_shadow = h.hears;
+        leaves = leaves_on e d z r r' c w v holds t (λ i. (shadow_looks law holds h i).live) kept.0 h.leaves;
+      };
+      grown = h.grown;
+      looked = both (looked_is said t b is) h.slept;
+      look = λ i. shadow_looks law holds h ((looked_is said t b is).0 i);
+      free = λ i. waits.0;
+      left_out = is_left_out t;
+      uncounted = (
+        (λ x. elim ((left_exact t).0 x) [
+          | inl y ↦ inl ((looked_is said t b is).1 y)
+          | inr y ↦ inr (h.again.0 y)
+        ]),
+        λ x. (left_exact t).1 (elim x [
+          | inl y ↦ inl ((looked_is said t b is).0 y)
+          | inr y ↦ inr (h.again.1 y)
+        ]),
+      );
+      counts = record {
+        accesses = n.accesses ∙ ap (λ k. raised k c.accesses) (left_counts t);
+        handled = n.handled ∙ ap (λ k. raised k c.handled) h.handled;
+        heard = n.heard ∙ ap (λ k. raised k c.heard) h.woke;
+      };
+    },
+    refl,
+  )
+
   pub on_shadow : IsLawfulDriver d → said ≡ move_of t b → Noted c c' t → IsKept r r' → GuestWaits e r r' → Holds e d z r c w v
       → ShadowTurn port e d z p q r r' w v t → OnShadow port e d z p q r r' c c' w v said
-  on_shadow law is n kept waits holds h = record {
-    op = h.op;
-    access = h.access;
-    got = h.got;
-    was_next = h.was_next;
-    moved = h.moved;
-    holds = record {
-      stands = h.stands;
-      pace = paces c c' t (owes e d r w v) (owes e d r' w (d.side.after v h.op h.access h.got)) n.accesses n.handled n.heard h.paid
-          holds.pace;
-      hears_guest = λ i idle. waits.1 i;
-      hears_shadow = h.hears;
-      leaves = leaves_on e d z r r' c w v holds t (λ i. (shadow_looks law holds h i).live) kept.0 h.leaves;
-    };
-    grown = h.grown;
-    looked = both (looked_is said t b is) h.slept;
-    look = λ i. shadow_looks law holds h ((looked_is said t b is).0 i);
-    free = λ i. waits.0;
-    left_out = is_left_out t;
-    uncounted = (
-      (λ x. elim ((left_exact t).0 x) [
-        | inl y ↦ inl ((looked_is said t b is).1 y)
-        | inr y ↦ inr (h.again.0 y)
-      ]),
-      λ x. (left_exact t).1 (elim x [
-        | inl y ↦ inl ((looked_is said t b is).0 y)
-        | inr y ↦ inr (h.again.1 y)
-      ]),
-    );
-    counts = record {
-      accesses = n.accesses ∙ ap (λ k. raised k c.accesses) (left_counts t);
-      handled = n.handled ∙ ap (λ k. raised k c.handled) h.handled;
-      heard = n.heard ∙ ap (λ k. raised k c.heard) h.woke;
-    };
-  }
+  on_shadow law is n kept waits holds h = (on_shadow_to law is n kept waits holds h).0

@@ -1,8 +1,7 @@
 -- A carrier of a relay: it makes of each chain that was taken from the guest's ring the one that is offered on the shadow ring.
-use Rattle.std.specs.Prelude.{◌≡◌, ◌⊎◌, ℕ, ◌<◌, Bool, true, false, List, ◌∷◌, length}
+use Rattle.std.specs.Prelude.{◌≡◌, ◌⊎◌, ℕ, ◌<◌, ◌≤◌, true, false, List, ◌∷◌, length}
 use Rattle.vd_model.specs.declared.chain.Piece.{Piece}
 use Rattle.vd_words.specs.Model.{PortModel}
-use Rattle.vd_words.specs.Own.{IsOwn}
 use Rattle.vd_ring.specs.declared.frame.Frame.{Frame}
 use Rattle.vd_ring.specs.declared.driver.DriverView.{DriverView}
 use Rattle.vd_ring.specs.declared.device.DeviceDone.TheVariants.{Take}
@@ -13,18 +12,23 @@ use Rattle.vd_layout.specs.Begun.{DriverOp}
 use Rattle.vd_layout.specs.Driver.{DriverModel}
 use Rattle.vd_layout.specs.Device.{DeviceModel, IsTaken}
 use Rattle.vd_layout.specs.Layout.{LayoutModel}
-use Rattle.vd_relay.specs.declared.stage.Stage.{Stage}
 use Rattle.vd_relay.specs.declared.stage.Stage.TheVariants as stage
 use Rattle.vd_relay.specs.declared.state.State.{State}
+use Rattle.vd_relay.specs.Stages.{is_offering}
 use Rattle.vd_relay.specs.Tie.{Course}
 use Rattle.vd_relay.specs.Ways.{Way, Pairs, Carries}
 use Rattle.vd_relay.specs.declared.counts.Turn.{Turn}
-use Rattle.vd_relay.specs.Relay.{Stands, GuestTurn, ShadowTurn, ShadowWaits, GuestWaits}
+use Rattle.vd_relay.specs.Relay.{GuestTurn}
 
--- by which way it carries to a shadow ring of a frame, and what it keeps of a chain of a number on the guest's ring: before, and after
+-- by which way it carries to a shadow ring of a frame, and what it keeps of a chain of a number on the guest's ring: before, and after.
+-- When it may be told that the chain was offered at a head of the shadow ring, and that it was collected there, and what it makes of that
 pub record CarrierModel (C : Type 0) : Type 1 where
   pub by : C → Way → Frame → Type 0
   pub took : C → ℕ → List Piece → C → Type 0
+  pub may_offer : C → ℕ → Type 0
+  pub offered : C → ℕ → C → Type 0
+  pub may_collect : C → ℕ → Type 0
+  pub collected : C → ℕ → C → Type 0
 
 -- the chain was taken last from the guest's ring, of which w is the view before, and it is to be offered next on the shadow ring
 pub record MayCarry {C E D : Type 0} (m : CarrierModel C) (l : LayoutModel) (e : DeviceModel E) (d : DriverModel D) (way : Way) (x : C)
@@ -49,10 +53,6 @@ pub record HasCarried {C D : Type 0} (m : CarrierModel C) (d : DriverModel D) (w
 
 -- ---- what became of it by a turn
 
-abbrev pub is_offering : Stage → Bool
-is_offering (stage.Offering number head) = true
-is_offering _ = false
-
 -- a chain was taken, from view w to view w', and was carried: its offer is begun
 pub record IsHanded {C E D : Type 0} (m : CarrierModel C) (e : DeviceModel E) (d : DriverModel D) (way : Way) (x x' : C) (r' : State E D)
     (w w' : DeviceView) (v : DriverView) : Type 0 where
@@ -66,10 +66,12 @@ pub record IsHanded {C E D : Type 0} (m : CarrierModel C) (e : DeviceModel E) (d
   pub next : r'.stage ≡ stage.Offering number (next_head v.frame v.done)
   pub begun : d.begun r'.shadow ≡ DriverOp.offer offered
   pub carried : HasCarried m d way x x' number chain offered v
+  pub has_free : 0 < length (free v.frame v.done)
+  pub short : d.left r'.shadow ≤ 38
 
 -- it is as it was, or it was handed a chain
-abbrev pub CarrierTurn : {C E D : Type 0} → CarrierModel C → DeviceModel E → DriverModel D → Way → C → C → State E D → DeviceView → DeviceView
-    → DriverView → Type 0
+abbrev pub CarrierTurn : {C E D : Type 0} → CarrierModel C → DeviceModel E → DriverModel D → Way → C → C → State E D → DeviceView
+    → DeviceView → DriverView → Type 0
 CarrierTurn m e d way x x' r' w w' v = ((x' ≡ x) × (is_offering r'.stage ≡ false)) ⊎ IsHanded m e d way x x' r' w w' v
 
 -- an access on the guest's ring, and what became of the carrier
@@ -77,15 +79,3 @@ abbrev pub CarriesOn : {C P E D : Type 0} → CarrierModel C → PortModel P →
     → State E D → State E D → DeviceView → DriverView → Turn → Type 0
 CarriesOn m port e d z x x' p q r r' w v turn = (t : GuestTurn port e d z p q r r' w v turn)
     × CarrierTurn m e d z.way x x' r' w (e.side.after w t.op t.access t.got) v
-
--- one access, on one of the two ports, and what became of the carrier
-abbrev pub CarriesOne : {C P Q E D : Type 0} → CarrierModel C → PortModel P → PortModel Q → DeviceModel E → DriverModel D → Course → C → C
-    → P → P → Q → Q → State E D → State E D → DeviceView → DriverView → Turn → Type 0
-CarriesOne m p q e d z x x' a a' b b' r r' w v turn = ((b' ≡ b) × ShadowWaits d r r' × CarriesOn m p e d z x x' a a' r r' w v turn)
-    ⊎ ((a' ≡ a) × (x' ≡ x) × GuestWaits e r r' × ShadowTurn q e d z b b' r r' w v turn)
-
--- a relay and a carrier that may make one
-abbrev pub CanTurn : {C P Q E D : Type 0} → CarrierModel C → PortModel P → PortModel Q → DeviceModel E → DriverModel D → C → P → Q
-    → State E D → Type 0
-CanTurn m p q e d x a b r = (z : Course) × (w : DeviceView) × (v : DriverView) × Stands e d z r w v × m.by x z.way v.frame
-    × IsOwn p e.side a w × IsOwn q d.side b v

@@ -5,6 +5,7 @@ pub mod Stages
 pub mod Pace
 pub mod Relay
 pub mod Carriers
+pub mod Tellings
 pub mod Moving
 pub mod Replays
 pub mod Leaving

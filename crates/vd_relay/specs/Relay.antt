@@ -6,18 +6,20 @@ use Rattle.vd_words.specs.declared.access.Access.{Access}
 use Rattle.vd_words.specs.declared.access.Op.{Op}
 use Rattle.vd_words.specs.Model.{PortModel}
 use Rattle.vd_ring.specs.declared.act.DriverAct.TheVariants as driver_act
+use Rattle.vd_ring.specs.declared.act.DeviceAct.{DeviceAct}
 use Rattle.vd_ring.specs.declared.act.DeviceAct.TheVariants as device_act
 use Rattle.vd_ring.specs.declared.device.DeviceNow.TheVariants as device
 use Rattle.vd_ring.specs.declared.driver.DriverNow.TheVariants as driver
 use Rattle.vd_ring.specs.declared.frame.Used.{Used}
 use Rattle.vd_ring.specs.declared.driver.DriverView.{DriverView}
 use Rattle.vd_ring.specs.declared.device.DeviceDone.{DeviceDone}
+use Rattle.vd_ring.specs.declared.device.DeviceDone.TheVariants.{Take, Give, Rest}
 use Rattle.vd_ring.specs.declared.device.DeviceView.{DeviceView}
-use Rattle.vd_ring.specs.History.{offers, collects, open_at, takes, gives, running, occurs, IsWhole}
+use Rattle.vd_ring.specs.History.{entry, offers, collects, open_at, takes, gives, running, occurs, IsWhole}
 use Rattle.vd_ring.specs.Sleep.{driver_woken, device_woken}
 use Rattle.vd_layout.specs.Begun.{DriverOp, DeviceOp}
 use Rattle.vd_layout.specs.Driver.{DriverModel}
-use Rattle.vd_layout.specs.Device.{DeviceModel}
+use Rattle.vd_layout.specs.Device.{DeviceModel, is_rested as is_rested_act}
 use Rattle.vd_layout.specs.declared.moves.Move.{Move}
 use Rattle.vd_layout.specs.declared.moves.Move.TheVariants as move
 use Rattle.vd_table.specs.declared.Origin.{Origin}
@@ -115,6 +117,13 @@ pub record IsGlance {E D : Type 0} (from to : Stage) (e : DeviceModel E) (d : Dr
   pub guest_idle : e.begun r'.guest ≡ DeviceOp.idle
   pub shadow_idle : d.begun r'.shadow ≡ DriverOp.idle
 
+-- what an answer says was done on the guest's ring: a take, the give that was begun, a rest, or nothing
+abbrev pub GuestDid : {E : Type 0} → DeviceModel E → DeviceAct → E → E → List DeviceDone → List DeviceDone → Type 0
+GuestDid e (device_act.Taken k c) a a' s s' = (h : ℕ) × (s' ≡ Take c h ∷ s)
+GuestDid e (device_act.Given k) a a' s s' = (n : ℕ) × (e.begun a ≡ DeviceOp.give k n) × (s' ≡ Give (entry k n ∷ []) ∷ s)
+GuestDid e device_act.Rested a a' s s' = (e.begun a' ≡ DeviceOp.idle) × (s' ≡ Rest ∷ s)
+GuestDid e _ a a' s s' = s' ≡ s
+
 -- an access on the guest's ring
 pub record GuestTurn {P E D : Type 0} (port : PortModel P) (e : DeviceModel E) (d : DriverModel D) (z : Course) (p q : P)
     (r r' : State E D) (w : DeviceView) (v : DriverView) (t : Turn) : Type 0 where
@@ -129,6 +138,8 @@ pub record GuestTurn {P E D : Type 0} (port : PortModel P) (e : DeviceModel E) (
   pub woke : Rattle.vd_relay.specs.Pace.woke t ≡ device_woken op (e.act w op access got)
   pub slept : (t ≡ Slept) ↔ (e.act w op access got ≡ device_act.Asleep)
   pub once : t ≡ Again → ⊥
+  pub did : GuestDid e (e.act w op access got) r.guest r'.guest w.done (e.side.after w op access got).done
+  pub rests : is_rested r'.stage ≡ is_rested_act (e.act w op access got)
   pub live : t ≡ Slept → is_rested r'.stage ≡ false
   pub grown : length (takes w.done) + length (gives w.done) + guest_handled (e.act w op access got)
       ≤ (if is_rested r'.stage then length (takes w.done) else length (takes (e.side.after w op access got).done))
@@ -152,6 +163,8 @@ pub record ShadowTurn {P E D : Type 0} (port : PortModel P) (e : DeviceModel E) 
   pub woke : Rattle.vd_relay.specs.Pace.woke t ≡ driver_woken op (d.act v op access got)
   pub slept : (t ≡ Slept) ↔ (d.act v op access got ≡ driver_act.Asleep)
   pub again : (t ≡ Again) ↔ ((d.act v op access got ≡ driver_act.Nothing) × (r.winding ≡ true) × (IsFinished r w v → ⊥))
+  -- where no chain was offered or collected, nothing was
+  pub same : Rattle.vd_relay.specs.Pace.handled t ≡ 0 → (d.side.after v op access got).done ≡ v.done
   pub live : is_rested r'.stage ≡ false
   pub grown : length (offers v.done) + length (collects v.done) + shadow_handled (d.act v op access got)
       ≤ length (offers (d.side.after v op access got).done) + length (collects (d.side.after v op access got).done)

@@ -42,6 +42,11 @@ is_hearing stage.HearingGuest = true
 is_hearing stage.HearingShadow = true
 is_hearing _ = false
 
+-- a chain is to be offered
+abbrev pub is_offering : Stage → Bool
+is_offering (stage.Offering number head) = true
+is_offering _ = false
+
 -- ---- the operations
 
 -- the guest end's operation: of one end at a time an operation is in progress

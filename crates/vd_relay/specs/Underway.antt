@@ -1,5 +1,5 @@
 -- The command that a relay of a control queue has in hand: what is known of it before each of its accesses.
-use Rattle.std.specs.Prelude.{◌≡◌, ℕ, ◌+◌, ◌<◌, ◌≤◌, true, false, Bool, Some, Option, List, [], ◌∷◌, length}
+use Rattle.std.specs.Prelude.{◌≡◌, ℕ, ◌+◌, ◌<◌, ◌≤◌, false, Some, Option, List, [], ◌∷◌, length}
 use Rattle.std.specs.List.{Contains}
 use Rattle.vd_model.specs.declared.chain.Piece.{Piece}
 use Rattle.vd_model.specs.Chains.{readable}
@@ -19,9 +19,9 @@ use Rattle.vd_table.specs.declared.Command.{Command}
 use Rattle.vd_relay.specs.declared.carry.Carry.{Carry}
 use Rattle.vd_relay.specs.declared.carry.Carry.TheVariants as carry
 use Rattle.vd_relay.specs.declared.carry.Found.{Found}
-use Rattle.vd_relay.specs.declared.stage.Stage.{Stage}
 use Rattle.vd_relay.specs.declared.stage.Stage.TheVariants as stage
 use Rattle.vd_relay.specs.declared.state.State.{State}
+use Rattle.vd_relay.specs.Stages.{is_offering}
 use Rattle.vd_relay.specs.Tie.{guests}
 use Rattle.vd_relay.specs.Replays.{IsShadowRing}
 use Rattle.vd_relay.specs.Relay.{Stands, owes}
@@ -81,10 +81,6 @@ AckStands e d z r w v (DeviceOp.give number len) = (k : ℕ) × (number ≡ gues
 AckStands e d z r w v _ = Unit {0}
 
 -- ---- by what is in hand
-
-abbrev pub is_offering : Stage → Bool
-is_offering (stage.Offering number head) = true
-is_offering _ = false
 
 abbrev pub HandIs : {E D : Type 0} → DeviceModel E → DriverModel D → Takeover → State E D → DeviceView → DriverView → Carry → Type 0
 HandIs e d z r w v carry.None = (is_offering r.stage ≡ false) × AckStands e d z r w v (e.begun r.guest)

@@ -1,10 +1,10 @@
 //! What comes next, and the begin of its operation.
-ghost use Rattle.std.specs.Prelude.{◌≡◌, ◌↔◌, IsTrue, true, false};
+ghost use Rattle.std.specs.Prelude.{◌≡◌, ◌⊎◌, ◌↔◌, IsTrue, true, false};
 ghost use Rattle.vd_ring.specs.declared.device.DeviceView.{DeviceView};
 ghost use Rattle.vd_ring.specs.declared.driver.DriverView.{DriverView};
 ghost use Rattle.vd_layout.specs.Begun.{DeviceOp, DriverOp};
 ghost use Rattle.vd_relay.specs.declared.stage.Stage.TheVariants.{Taking, ArmingGuest, ArmingShadow};
-ghost use Rattle.vd_relay.specs.Stages.{is_rested, is_shadow, is_hearing, roused};
+ghost use Rattle.vd_relay.specs.Stages.{is_rested, is_shadow, is_hearing, is_offering, roused};
 ghost use Rattle.vd_relay.specs.Tie.{Course};
 ghost use Rattle.vd_relay.specs.Relay.{Stands, Stays, IsFinished, IsRoused, IsQuiet, IsKept};
 
@@ -70,6 +70,8 @@ pub(crate) fn turn<L: Layout>(state: &mut State<L::Device, L::Driver>)
     ensures hearing { is_hearing state.new.stage ≡ true → state.new.stage ≡ state.old.stage }
     ensures guest { state.new.guest ≡ state.old.guest }
     ensures shadow { state.new.shadow ≡ state.old.shadow }
+    ensures offering { is_offering state.old.stage ≡ true → state.new.stage ≡ state.old.stage }
+    ensures other { is_offering state.old.stage ≡ false → is_offering state.new.stage ≡ false }
 {
     if state.winding && state.stage.is_open() && state.guest.idle() && state.shadow.idle() {
         state.stage = after_sleep::<L>(state);
@@ -94,6 +96,8 @@ pub(crate) fn begin<L: Layout>(state: &mut State<L::Device, L::Driver>)
     ensures quiet { IsQuiet L.Driver.driver state.old state.new }
     ensures guest_same { is_shadow state.old.stage ≡ true → state.new.guest ≡ state.old.guest }
     ensures shadow_same { is_shadow state.old.stage ≡ false → state.new.shadow ≡ state.old.shadow }
+    ensures guest_was { (L.Device.device.begun state.old.guest ≡ DeviceOp.idle) ⊎ (state.new.guest ≡ state.old.guest) }
+    ensures shadow_was { (L.Driver.driver.begun state.old.shadow ≡ DriverOp.idle) ⊎ (state.new.shadow ≡ state.old.shadow) }
 {
     if state.stage.is_shadow() {
         begin_shadow::<L>(state);
@@ -116,6 +120,7 @@ fn begin_guest<L: Layout>(state: &mut State<L::Device, L::Driver>)
     ensures busy { ¬ (L.Device.device.begun state.new.guest ≡ DeviceOp.idle) }
     ensures kept { IsKept state.old state.new }
     ensures same { state.new.shadow ≡ state.old.shadow }
+    ensures was { (L.Device.device.begun state.old.guest ≡ DeviceOp.idle) ⊎ (state.new.guest ≡ state.old.guest) }
 {
     if state.guest.idle() {
         match state.stage {
@@ -142,6 +147,7 @@ fn begin_shadow<L: Layout>(state: &mut State<L::Device, L::Driver>)
     ensures kept { IsKept state.old state.new }
     ensures quiet { IsQuiet L.Driver.driver state.old state.new }
     ensures same { state.new.guest ≡ state.old.guest }
+    ensures was { (L.Driver.driver.begun state.old.shadow ≡ DriverOp.idle) ⊎ (state.new.shadow ≡ state.old.shadow) }
 {
     if state.shadow.idle() {
         match state.stage {

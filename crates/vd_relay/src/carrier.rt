@@ -24,6 +24,16 @@ pub trait Carrier<L: Layout> {
             → MayCarry carrier L.layout L.Device.device L.Driver.driver way self.old number chain.old shadow.now w v
             → HasCarried carrier L.Driver.driver way self.old self.new number chain.old chain.new v }
         ensures lawful { IsChain chain.new };
+
+    /// The chain that it made last was offered, at this head of the shadow ring.
+    fn offered(&mut self, head: u32)
+        requires { carrier.may_offer self.old head }
+        ensures { carrier.offered self.old head self.new };
+
+    /// The chain at this head of the shadow ring was collected.
+    fn collected(&mut self, head: u32)
+        requires { carrier.may_collect self.old head }
+        ensures { carrier.collected self.old head self.new };
 }
 
 /// A data queue's carrier: it moves each address by the tree.
@@ -39,6 +49,10 @@ impl<L: Layout> Carrier<L> for Mover<'_> {
     ghost carrier = { record {
       by = λ m way g. way ≡ moving m.tree.now.mappings;
       took = λ m number c m'. m' ≡ m;
+      may_offer = λ m h. Unit {0};
+      offered = λ m h m'. m' ≡ m;
+      may_collect = λ m h. Unit {0};
+      collected = λ m h m'. m' ≡ m;
     } };
 
     #[inline(always)]
@@ -46,5 +60,15 @@ impl<L: Layout> Carrier<L> for Mover<'_> {
         let _ = number;
         let _ = shadow;
         translate(self.tree, chain);
+    }
+
+    #[inline(always)]
+    fn offered(&mut self, head: u32) {
+        let _ = head;
+    }
+
+    #[inline(always)]
+    fn collected(&mut self, head: u32) {
+        let _ = head;
     }
 }

@@ -1,7 +1,8 @@
 //! The command that a relay of a control queue has in hand, between two turns of its rings.
-ghost use Rattle.std.specs.Prelude.{◌≡◌, ℕ};
+ghost use Rattle.std.specs.Prelude.{◌≡◌, ◌≤◌, ℕ, IsTrue, false};
 ghost use Rattle.vd_model.specs.Chains.{readable};
 ghost use Rattle.vd_relay.specs.Carrying.{IsCommandAt};
+ghost use Rattle.vd_relay.specs.Underway.{due};
 
 use vd_model::Chain;
 use vd_table::Command;
@@ -51,4 +52,14 @@ pub enum Carry {
     LoadAck { head: u32, command: Command },
     /// The store of the ack, on the guest's ring. Its give comes then.
     StoreAck { place: u32, ack: u64 },
+}
+
+impl Carry {
+    /// Whether an access of a command or ack word is due.
+    pub fn is_due(&self) -> bool
+        ensures yes { IsTrue result → 1 ≤ due self.now }
+        ensures no { result ≡ false → due self.now ≡ 0 }
+    {
+        !matches!(self, Carry::None | Carry::Offer { .. })
+    }
 }

@@ -11,11 +11,15 @@ use crate::carrier::Carrier;
 use crate::carry::{Carry, found_of};
 use vd_layout::{DriverEnd, Layout};
 use vd_model::Chain;
+use vd_table::{Command, Rows};
 
-/// It makes of each command the control chain of the shadow ring's next head, and has it in hand from then on.
+/// It makes of each command the control chain of the shadow ring's next head, and has it in hand from then on, until it is offered.
+/// Then it is kept at its head, and in hand again after it was collected.
 #[derive(Drop)]
 pub struct Commander {
     pub hand: Carry,
+    /// The commands that stand on the shadow ring, by their heads.
+    pub commands: Rows<Command>,
 }
 
 /// Moves a control chain to the next head of the shadow ring: its pieces' lengths stay.
@@ -46,5 +50,18 @@ impl<L: Layout> Carrier<L> for Commander {
             found: found_of(number, chain),
         };
         to_next_head::<L>(chain, shadow);
+    }
+
+    fn offered(&mut self, head: u32) {
+        let Carry::Offer { command } = self.hand else {
+            unreachable!()
+        };
+        self.commands.put(head, command);
+        self.hand = Carry::None;
+    }
+
+    fn collected(&mut self, head: u32) {
+        let command = self.commands.take(head);
+        self.hand = Carry::LoadAck { head, command };
     }
 }

@@ -53,7 +53,8 @@ pub(crate) fn guest_turn<L: Layout, C: Carrier<L>, P: Port>(
         × C.carrier.by carrier.old z.way v.frame × IsOwn P.port L.Device.device.side port.old w }
     ensures turn { (z : Course) (w : DeviceView) (v : DriverView) → Stands L.Device.device L.Driver.driver z state.old w v
         → C.carrier.by carrier.old z.way v.frame → IsOwn P.port L.Device.device.side port.old w
-        → CarriesOn C.carrier P.port L.Device.device L.Driver.driver z carrier.old carrier.new port.old port.new state.old state.new w v result }
+        → CarriesOn C.carrier P.port L.Device.device L.Driver.driver z carrier.old carrier.new port.old port.new
+        state.old state.new w v result }
     ensures kept { IsKept state.old state.new }
     ensures quiet { IsQuiet L.Driver.driver state.old state.new }
     ensures calm { L.Driver.driver.begun state.new.shadow ≡ DriverOp.hear → L.Driver.driver.begun state.old.shadow ≡ DriverOp.hear }

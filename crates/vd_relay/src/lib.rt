@@ -7,6 +7,7 @@ mod begin;
 mod carrier;
 mod carry;
 mod command;
+mod command_step;
 mod commander;
 mod counts;
 mod guest_side;

@@ -6,7 +6,7 @@ ghost use Rattle.vd_ring.specs.declared.driver.DriverView.{DriverView};
 ghost use Rattle.vd_relay.specs.Stages.{is_rested};
 ghost use Rattle.vd_relay.specs.Tie.{Course};
 ghost use Rattle.vd_relay.specs.Relay.{Stands, IsKept, IsQuiet};
-ghost use Rattle.vd_relay.specs.Carriers.{CanTurn, CarriesOne};
+ghost use Rattle.vd_relay.specs.Tellings.{CanTurn, CarriesOne};
 
 use crate::begin::{begin, turn};
 use crate::carrier::Carrier;
@@ -17,7 +17,8 @@ use crate::state::State;
 use vd_layout::Layout;
 use vd_words::Port;
 
-/// Makes one access, on one of the two ports. The carrier makes of a chain that was taken the one that is offered.
+/// Makes one access, on one of the two ports. The carrier makes of a chain that was taken the one that is offered, and is told when it
+/// was, and when it came back.
 pub(crate) fn make_turn<L: Layout, C: Carrier<L>, P: Port, Q: Port>(
     state: &mut State<L::Device, L::Driver>,
     carrier: &mut C,
@@ -37,7 +38,7 @@ pub(crate) fn make_turn<L: Layout, C: Carrier<L>, P: Port, Q: Port>(
     turn::<L>(state);
     begin::<L>(state);
     if state.stage.is_shadow() {
-        shadow_turn::<L, Q>(state, shadow_port)
+        shadow_turn::<L, C, Q>(state, carrier, shadow_port)
     } else {
         guest_turn::<L, C, P>(state, carrier, guest_port)
     }

@@ -7,9 +7,11 @@ ghost use Rattle.vd_layout.specs.Begun.{DeviceOp, DriverOp};
 ghost use Rattle.vd_relay.specs.Stages.{is_shadow, none_next};
 ghost use Rattle.vd_relay.specs.Pace.{repeating};
 ghost use Rattle.vd_relay.specs.Tie.{Course};
-ghost use Rattle.vd_relay.specs.Relay.{Stands, ShadowTurn, IsQuiet, IsKept};
+ghost use Rattle.vd_relay.specs.Relay.{Stands, IsQuiet, IsKept};
+ghost use Rattle.vd_relay.specs.Tellings.{MayTell, TellsOf};
 
 use crate::begin::after_sleep;
+use crate::carrier::Carrier;
 use crate::counts::Turn;
 use crate::guest_side::{hear_next, waking};
 use crate::stage::Stage;
@@ -38,18 +40,21 @@ fn repeating(stage: Stage) -> Turn
     }
 }
 
-/// Makes one access of the shadow ring. The give of a chain is begun with the last access of its collect.
-pub(crate) fn shadow_turn<L: Layout, Q: Port>(
+/// Makes one access of the shadow ring. The give of a chain is begun with the last access of its collect. The carrier is told which
+/// chain was offered or collected, by its head.
+pub(crate) fn shadow_turn<L: Layout, C: Carrier<L>, Q: Port>(
     state: &mut State<L::Device, L::Driver>,
+    carrier: &mut C,
     port: &mut Q,
 ) -> Turn
     requires side { is_shadow state.old.stage ≡ true }
     requires busy { ¬ (L.Driver.driver.begun state.old.shadow ≡ DriverOp.idle) }
     requires own { (z : Course) × (w : DeviceView) × (v : DriverView) × Stands L.Device.device L.Driver.driver z state.old w v
-        × IsOwn Q.port L.Driver.driver.side port.old v }
+        × MayTell C.carrier carrier.old state.old v × IsOwn Q.port L.Driver.driver.side port.old v }
     ensures turn { (z : Course) (w : DeviceView) (v : DriverView) → Stands L.Device.device L.Driver.driver z state.old w v
         → IsOwn Q.port L.Driver.driver.side port.old v
-        → ShadowTurn Q.port L.Device.device L.Driver.driver z port.old port.new state.old state.new w v result }
+        → TellsOf C.carrier Q.port L.Device.device L.Driver.driver z carrier.old carrier.new port.old port.new
+        state.old state.new w v result }
     ensures kept { IsKept state.old state.new }
     ensures quiet { IsQuiet L.Driver.driver state.old state.new }
     ensures calm { L.Device.device.begun state.new.guest ≡ DeviceOp.hear → L.Device.device.begun state.old.guest ≡ DeviceOp.hear }
@@ -64,6 +69,7 @@ pub(crate) fn shadow_turn<L: Layout, Q: Port>(
                 ack_place: 0,
             };
             state.table.put(head, origin);
+            carrier.offered(head);
             state.stage = Stage::Collecting { none: false };
             Turn::Handled
         }
@@ -72,6 +78,7 @@ pub(crate) fn shadow_turn<L: Layout, Q: Port>(
                 unreachable!()
             };
             state.guest.begin_give(number, len);
+            carrier.collected(head);
             state.stage = Stage::Giving;
             Turn::Handled
         }

@@ -1,5 +1,6 @@
 use Rattle.std.proofs.Common.{sym, ◌∙◌, ap}
-use Rattle.vd_relay.specs.Stages.{is_rested, is_hearing}
+use Rattle.vd_relay.specs.Stages.{is_rested, is_hearing, is_offering}
+use Rattle.vd_relay.proofs.Offerings.{roused_none}
 use Rattle.vd_relay.proofs.Calm.{turns, roused_live, roused_deaf, roused_takes, roused_arms}
 use Rattle.vd_relay.proofs.begin.turn.Goals as goal
 
@@ -39,3 +40,9 @@ returns-then-idle-2-clause-shadow_arms g c = λ on is idle.
     let r = c.requires.own in
     let a = c.after_sleep-state.ensures.roused r.1 r.2 r.3.serves r.3.drives in
     (roused_arms _ _ _ a.finished).1 (sym a.is ∙ is)
+
+pub returns-then-idle-2-clause-other : goal.returns-then-idle-2-clause-other
+returns-then-idle-2-clause-other g c = λ off.
+    let r = c.requires.own in
+    let a = c.after_sleep-state.ensures.roused r.1 r.2 r.3.serves r.3.drives in
+    ap is_offering a.is ∙ roused_none _ _ _ a.finished

@@ -1,5 +1,5 @@
 use Rattle.std.proofs.Common.{refl, ap, ◌∙◌, inl}
-use Rattle.vd_relay.specs.Carriers.{is_offering}
+use Rattle.vd_relay.specs.Stages.{is_offering}
 use Rattle.vd_relay.proofs.Offerings.{none_offered, heard_none, roused_none}
 use Rattle.vd_relay.proofs.GuestMoves.{went_on}
 use Rattle.vd_relay.proofs.GuestNothing.{none_taken}

@@ -1,4 +1,4 @@
-use Rattle.std.proofs.Common.{subst, sym, ap}
+use Rattle.std.proofs.Common.{refl, subst, sym, ap}
 use Rattle.vd_relay.specs.declared.carry.Carry.TheVariants as carry
 use Rattle.vd_relay.specs.Ways.{Way, Pairs, Carries}
 use Rattle.vd_relay.proofs.CarryPlaces.{command_at}
@@ -38,6 +38,9 @@ returns-clause-carried g c = λ way w v h.
           (same_bare _ _ _ _ c.args.chain.now c.to_next_head.new.chain chain is);
       control = λ on. is_control _ _ _ _ c.args.chain.now c.to_next_head.new.chain chain is;
       goes = h.goes;
-      took = λ a b at. ap carry.First (found_is c.found_of.result c.args.number a b _ c.found_of.ensures.number
-          (c.found_of.ensures.places a b at).0 (c.found_of.ensures.places a b at).1 c.found_of.ensures.count);
+      took = (
+        refl,
+        λ a b at. ap carry.First (found_is c.found_of.result c.args.number a b _ c.found_of.ensures.number
+            (c.found_of.ensures.places a b at).0 (c.found_of.ensures.places a b at).1 c.found_of.ensures.count),
+      );
     }

@@ -4,6 +4,19 @@ use Rattle.vd_relay.specs.Ways.{moving}
 use Rattle.vd_relay.proofs.Steps.{Noted, on_guest, on_shadow, looked_is, finished_at, pace_less}
 use Rattle.vd_relay.proofs.relay.Relay.step.Goals as goal
 
+pub make_turn-turn-requires-clause-own : goal.make_turn-turn-requires-clause-own
+make_turn-turn-requires-clause-own g c =
+    let o = c.requires.own in (
+      moves o.0,
+      o.1,
+      o.2,
+      o.3.stands,
+      ap moving (sym o.4),
+      record { offer = λ number head is. tt; collect = λ k some. tt },
+      o.5,
+      o.6,
+    )
+
 pub returns-clause-step : goal.returns-clause-step
 returns-clause-step g c = λ z w v h is own other.
     let e = g.L.Device.DeviceEnd.device in
@@ -33,12 +46,12 @@ returns-clause-step g c = λ z w v h is own other.
           )
       | inr x ↦ (
           let o = on_shadow g.Q.Port.port e d (moves z) c.args.shadow_port.now m.new.shadow_port c.args.self.now.state m.new.state
-          c.args.self.now.counts c.note.new.self w v t c.move_of.result b law.driver_end said n m.ensures.kept x.2 h x.3 in
+          c.args.self.now.counts c.note.new.self w v t c.move_of.result b law.driver_end said n m.ensures.kept x.1 h x.2.0 in
           record {
             made = inr (x.0, o);
             kept = m.ensures.kept;
             quiet = m.ensures.quiet;
-            finished = finished_at c.move_of.result t b _ said c.is_rested.ensures (λ i. x.3.live);
+            finished = finished_at c.move_of.result t b _ said c.is_rested.ensures (λ i. x.2.0.live);
             still = λ i. c.note.ensures.slept ((looked_is c.move_of.result t b said).0 i);
             pace = pace_less c.note.new.self _ o.holds.pace;
           }
