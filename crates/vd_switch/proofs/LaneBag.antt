@@ -17,12 +17,12 @@ use Rattle.vd_bus.specs.Acts.{IsOneActMore}
 use Rattle.vd_switch.specs.LaneBag.{OffersOne, BeginsOne, MayOfferOne, MayBeginOne}
 
 -- no more chains are begun than were offered
-pub begun_few : (a : Account (List Piece)) → Lawful a → length a.begun ≤ length a.offers
-begun_few a law =
+pub begun_few : {X : Type 0} (a : Account X) → Lawful a → length a.begun ≤ length a.offers
+begun_few {X} a law =
     omega (
       arith,
-      length-map a.begun (λ (x : List Piece × ℕ). x.0),
-      ap (λ (cs : List (List Piece)). length cs) law.begun,
+      length-map a.begun (λ (x : X × ℕ). x.0),
+      ap (λ (cs : List X). length cs) law.begun,
       length-take (length a.begun) a.offers,
     )
 
@@ -62,7 +62,7 @@ begins_one n m g b few low st =
     }
 
 -- an access of the guest
-pub may_offer : (a : Account (List Piece)) (o o' : List DriverDone) → Lawful a → a.offers ≡ offers o → IsOneActMore o o'
+pub may_offer : {X : Type 0} (a : Account X) (o o' : List DriverDone) → Lawful a → length a.offers ≡ length (offers o) → IsOneActMore o o'
     → MayOfferOne (length (offers o)) (length a.begun) a.given (length (offers o'))
 may_offer a o o' law is (inl same) = inl (ap (λ (x : List DriverDone). length (offers x)) same)
 may_offer a o o' law is (inr (act, more)) = offer_at act more
@@ -71,7 +71,7 @@ may_offer a o o' law is (inr (act, more)) = offer_at act more
     offer_at (driver.Offer c) more = inr (
       ap (λ (x : List DriverDone). length (offers x)) more ∙ length_push (offers o) c,
       λ b st. offers_one (length (offers o)) (length a.begun) a.given b
-          (omega (arith, begun_few a law, ap (λ (cs : List (List Piece)). length cs) is)) law.inside st,
+          (omega (arith, begun_few a law, is)) law.inside st,
     )
     offer_at (driver.Collect us) more = inl (ap (λ (x : List DriverDone). length (offers x)) more)
     offer_at (driver.StoreCommand h i x) more = inl (ap (λ (x : List DriverDone). length (offers x)) more)
@@ -98,12 +98,12 @@ one_taken s s' grows (inr (act, more)) = taken_at act more
     taken_at (device.LoadCommand k i x) more = inl (ap (λ (x : List DeviceDone). length (takes x)) more)
 
 -- where one more is begun after an access, and the account after it is lawful
-pub may_begin : (a a' : Account (List Piece)) → Lawful a → Lawful a' → a'.offers ≡ a.offers
+pub may_begin : {X : Type 0} (a a' : Account X) → Lawful a → Lawful a' → a'.offers ≡ a.offers
     → (length a'.begun ≡ length a.begun) ⊎ (length a'.begun ≡ length a.begun + 1)
     → MayBeginOne (length a.offers) (length a.begun) a.given (length a'.begun)
 may_begin a a' law law' same (inl e) = inl e
-may_begin a a' law law' same (inr e) = inr (
+may_begin {X} a a' law law' same (inr e) = inr (
   e,
   λ b st. begins_one (length a.offers) (length a.begun) a.given b
-      (omega (arith, begun_few a' law', ap (λ (cs : List (List Piece)). length cs) same)) law.inside st,
+      (omega (arith, begun_few a' law', ap (λ (cs : List X). length cs) same)) law.inside st,
 )

@@ -43,7 +43,7 @@ use Rattle.vd_switch.specs.ShadowingLanes.{IsShadowing, KeepsShadowing, lane_beg
 use Rattle.vd_switch.proofs.Undo.{undo_all, begun_chains, take_take, drop_front, all_back}
 
 -- the acts before the guest's end rests
-which : (st : Stage) (acts done : List DeviceDone) → BeforeRest st acts done → (done ≡ acts) ⊎ ((st ≡ stage.Rested) × (done ≡ Rest ∷ acts))
+pub which : (st : Stage) (acts done : List DeviceDone) → BeforeRest st acts done → (done ≡ acts) ⊎ ((st ≡ stage.Rested) × (done ≡ Rest ∷ acts))
 which stage.Rested acts done h = inr (refl, h)
 which stage.Taking acts done h = inl h
 which (stage.Offering k p) acts done h = inl h
@@ -64,7 +64,7 @@ live_acts st acts done live h = elim (which st acts done h) [
 ]
 
 -- where no give is begun, nothing is to be given
-rested_back : (st : Stage) (a : DeviceOp) (back : List Used) → st ≡ stage.Rested → GuestIs st a → BackIs a back → back ≡ []
+pub rested_back : (st : Stage) (a : DeviceOp) (back : List Used) → st ≡ stage.Rested → GuestIs st a → BackIs a back → back ≡ []
 rested_back st a back is at h = no_back a back (subst (λ (s : Stage). GuestIs s a) is at) h
   where
     no_back : (a : DeviceOp) (back : List Used) → GuestIs stage.Rested a → BackIs a back → back ≡ []

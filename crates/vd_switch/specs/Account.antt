@@ -11,10 +11,10 @@ use Rattle.vd_ring.specs.Account.{Account, Lawful}
 use Rattle.vd_layout.specs.Device.{DeviceModel}
 
 -- the chains begun in a lane while it stood so: those taken, and what was given has the lengths that stand there
-pub record IsBegunBefore (old : List (List Piece × ℕ)) (cs : List (List Piece)) (g : List Used) : Type 0 where
+pub record IsBegunBefore {X : Type 0} (old : List (X × ℕ)) (cs : List X) (g : List Used) : Type 0 where
   pub chains : map (λ x. x.0) old ≡ cs
   pub inside : (j : ℕ) → j < length g → (used_at g j).number < length old
-  pub lens : (j : ℕ) (d : List Piece × ℕ) → j < length g → (slice_index_or old (used_at g j).number d).1 ≡ (used_at g j).len
+  pub lens : (j : ℕ) (d : X × ℕ) → j < length g → (slice_index_or old (used_at g j).number d).1 ≡ (used_at g j).len
 
 -- what the guest offered and collected, what the lane's devices began, with the lengths, and what was given on the guest's ring
 abbrev pub lane_account : List DriverDone → List (List Piece × ℕ) → List DeviceDone → Account (List Piece)

@@ -6,3 +6,6 @@ pub mod ShadowingLanes
 pub mod Sleeping
 pub mod Stills
 pub mod ShadowingSteps
+pub mod CommandLanes
+pub mod CommandLaneSteps
+pub mod CommandSettling

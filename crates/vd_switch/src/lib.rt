@@ -2,6 +2,8 @@
 //! device or the relay, so that a lane is never in two of them.
 #![tactic(auto)]
 
+pub mod command_laws;
+pub mod command_step_laws;
 mod fault;
 mod kit;
 pub mod laws;

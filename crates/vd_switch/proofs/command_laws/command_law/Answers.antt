@@ -1,0 +1,6 @@
+use Rattle.vd_switch.proofs.CommandLanes.{command_keeps}
+use Rattle.vd_switch.proofs.command_laws.command_law.Goals as goal
+
+pub returns : goal.returns
+returns g c = λ y r table settings begun now words shadow_words v w sv sw h.
+    command_keeps g.L.Device.DeviceEnd.device g.L.Driver.DriverEnd.driver g.L.Layout.layout g.met.L.Layout.lawful y r table settings begun now words shadow_words v w sv sw h
