@@ -15,7 +15,7 @@ use Rattle.vd_control.specs.Commands.{spelled}
 use Rattle.vd_commands.specs.Loads.{ack_load}
 use Rattle.vd_commands.specs.Words.{ack_byte, set_by}
 use Rattle.vd_commands.proofs.Agreeing.{load_agrees}
-use Rattle.vd_relay.specs.Commanding.{bytes_of}
+use Rattle.vd_relay.specs.Settling.{bytes_of}
 use Rattle.vd_switch.specs.CommandLanes.{CommandStart, CommandParts, KeepsCommands, IsAnsweredTo, AreAnsweredTo, before, guest_commands}
 
 -- ---- the acks of all epochs

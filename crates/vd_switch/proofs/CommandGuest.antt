@@ -17,7 +17,7 @@ use Rattle.vd_ring.proofs.Counts.{one_other}
 use Rattle.vd_ring.proofs.HeldPlaces.{chain_before}
 use Rattle.vd_bus.specs.Acts.{IsOneActMore}
 use Rattle.vd_commands.specs.Words.{ack_byte}
-use Rattle.vd_relay.specs.Commanding.{bytes_of}
+use Rattle.vd_relay.specs.Settling.{bytes_of}
 use Rattle.vd_switch.specs.CommandLanes.{AreAnsweredTo, guest_commands}
 use Rattle.vd_switch.proofs.CommandLists.{front, commands_count, command_at}
 use Rattle.vd_switch.proofs.CommandWords.{same_bytes}

@@ -21,7 +21,7 @@ use Rattle.vd_bus.specs.DeviceCommands.{IsExecuted, IsAnswered}
 use Rattle.vd_control.specs.declared.settings.Settings.{Settings}
 use Rattle.vd_commands.specs.Words.{ack_byte}
 use Rattle.vd_commands.proofs.Agreeing.{loaded_agree}
-use Rattle.vd_relay.specs.Commanding.{bytes_of}
+use Rattle.vd_relay.specs.Settling.{bytes_of}
 use Rattle.vd_switch.specs.CommandLanes.{CommandStart, CommandParts}
 use Rattle.vd_switch.proofs.CommandLists.{get_dropped, number_found}
 use Rattle.vd_switch.proofs.CommandWords.{ever_at, same_bytes}

@@ -27,7 +27,7 @@ use Rattle.vd_control.specs.Commands.{spelled}
 use Rattle.vd_commands.specs.Loads.{ack_load}
 use Rattle.vd_commands.specs.Words.{ack_byte, command_word}
 use Rattle.vd_commands.proofs.Agreeing.{load_agrees}
-use Rattle.vd_relay.specs.Commanding.{bytes_of}
+use Rattle.vd_relay.specs.Settling.{bytes_of}
 use Rattle.vd_relay.specs.Replays as replay
 use Rattle.vd_switch.specs.CommandLanes.{CommandStart, CommandParts, KeepsCommands, IsAnsweredTo, before, guest_commands, with_bytes, lane_commands, command_account}
 use Rattle.vd_switch.proofs.CommandJournal.{no_begun, begun_offered, entry_bytes, entry_one, given_one, was_given}

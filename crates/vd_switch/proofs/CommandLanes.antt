@@ -23,7 +23,8 @@ use Rattle.vd_control.specs.declared.settings.Settings.{Settings}
 use Rattle.vd_commands.proofs.Agreeing.{loaded_agree, load_agrees}
 use Rattle.vd_table.specs.declared.Command as kept
 use Rattle.vd_relay.specs.declared.state.State.{State}
-use Rattle.vd_relay.specs.Commanding.{carries, bytes_of, IsCarried, IsAnswered}
+use Rattle.vd_relay.specs.Commanding.{carries, IsCarried, IsAnswered}
+use Rattle.vd_relay.specs.Settling.{bytes_of}
 use Rattle.vd_relay.specs.Tie.{guests}
 use Rattle.vd_relay.specs.Ways.{carrying, shift_by, IsReplayed}
 use Rattle.vd_relay.proofs.Ties.{taken_count}

@@ -7,7 +7,7 @@ use Rattle.vd_ring.specs.declared.driver.DriverView.{DriverView}
 use Rattle.vd_ring.specs.declared.frame.Used.{Used}
 use Rattle.vd_ring.specs.History.{offers, upto, numbers, occurs, used_at}
 use Rattle.vd_ring.proofs.Counts.{length_upto, one_other}
-use Rattle.vd_relay.specs.Commanding.{bytes_of}
+use Rattle.vd_relay.specs.Settling.{bytes_of}
 use Rattle.vd_switch.specs.CommandLanes.{guest_commands}
 
 -- a list whose elements are the first of another's is a front of it

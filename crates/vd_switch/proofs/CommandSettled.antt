@@ -21,7 +21,7 @@ use Rattle.vd_commands.specs.Words.{ack_for, set_by}
 use Rattle.vd_commands.proofs.Agreeing.{load_agrees}
 use Rattle.vd_table.specs.declared.Command as kept
 use Rattle.vd_relay.specs.declared.state.State.{State}
-use Rattle.vd_relay.specs.Commanding.{bytes_of}
+use Rattle.vd_relay.specs.Settling.{bytes_of}
 use Rattle.vd_switch.specs.CommandLanes.{CommandStart, IsCommandLane, before, guest_commands}
 use Rattle.vd_switch.specs.CommandSettling.{settled_by, PassWhereOk}
 use Rattle.vd_switch.proofs.CommandJournal.{was_given}

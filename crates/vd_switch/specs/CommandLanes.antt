@@ -22,7 +22,8 @@ use Rattle.vd_commands.specs.Loads.{ack_load}
 use Rattle.vd_commands.specs.Words.{ack_byte}
 use Rattle.vd_table.specs.declared.Command as kept
 use Rattle.vd_relay.specs.declared.state.State.{State}
-use Rattle.vd_relay.specs.Commanding.{Takeover, carries, bytes_of, AreCarried}
+use Rattle.vd_relay.specs.Commanding.{Takeover, carries, AreCarried}
+use Rattle.vd_relay.specs.Settling.{bytes_of}
 use Rattle.vd_relay.specs.Relay.{Stands}
 use Rattle.vd_relay.specs.Replays as replay
 use Rattle.vd_switch.specs.Account.{IsBegunBefore}

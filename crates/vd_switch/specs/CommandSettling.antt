@@ -7,7 +7,8 @@ use Rattle.vd_ring.specs.History.{offers}
 use Rattle.vd_control.specs.declared.settings.Settings.{Settings}
 use Rattle.vd_commands.specs.Loads.{ack_load}
 use Rattle.vd_commands.specs.Words.{set_by}
-use Rattle.vd_relay.specs.Commanding.{Takeover, bytes_of}
+use Rattle.vd_relay.specs.Commanding.{Takeover}
+use Rattle.vd_relay.specs.Settling.{bytes_of}
 
 -- the settings at the takeover, changed by those commands carried that pass, in the order of the chains
 abbrev pub settled_by : Takeover → (ℕ → Bool) → Frame → List DriverDone → Settings
