@@ -34,6 +34,7 @@ pub struct Bridge<L: Layout, G: Guest<L>, V: Device<L>> {
 }
 
 impl<L: Layout, G: Guest<L>, V: Device<L>> Model for Bridge<L, G, V> {
+    ghost use Rattle.std.specs.Prelude.{◌≡◌, None};
     ghost use Rattle.vd_relayed.specs.Bridges.{Parts, IsBridge};
 
     ghost Value = { Parts L.Device L.Driver G V };
@@ -58,7 +59,7 @@ impl<L: Layout, G: Guest<L>, V: Device<L>> Model for Bridge<L, G, V> {
       shadow = r.shadow_words;
       device = r.device;
       map = r.tree.mappings;
-    }) };
+    }) × (r.relay.control ≡ None) };
 }
 
 /// The chain so many times.

@@ -1,5 +1,5 @@
 //! Single steps of a party over plain words.
-ghost use Rattle.std.specs.Prelude.{◌≡◌, ℕ, List, false};
+ghost use Rattle.std.specs.Prelude.{◌≡◌, ℕ, List, None, false};
 ghost use Rattle.vd_ring.specs.declared.device.DeviceView.{DeviceView};
 ghost use Rattle.vd_ring.specs.declared.driver.DriverView.{DriverView};
 ghost use Rattle.vd_relay.specs.Moving.{Holds};
@@ -42,6 +42,7 @@ pub fn step_relay<L: Layout, P: Port, Q: Port>(
     port: &mut P,
     other: &mut Q,
 ) -> Move
+    requires plain { relay.old.control ≡ None }
     requires live { is_rested relay.old.state.stage ≡ false }
     requires on { (z : Start) × (ws : List ℕ) × (shadow_ws : List ℕ) × (v : DriverView) × (w : DeviceView) × (sv : DriverView)
         × (sw : DeviceView) × P.port.plain port.old ws × Q.port.plain other.old shadow_ws × L.layout.ring ws v w
@@ -53,6 +54,7 @@ pub fn step_relay<L: Layout, P: Port, Q: Port>(
         → RelayOn P.port Q.port L.Device.device L.Driver.driver L.layout z port.old port.new other.old other.new v w sv sw relay.old.state
         relay.new.state relay.old.counts relay.new.counts result }
     ensures settings { relay.new.settings ≡ relay.old.settings }
+    ensures plain { relay.new.control ≡ None }
 {
     relay.step(tree, port, other)
 }

@@ -4,7 +4,7 @@ use Rattle.vd_layout.specs.laws.Plain.{plain_step, own_plain_device, own_plain_d
 use Rattle.vd_relayed.proofs.steps.step_relay.Goals as goal
 
 pub step-requires-clause-own : goal.step-requires-clause-own
-step-requires-clause-own g c =
+step-requires-clause-own g c = λ plain.
     let r = c.requires.on in
     let d = g.L.Driver.DriverEnd.driver in
     let e = g.L.Device.DeviceEnd.device in
@@ -29,7 +29,7 @@ returns-clause-step g c = λ z ws shadow_ws v w sv sw plain shadow_plain ring sh
     let q = g.Q.Port.port in
     let own = own_plain_device p g.met.P.Port.lawful d e l law c.args.port.now ws v w plain ring in
     let other = own_plain_driver q g.met.Q.Port.lawful d e l law c.args.other.now shadow_ws sv sw shadow_plain shadow_ring in
-    let s = c.step.ensures.step z w sv holds is own other in
+    let s = c.step.ensures.step c.requires.plain z w sv holds is own other in
     elim s.made [
       | inl x ↦ (
           let o = x.1 in

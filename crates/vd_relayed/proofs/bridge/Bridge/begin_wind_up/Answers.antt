@@ -5,23 +5,26 @@ use Rattle.vd_relayed.proofs.bridge.Bridge.begin_wind_up.Goals as goal
 
 pub invariant_of-self : goal.invariant_of-self
 invariant_of-self g c =
-    let i = c.self.invariant in
-    record {
-      start = i.start;
-      view = i.view;
-      device_view = i.device_view;
-      shadow_view = i.shadow_view;
-      shadow_device_view = i.shadow_device_view;
-      ring = i.ring;
-      shadow_ring = i.shadow_ring;
-      drives = i.drives;
-      serves = i.serves;
-      relays = c.begin_wind_up.ensures.holds i.start i.device_view i.shadow_view i.relays;
-      map = i.map;
-    }
+    let i = c.self.invariant.0 in
+    (
+      record {
+        start = i.start;
+        view = i.view;
+        device_view = i.device_view;
+        shadow_view = i.shadow_view;
+        shadow_device_view = i.shadow_device_view;
+        ring = i.ring;
+        shadow_ring = i.shadow_ring;
+        drives = i.drives;
+        serves = i.serves;
+        relays = c.begin_wind_up.ensures.holds c.self.invariant.1 i.start i.device_view i.shadow_view i.relays;
+        map = i.map;
+      },
+      c.begin_wind_up.ensures.plain c.self.invariant.1,
+    )
 
 pub returns-clause-stands : goal.returns-clause-stands
-returns-clause-stands g c = invariant_of-self g c
+returns-clause-stands g c = (invariant_of-self g c).0
 
 pub returns-clause-begun : goal.returns-clause-begun
 returns-clause-begun g c =
@@ -40,5 +43,5 @@ returns-clause-begun g c =
       winding = c.begin_wind_up.ensures.winding;
       target = c.begin_wind_up.ensures.target ∙ c.len-begun.ensures.value ∙ ap length c.journal.ensures.begun;
       live = c.begin_wind_up.ensures.live;
-      holds = c.begin_wind_up.ensures.holds;
+      holds = c.begin_wind_up.ensures.holds c.self.invariant.1;
     }

@@ -45,7 +45,7 @@ returns g c =
           (l.width f) c.in_ok-script.script c.args.count c.args.chain.now c.in_ok-script.ensures
           (may_stand_in f ms c.args.chain.now small.0 small.1 small.2 small.3 refl (c.if-not-is_mapped.ensures.all refl)) refl);
       serves = c.if-not-attach.ensures.holds refl shadow_device_view (shadow.serves h other) refl;
-      relays = made.holds ms device_view shadow_view (record {
+      relays = made.holds refl ms device_view shadow_view (record {
         serves = fresh.serves f with;
         drives = shadow.drives h other;
         paired = record {
@@ -93,37 +93,40 @@ invariant_of-result g c =
     let shadow_view : DriverView = fresh_driver h (l.width h) in
     let shadow_device_view : DeviceView = fresh_device h (l.width h) in
     let small = c.if-not-is_small.ensures refl in
-    record {
-      start = start ms device_view;
-      view = view;
-      device_view = device_view;
-      shadow_view = shadow_view;
-      shadow_device_view = shadow_device_view;
-      ring = subst (λ (us : List ℕ). l.ring us view device_view) (sym words) (law.opens c.args.size c.args.f false f c.requires.can with);
-      shadow_ring = subst (λ (us : List ℕ). l.ring us shadow_view shadow_device_view) (sym shadow_words)
-          (law.opens c.args.size c.args.f false h c.requires.can other);
-      drives = c.boot.ensures.holds view c.in_ok-script.script (c.in_ok-load.ensures.ok.1) (fresh.drives f with) (can_boot l f
-          (l.width f) c.in_ok-script.script c.args.count c.args.chain.now c.in_ok-script.ensures
-          (may_stand_in f ms c.args.chain.now small.0 small.1 small.2 small.3 refl (c.if-not-is_mapped.ensures.all refl)) refl);
-      serves = c.if-not-attach.ensures.holds refl shadow_device_view (shadow.serves h other) refl;
-      relays = c.new-relay.ensures.holds ms device_view shadow_view (record {
-        serves = fresh.serves f with;
-        drives = shadow.drives h other;
-        paired = record {
-          bounds = ms;
-          bounded = refl;
-          covers = covers_own c.args.tree c.is_mapped.ensures.kept;
-          free = refl;
-          size = refl;
-          features = refl;
-          guest_plain = refl;
-          shadow_plain = refl;
-          guest = omega arith;
-          shadow = omega arith;
-        };
-        outstanding = refl;
-        fresh = refl;
-        empty = ap (λ t. t.origins) c.in_ok-table.ensures;
-      });
-      map = refl;
-    }
+    (
+      record {
+        start = start ms device_view;
+        view = view;
+        device_view = device_view;
+        shadow_view = shadow_view;
+        shadow_device_view = shadow_device_view;
+        ring = subst (λ (us : List ℕ). l.ring us view device_view) (sym words) (law.opens c.args.size c.args.f false f c.requires.can with);
+        shadow_ring = subst (λ (us : List ℕ). l.ring us shadow_view shadow_device_view) (sym shadow_words)
+            (law.opens c.args.size c.args.f false h c.requires.can other);
+        drives = c.boot.ensures.holds view c.in_ok-script.script (c.in_ok-load.ensures.ok.1) (fresh.drives f with) (can_boot l f
+            (l.width f) c.in_ok-script.script c.args.count c.args.chain.now c.in_ok-script.ensures
+            (may_stand_in f ms c.args.chain.now small.0 small.1 small.2 small.3 refl (c.if-not-is_mapped.ensures.all refl)) refl);
+        serves = c.if-not-attach.ensures.holds refl shadow_device_view (shadow.serves h other) refl;
+        relays = c.new-relay.ensures.holds refl ms device_view shadow_view (record {
+          serves = fresh.serves f with;
+          drives = shadow.drives h other;
+          paired = record {
+            bounds = ms;
+            bounded = refl;
+            covers = covers_own c.args.tree c.is_mapped.ensures.kept;
+            free = refl;
+            size = refl;
+            features = refl;
+            guest_plain = refl;
+            shadow_plain = refl;
+            guest = omega arith;
+            shadow = omega arith;
+          };
+          outstanding = refl;
+          fresh = refl;
+          empty = ap (λ t. t.origins) c.in_ok-table.ensures;
+        });
+        map = refl;
+      },
+      c.new-relay.ensures.plain refl,
+    )
