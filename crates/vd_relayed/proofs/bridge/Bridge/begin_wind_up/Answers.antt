@@ -5,8 +5,7 @@ use Rattle.vd_relayed.proofs.bridge.Bridge.begin_wind_up.Goals as goal
 
 pub invariant_of-self : goal.invariant_of-self
 invariant_of-self g c =
-    let i = c.self.invariant.0 in
-    (
+    let i = c.self.invariant.0 in (
       record {
         start = i.start;
         view = i.view;

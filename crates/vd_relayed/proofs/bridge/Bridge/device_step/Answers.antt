@@ -14,8 +14,7 @@ invariant_of-self g c =
     let i = c.self.invariant.0 in
     let h = c.step_device.ensures c.self.inside.shadow_words.words i.shadow_view i.shadow_device_view
     (ap (λ (x : RingWords). x.words) c.port.ensures.words) i.shadow_ring i.serves in
-    let view = g.L.Device.DeviceEnd.device.side.after i.shadow_device_view h.made.op h.made.access h.made.got in
-    (
+    let view = g.L.Device.DeviceEnd.device.side.after i.shadow_device_view h.made.op h.made.access h.made.got in (
       record {
         start = i.start;
         view = i.view;

@@ -14,8 +14,7 @@ invariant_of-self g c =
     let i = c.self.invariant.0 in
     let h = c.step_guest.ensures c.self.inside.words.words i.view i.device_view (ap (λ (x : RingWords). x.words) c.port.ensures.words)
     i.ring i.drives in
-    let view = g.L.Driver.DriverEnd.driver.side.after i.view h.made.op h.made.access h.made.got in
-    (
+    let view = g.L.Driver.DriverEnd.driver.side.after i.view h.made.op h.made.access h.made.got in (
       record {
         start = i.start;
         view = view;

@@ -92,8 +92,7 @@ invariant_of-result g c =
     let device_view : DeviceView = fresh_device f (l.width f) in
     let shadow_view : DriverView = fresh_driver h (l.width h) in
     let shadow_device_view : DeviceView = fresh_device h (l.width h) in
-    let small = c.if-not-is_small.ensures refl in
-    (
+    let small = c.if-not-is_small.ensures refl in (
       record {
         start = start ms device_view;
         view = view;

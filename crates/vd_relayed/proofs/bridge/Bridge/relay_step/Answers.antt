@@ -26,8 +26,7 @@ invariant_of-self g c =
     let l = g.L.Layout.layout in
     let h = c.step_relay.ensures.step i.start c.self.inside.words.words c.self.inside.shadow_words.words i.view i.device_view i.shadow_view
     i.shadow_device_view (ap (λ (x : RingWords). x.words) c.port.ensures.words) (ap (λ (x : RingWords). x.words) c.port-2.ensures.words)
-    i.ring i.shadow_ring i.relays i.map in
-    (
+    i.ring i.shadow_ring i.relays i.map in (
       record {
         start = i.start;
         view = i.view;
