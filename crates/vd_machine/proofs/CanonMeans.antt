@@ -139,6 +139,10 @@ known p none =
       all_pass switch_data (if_table switch_has_known_keys) (λ s. refl) p.switches,
     ) refl
 
+pub unknown : (p : Plan) (q : Script) → p.control ≡ Some q → known_keys (sorted p) ≡ false
+unfolding known_keys
+unknown p q is = rw is refl
+
 is_complete : (p : Plan) → complete (sorted p) ≡ true
 unfolding complete
 is_complete p =

@@ -7,10 +7,14 @@ pub mod CanonSwitches
 pub mod CanonValues
 pub mod Collect
 pub mod Document
+pub mod Drawing
 pub mod Facts
 pub mod Fitting
 pub mod Laid
 pub mod Lists
+pub mod Made
+pub mod MadeKeeps
+pub mod MadeLaid
 pub mod Passes
 pub mod Printed
 pub mod Rules

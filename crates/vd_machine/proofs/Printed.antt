@@ -1,25 +1,22 @@
 -- The canonical text of a machine breaks no rule and means that machine.
-use Rattle.std.proofs.Common.{◌≡◌, ℕ, true, List, ◌++◌, Option, Some, None, is_none, refl, ap, ◌∙◌, arith, append_assoc}
+use Rattle.std.proofs.Common.{◌≡◌, ℕ, true, List, ◌++◌, Option, Some, None, refl, ap, ◌∙◌, arith, append_assoc}
 use Rattle.std.specs.List.{list_all}
-use Rattle.std.proofs.lemmas.Bool.{and_parts, false≢true}
+use Rattle.std.proofs.lemmas.Bool.{and_parts}
 use Rattle.vd_machine.specs.Canon.{canon}
-use Rattle.vd_machine.specs.File.{Plan, view, document, first, first_in, means}
+use Rattle.vd_machine.specs.File.{Plan, view, document, first, first_in, means, broken_by_key}
 use Rattle.vd_machine.specs.Queues.{most_pieces}
 use Rattle.vd_machine.specs.Switches.{is_switch, are_in_order}
+use Rattle.vd_model.specs.declared.record.Script.{Script}
 use Rattle.vd_machine.specs.declared.machine.Machine.{Machine}
 use Rattle.vd_machine.proofs.CanonAscii.{canon_is_utf8}
 use Rattle.vd_machine.proofs.CanonBack.{Fits, reads, sorted}
-use Rattle.vd_machine.proofs.CanonMeans.{Keeps, known, sorted_is_read}
+use Rattle.vd_machine.proofs.CanonMeans.{Keeps, known, unknown, sorted_is_read}
 use Rattle.vd_machine.proofs.Document.{document_text}
 use Rattle.vd_machine.proofs.Facts.{size_bounds, window_bounds, region_parts, range_bounds, few_parts}
 use Rattle.vd_machine.proofs.Fitting.{scripts_fit}
 use Rattle.vd_machine.proofs.Rules.{breaks_none, means_it}
 
-nothing_of : {A : Type 0} (o : Option A) → is_none o ≡ true → o ≡ None
-nothing_of None h = refl
-nothing_of (Some x) h = absurd (false≢true h)
-
-machine_keeps : (m : Machine) → Keeps (view m)
+pub machine_keeps : (m : Machine) → Keeps (view m)
 machine_keeps m = record {
   sized = m.sized;
   windowed = m.windowed;
@@ -52,18 +49,18 @@ keeps_fit p h =
 document_is : (p : Plan) → Keeps p → document (canon p) ≡ Some (sorted p)
 document_is p h = document_text (canon p) (canon_is_utf8 p (keeps_fit p h)) ∙ reads p (keeps_fit p h)
 
--- with a control queue too
-means_canon : (p : Plan) → Keeps p → means (canon p) ≡ Some p
+pub means_canon : (p : Plan) → Keeps p → means (canon p) ≡ Some p
 unfolding means
 means_canon p h = rw (document_is p h) (ap Some (means_it (sorted p) p (sorted_is_read p h)))
 
--- while the key of the commands is none that a file may have, this is so without a control queue alone
-unbroken : (p : Plan) → p.control ≡ None → Keeps p → first (canon p) ≡ None
+-- while the key of the commands is none that a file may have, it breaks no rule where there is no control queue, and else that one
+first_broken : (p : Plan) (o : Option Script) → p.control ≡ o → Keeps p → first (canon p) ≡ broken_by_key o
 unfolding first first_in
-unbroken p none h = rw (document_is p h) (breaks_none (sorted p) p (known p none) (sorted_is_read p h))
+first_broken p None is h = rw (document_is p h) (breaks_none (sorted p) p (known p is) (sorted_is_read p h))
+first_broken p (Some q) is h = rw (document_is p h, unknown p q is) refl
 
-pub printed_back : (m : Machine) → (first (canon (view m)) ≡ None) × (means (canon (view m)) ≡ Some (view m))
-printed_back m = (unbroken (view m) (nothing_of m.control m.uncontrolled) (machine_keeps m), means_canon (view m) (machine_keeps m))
+pub printed_back : (m : Machine) → (first (canon (view m)) ≡ broken_by_key m.control) × (means (canon (view m)) ≡ Some (view m))
+printed_back m = (first_broken (view m) m.control refl (machine_keeps m), means_canon (view m) (machine_keeps m))
 
 -- what is appended in two steps
 pub then : (old mid new front rest : List ℕ) → mid ≡ old ++ front → new ≡ mid ++ rest → new ≡ old ++ (front ++ rest)

@@ -1,5 +1,5 @@
 -- The key of the commands is none that a file may have, so a document of known keys has no control queue.
-use Rattle.std.proofs.Common.{◌≡◌, ℕ, true, ◌&&◌, List, codes, Option, Some, None, is_none, unwrap_or, Ordering, Less, Equal, Greater, refl, ap, sym, ◌∙◌}
+use Rattle.std.proofs.Common.{◌≡◌, ℕ, true, ◌&&◌, List, codes, Option, Some, None, unwrap_or, Ordering, Less, Equal, Greater, refl, ap, sym, ◌∙◌}
 use Rattle.std.specs.List.{list_all}
 use Rattle.std.specs.Cmp.Lexicographic.{slice_cmp}
 use Rattle.std.specs.Ordering.{nat_cmp, match_ordering}
@@ -33,5 +33,5 @@ uncontrolled_by ms h =
 
 -- what was read of such a document
 pub none_read : (ms : Members) (o : Option (Option Script)) (control : Option Script) → known_keys ms ≡ true → o ≡ control_of ms
-    → o ≡ Some control → is_none control ≡ true
-none_read ms o control known is some = ap (λ p. is_none (unwrap_or p None)) (sym some ∙ is ∙ uncontrolled_by ms known)
+    → o ≡ Some control → control ≡ None
+none_read ms o control known is some = ap (λ p. unwrap_or p None) (sym some ∙ is ∙ uncontrolled_by ms known)

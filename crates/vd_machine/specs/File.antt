@@ -169,6 +169,11 @@ first bytes = find (is_broken_in (document bytes)) rules
 unfoldable pub means : List ℕ → Option Plan
 means bytes = option_map plan (document bytes)
 
+-- the rule that a machine's own text breaks: none, but until a play takes commands a file has no key for a control queue
+abbrev pub broken_by_key : Option Script → Option MachineFault
+broken_by_key None = None
+broken_by_key (Some q) = Some M2
+
 -- why no machine was read: the first broken rule, or want of memory
 abbrev pub Refuses : Option MachineFault → ReadRefusal → Type 0
 Refuses broken (Fault rule) = broken ≡ Some rule

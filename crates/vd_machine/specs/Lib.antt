@@ -1,9 +1,11 @@
 pub mod Canon
 pub mod Commands
+pub mod Draws
 pub mod File
 pub mod Iovas
 pub mod Keys
 pub mod Lookup
+pub mod Made
 pub mod Queues
 pub mod Regions
 pub mod Rings

@@ -3,12 +3,15 @@
 
 mod commands;
 mod control_lines;
+mod draws;
 mod iovas;
 mod keys;
 mod limits;
 mod listing;
 mod lookup;
 mod machine;
+mod made_commands;
+mod making;
 mod printing;
 mod queues;
 mod reading;
@@ -22,6 +25,7 @@ mod words;
 
 pub use limits::MOST_CHAINS;
 pub use machine::{Machine, MachineFault, ReadRefusal, Switch, To};
+pub use making::make;
 pub use regions::Region;
 pub use rings::{MOST_PLACES, MOST_WINDOW};
 pub use switches::MOST_SWITCHES;

@@ -1,5 +1,5 @@
 //! A machine, and why none was read.
-ghost use Rattle.std.specs.Prelude.{◌≡◌, true, false, length, is_none, is_some};
+ghost use Rattle.std.specs.Prelude.{◌≡◌, true, false, length, is_some};
 ghost use Rattle.vd_machine.specs.Commands.{is_lawful_control};
 ghost use Rattle.vd_machine.specs.Queues.{most_pieces, are_scripts, all_lie, few};
 ghost use Rattle.vd_machine.specs.Iovas.{is_range, are_laid};
@@ -66,8 +66,6 @@ pub struct Machine {
     ghost laid: { are_laid first last regions ≡ true },
     ghost switched: { are_switches switches ≡ true },
     ghost controlled: { is_lawful_control control ≡ true },
-    // Until a play takes commands no machine is read that has a control queue.
-    ghost uncontrolled: { is_none control ≡ true },
     ghost worded: { are_few_words (all_words packed size features (ring_count start switches (length queues))
         (control_count (is_some control) switches)) ≡ true },
 }

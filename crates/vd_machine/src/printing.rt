@@ -1,7 +1,7 @@
 //! Printing a machine as the file that means it.
-ghost use Rattle.std.specs.Prelude.{◌≡◌, ◌++◌, codes, decimal, map, OnOk, Some, None};
+ghost use Rattle.std.specs.Prelude.{◌≡◌, ◌++◌, codes, decimal, map, OnOk, Some};
 ghost use Rattle.vd_machine.specs.Canon.{canon, line, quoted, list_text, layout_name, feature_names, region_text, queue_text};
-ghost use Rattle.vd_machine.specs.File.{view, first, means};
+ghost use Rattle.vd_machine.specs.File.{view, first, means, broken_by_key};
 
 use crate::control_lines::print_control;
 use crate::listing::{feature_texts, print_queues, print_regions, push_number, push_text};
@@ -54,12 +54,13 @@ fn print_queue_line(queues: &[Script], out: &mut Vec<u8>) -> Result<(), AllocErr
 }
 
 impl Machine {
-    /// Appends the canonical text of the machine, which means this machine. Where memory is wanting a part of it may be
-    /// appended.
+    /// Appends the canonical text of the machine, which means this machine. It breaks no rule where there is no control
+    /// queue; until a play takes commands a file has no key for one. Where memory is wanting a part of it may be appended.
     #[tactic(auto, unfolding(crate::specs::Canon::canon))]
     pub fn print(&self, alloc: Global, out: &mut Vec<u8>) -> Result<(), AllocError>
         ensures text { OnOk result (out.new.items ≡ out.old.items ++ canon (view self.now)) }
-        ensures back { OnOk result ((first (canon (view self.now)) ≡ None) × (means (canon (view self.now)) ≡ Some (view self.now))) }
+        ensures back { OnOk result ((first (canon (view self.now)) ≡ broken_by_key self.now.control)
+            × (means (canon (view self.now)) ≡ Some (view self.now))) }
     {
         push_text(layout_line(self.packed), out)?;
         print_number("size", self.size as u64, out)?;

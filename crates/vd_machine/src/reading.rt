@@ -74,6 +74,7 @@ fn given<T: Drop>(value: Option<T>, rule: MachineFault) -> Result<T, ReadRefusal
 #[tactic(auto, unfolding(crate::specs::File::first_in, crate::specs::File::plan))]
 fn machine_of(alloc: Global, file: &Table) -> Result<Machine, ReadRefusal>
     ensures ok { IfOk result (λ m. (first_in (table_view file.now) ≡ None) × (plan (table_view file.now) ≡ view m)) }
+    ensures uncontrolled { IfOk result (λ m. m.control ≡ None) }
     ensures err { IfErr result (Refuses (first_in (table_view file.now))) }
 {
     keep(known_keys(file), MachineFault::M2)?;
@@ -121,10 +122,12 @@ fn machine_of(alloc: Global, file: &Table) -> Result<Machine, ReadRefusal>
 }
 
 impl Machine {
-    /// The machine that the bytes mean, or the first rule that they break.
+    /// The machine that the bytes mean, or the first rule that they break. Until a play takes commands it has no control
+    /// queue.
     #[tactic(auto, unfolding(crate::specs::File::first, crate::specs::File::means, crate::specs::File::first_in))]
     pub fn read(alloc: Global, bytes: &[u8]) -> Result<Machine, ReadRefusal>
         ensures ok { IfOk result (λ m. (first bytes.now ≡ None) × (means bytes.now ≡ Some (view m))) }
+        ensures uncontrolled { IfOk result (λ m. m.control ≡ None) }
         ensures err { IfErr result (Refuses (first bytes.now)) }
     {
         let file = table_of(alloc, bytes)?;

@@ -5,6 +5,7 @@ mod documents;
 mod files;
 mod iovas;
 mod machines;
+mod making;
 mod printing;
 mod regions;
 mod rings;

@@ -28,8 +28,8 @@ invariant_of-result-clause-laid c =
     ap (are_laid c.in_ok-iovas.iovas.first c.in_ok-iovas.iovas.last) (sym c.as_slice-4.ensures) ∙ sym c.in_ok-are_laid.ensures
     ∙ c.in_ok-keep-8.ensures.ok
 
-pub invariant_of-result-clause-uncontrolled : goal.invariant_of-result-clause-uncontrolled
-invariant_of-result-clause-uncontrolled c =
+pub returns-clause-uncontrolled : goal.returns-clause-uncontrolled
+returns-clause-uncontrolled c =
     none_read (table_view c.args.file.now) _ c.in_ok-control.control (sym c.known_keys.ensures ∙ c.in_ok-keep.ensures.ok)
     c.in_ok-control_of.ensures.value c.in_ok-control.ensures.ok
 
