@@ -206,7 +206,10 @@ impl<L: Layout> Device<L> for ModelDevice<L> {
 
     #[inline(always)]
     fn done(&self) -> bool {
-        self.phase.is_done()
+        match &self.phase {
+            Phase::Serving(session) => session.stage.is_done(),
+            _ => self.phase.is_done(),
+        }
     }
 
     fn suspend(&mut self) -> L::Device {

@@ -4,16 +4,16 @@ ghost use Rattle.std.specs.Option.{option_copied};
 ghost use Rattle.vd_model.specs.declared.record.Return.{Return};
 ghost use Rattle.vd_ring.specs.declared.driver.DriverView.{DriverView};
 ghost use Rattle.vd_layout.specs.Begun.{DriverOp};
-ghost use Rattle.vd_models.specs.declared.pending.Pending.TheVariants.{Both};
+ghost use Rattle.vd_models.specs.declared.pending.Pending.TheVariants.{Both, Free};
 ghost use Rattle.vd_models.specs.GuestStages.{is_done, offered_stage, woken_stage, none_stage, waking_turn};
 ghost use Rattle.vd_models.specs.Pending.{IsTurnToOffer};
-ghost use Rattle.vd_models.specs.Driving.{DriveOpens, CanDrive, MakesDriveTurn, IsKept, IsPlan, drive, loaded_of};
+ghost use Rattle.vd_models.specs.Driving.{DriveOpens, CanDrive, MakesDriveTurn, IsKept, IsPlan, drive, is_done_of, loaded_of};
 ghost use Rattle.vd_models.specs.Sending.{Begins, CanTurn, CanBegin, MakesTurn};
 
 use crate::counts::Turn;
 use crate::cursor::{Cursor, next_chain, settle};
 use crate::pending::Pending;
-use crate::sending::{control, control_access, next_command};
+use crate::sending::{control, control_access, free_access, next_command};
 use crate::sent::command_chain;
 use vd_layout::{DriverAct, DriverEnd, Layout};
 use vd_model::{Return, Script};
@@ -79,6 +79,17 @@ impl<D> GuestPhase<D> {
             GuestPhase::Booted(booted) => Some(&booted.loaded),
         }
     }
+
+    /// Whether all came back, asked of any phase: each step asks it of a guest that is booted, and that in line.
+    #[inline(never)]
+    pub(crate) fn is_done(&self) -> bool
+        ensures { result ≡ is_done_of (loaded_of self.now) }
+    {
+        match self.loaded() {
+            Some(loaded) => loaded.stage.is_done(),
+            None => false,
+        }
+    }
 }
 
 /// Appends what came back, into the room that is there.
@@ -90,6 +101,23 @@ pub(crate) fn keep(list: &mut Vec<Return>, item: Return)
     if list.push(item).is_err() {
         unreachable!()
     }
+}
+
+/// Appends a chain that came back. Out of line: the steps that collect none then needn't clear an item.
+#[inline(never)]
+fn keep_chain(list: &mut Vec<Return>, number: u32, len: u32)
+    requires { vec_len list.old < vec_capacity list.old }
+    ensures items { list.new.items ≡ list.old.items ++ (record { number = number; len = len; ack = 0 }) ∷ [] }
+    ensures room { vec_capacity list.old ≤ vec_capacity list.new }
+{
+    keep(
+        list,
+        Return {
+            number,
+            len,
+            ack: 0,
+        },
+    );
 }
 
 /// What comes after an offer: with `turns` a turn to collect.
@@ -191,7 +219,7 @@ fn begin_drive<L: Layout>(end: &mut L::Driver, loaded: &Loaded)
 fn operate<L: Layout, P: Port>(
     end: &mut L::Driver,
     loaded: &mut Loaded,
-    turns: bool,
+    turns: &bool,
     port: &mut P,
 ) -> Turn
     requires plan { IsPlan loaded.old }
@@ -211,7 +239,7 @@ fn operate<L: Layout, P: Port>(
     match end.step(port) {
         DriverAct::Offered(_) => {
             loaded.offered += 1;
-            loaded.stage = after_offer(turns);
+            loaded.stage = after_offer(*turns);
             match loaded.hand {
                 Pending::Both => loaded.hand = Pending::Free,
                 _ => {
@@ -225,14 +253,7 @@ fn operate<L: Layout, P: Port>(
         }
         DriverAct::Collected { number, len, head } => {
             if loaded.script.commands.as_slice().is_empty() {
-                keep(
-                    &mut loaded.returned,
-                    Return {
-                        number,
-                        len,
-                        ack: 0,
-                    },
-                );
+                keep_chain(&mut loaded.returned, number, len);
                 if loaded.returned.len() == loaded.total as usize {
                     loaded.stage = GuestStage::Done;
                 }
@@ -253,11 +274,11 @@ fn operate<L: Layout, P: Port>(
     Turn::Worked
 }
 
-/// Makes one access: of a command or ack word where one comes next, else of an operation.
-#[inline(always)]
-pub(crate) fn drive<L: Layout, P: Port>(
+/// One access of a guest that has something of a command in hand.
+#[inline(never)]
+fn drive_held<L: Layout, P: Port>(
     booted: &mut Booted<L::Driver>,
-    turns: bool,
+    turns: &bool,
     port: &mut P,
 ) -> Turn
     requires plan { IsPlan booted.old.loaded }
@@ -277,5 +298,59 @@ pub(crate) fn drive<L: Layout, P: Port>(
     match control_access::<L>(end, loaded) {
         Some(access) => control::<L, P>(end, loaded, port, access),
         None => operate::<L, P>(end, loaded, turns, port),
+    }
+}
+
+/// One access of a guest that has nothing in hand.
+#[inline(always)]
+fn drive_free<L: Layout, P: Port>(
+    booted: &mut Booted<L::Driver>,
+    turns: &bool,
+    port: &mut P,
+) -> Turn
+    requires free { booted.old.loaded.hand ≡ Free }
+    requires plan { IsPlan booted.old.loaded }
+    requires own { CanDrive P.port L.Driver.driver L.layout port.old (drive booted.old.end booted.old.loaded) }
+    ensures kept { IsKept booted.old.loaded booted.new.loaded }
+    ensures turn { MakesDriveTurn
+        P.port
+        L.Driver.driver
+        L.layout
+        port.old
+        port.new
+        (drive booted.old.end booted.old.loaded)
+        (drive booted.new.end booted.new.loaded)
+        result }
+{
+    let Booted { end, loaded } = booted;
+    match free_access::<L>(end, loaded) {
+        Some(access) => control::<L, P>(end, loaded, port, access),
+        None => operate::<L, P>(end, loaded, turns, port),
+    }
+}
+
+/// Makes one access: of a command or ack word where one comes next, else of an operation.
+#[inline(always)]
+pub(crate) fn drive<L: Layout, P: Port>(
+    booted: &mut Booted<L::Driver>,
+    turns: &bool,
+    port: &mut P,
+) -> Turn
+    requires plan { IsPlan booted.old.loaded }
+    requires own { CanDrive P.port L.Driver.driver L.layout port.old (drive booted.old.end booted.old.loaded) }
+    ensures kept { IsKept booted.old.loaded booted.new.loaded }
+    ensures turn { MakesDriveTurn
+        P.port
+        L.Driver.driver
+        L.layout
+        port.old
+        port.new
+        (drive booted.old.end booted.old.loaded)
+        (drive booted.new.end booted.new.loaded)
+        result }
+{
+    match booted.loaded.hand {
+        Pending::Free => drive_free::<L, P>(booted, turns, port),
+        _ => drive_held::<L, P>(booted, turns, port),
     }
 }

@@ -137,7 +137,7 @@ impl<L: Layout> Guest<L> for ModelGuest<L> {
         let GuestPhase::Booted(booted) = &mut self.phase else {
             unreachable!()
         };
-        let turn = drive::<L, P>(booted, self.turns, port);
+        let turn = drive::<L, P>(booted, &self.turns, port);
         let done = booted.loaded.stage.is_done();
         self.counts.note(turn);
         move_of(turn, done)
@@ -145,9 +145,9 @@ impl<L: Layout> Guest<L> for ModelGuest<L> {
 
     #[inline(always)]
     fn done(&self) -> bool {
-        match self.phase.loaded() {
-            Some(loaded) => loaded.stage.is_done(),
-            None => false,
+        match &self.phase {
+            GuestPhase::Booted(booted) => booted.loaded.stage.is_done(),
+            _ => self.phase.is_done(),
         }
     }
 

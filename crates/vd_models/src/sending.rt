@@ -4,7 +4,7 @@ ghost use Rattle.std.specs.Option.{option_copied};
 ghost use Rattle.vd_ring.specs.declared.driver.DriverView.{DriverView};
 ghost use Rattle.vd_layout.specs.Begun.{DriverOp};
 ghost use Rattle.vd_models.specs.declared.driving.GuestStage.TheVariants.{Offering};
-ghost use Rattle.vd_models.specs.declared.pending.Pending.TheVariants.{First};
+ghost use Rattle.vd_models.specs.declared.pending.Pending.TheVariants.{First, Free};
 ghost use Rattle.vd_models.specs.Driving.{DriveOpens, IsKept, IsPlan, drive};
 ghost use Rattle.vd_models.specs.Sending.{CanControl, FirstIs, StoresSecond, IsDue, MakesControlTurn};
 
@@ -54,10 +54,24 @@ fn first_store<L: Layout>(end: &L::Driver, loaded: &Loaded) -> Option<Access>
     ensures { (v : DriverView) → DriveOpens L.Driver.driver L.layout (drive end.now loaded.now) v
         → FirstIs L.Driver.driver (drive end.now loaded.now) v result }
 {
+    if !end.idle() {
+        return None;
+    }
     match loaded.stage {
-        GuestStage::Offering if end.idle() => room_store::<L>(end, loaded),
+        GuestStage::Offering => room_store::<L>(end, loaded),
         _ => None,
     }
+}
+
+/// The control access that comes next where nothing is in hand.
+#[inline(always)]
+pub(crate) fn free_access<L: Layout>(end: &L::Driver, loaded: &Loaded) -> Option<Access>
+    requires free { loaded.now.hand ≡ Free }
+    requires opens { (v : DriverView) × DriveOpens L.Driver.driver L.layout (drive end.now loaded.now) v }
+    ensures { (v : DriverView) → DriveOpens L.Driver.driver L.layout (drive end.now loaded.now) v
+        → IsDue L.Driver.driver (drive end.now loaded.now) v result }
+{
+    first_store::<L>(end, loaded)
 }
 
 /// The store of the next command's second word.

@@ -57,6 +57,7 @@ pub enum Phase<E> {
 
 impl<E> Phase<E> {
     /// Whether an end is held, and rests.
+    #[inline(never)]
     pub fn is_done(&self) -> bool
         ensures { result ≡ is_done_of self.now }
     {

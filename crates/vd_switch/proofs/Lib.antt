@@ -18,6 +18,7 @@ pub mod CommandGuest
 pub mod CommandServed
 pub mod CommandDriven
 pub mod CommandRelay
+pub mod CommandTurned
 pub mod CommandReplays
 pub mod CommandBegins
 pub mod CommandRests

@@ -12,10 +12,12 @@ ghost use Rattle.vd_control.specs.declared.settings.Settings.{Settings};
 ghost use Rattle.vd_control.specs.Settings.{replay};
 ghost use Rattle.vd_table.specs.declared.Command as kept;
 ghost use Rattle.vd_relay.specs.declared.carry.Carry.{Carry};
+ghost use Rattle.vd_relay.specs.declared.commander.Commander.{Commander};
 ghost use Rattle.vd_relay.specs.declared.counts.Counts.{Counts};
 ghost use Rattle.vd_relay.specs.declared.counts.Turn.{Turn};
 ghost use Rattle.vd_relay.specs.declared.replay.Replay.{Replay};
 ghost use Rattle.vd_relay.specs.declared.state.State.{State};
+ghost use Rattle.vd_relay.specs.CommandSteps.{IsCommandStep};
 ghost use Rattle.vd_relay.specs.Leaving.{IsLeave};
 ghost use Rattle.vd_relay.specs.Replays.{ReplayTurn};
 ghost use Rattle.vd_switch.specs.CommandLanes.{CommandStart, IsReplaying, IsCommandLane};
@@ -82,6 +84,18 @@ pub fn command_relay_law<L: Layout, P: Port, Q: Port>()
         → P.port.plain a words → Q.port.plain b shadow_words
         → IsCarryingStep P.port Q.port L.layout L.Device.device L.Driver.driver y.from a a2 b b2 w sv r r2 hand table2 settings2 c c2 said
         → RelayCommanded P.port Q.port L.Device.device L.Driver.driver L.layout y r2 table2 settings2 begun now a2 b2 v w sw }
+{}
+
+/// And so does a step as the relay's code makes it, by accesses of command and ack words and of its rings' operations.
+pub fn command_step_law<L: Layout, P: Port, Q: Port>()
+    ensures { (y : CommandStart) (r : State L.Device L.Driver) (r2 : State L.Device L.Driver) (x : Commander) (x2 : Commander)
+        (settings : Settings) (settings2 : Settings) (begun : List Begun) (now : Settings) (words : List ℕ) (shadow_words : List ℕ)
+        (v : DriverView) (w : DeviceView) (sv : DriverView) (sw : DeviceView) (a : P) (a2 : P) (b : Q) (b2 : Q) (c : Counts) (c2 : Counts)
+        (said : Move)
+        → IsCommandLane L.Device.device L.Driver.driver L.layout y r x.commands settings begun now words shadow_words v w sv sw
+        → P.port.plain a words → Q.port.plain b shadow_words
+        → IsCommandStep P.port Q.port L.layout L.Device.device L.Driver.driver y.from a a2 b b2 w sv r r2 x x2 settings settings2 c c2 said
+        → RelayCommanded P.port Q.port L.Device.device L.Driver.driver L.layout y r2 x2.commands settings2 begun now a2 b2 v w sw }
 {}
 
 /// One step of a relay that replays keeps the lane: an access of the shadow ring.

@@ -40,7 +40,7 @@ returns-in-Awake-clause-turn g c = λ v opens own due.
 pub returns-in-Both-clause-turn : goal.returns-in-Both-clause-turn
 returns-in-Both-clause-turn g c = λ v opens own due.
     from_begun c.args.loaded.now c.args.end.now c.begin_drive.new.end c.begin_drive.ensures.next opens due
-    (λ o. rw c.after_offer-loaded.ensures (sent_at g.met.L.Layout.lawful.driver_end _ c.in-Offered.field-0 c.args.turns c.in-Both.is o
+    (λ o. rw c.after_offer-loaded.ensures (sent_at g.met.L.Layout.lawful.driver_end _ c.in-Offered.field-0 c.args.turns.now c.in-Both.is o
     (c.in-Offered.ensures v o.drives.stands own)))
 
 pub returns-in_default-clause-turn : goal.returns-in_default-clause-turn
@@ -48,7 +48,7 @@ returns-in_default-clause-turn g c = λ v opens own due.
     let l = c.args.loaded.now in
     from_begun c.args.loaded.now c.args.end.now c.begin_drive.new.end c.begin_drive.ensures.next opens due
     (λ o. rw c.after_offer-loaded.ensures (offered_at g.met.L.Layout.lawful.driver_end _ c.settle-loaded.result c.in-Offered.field-0
-    c.args.turns c.in_default.not-Both o (c.in-Offered.ensures v o.drives.stands own)
+    c.args.turns.now c.in_default.not-Both o (c.in-Offered.ensures v o.drives.stands own)
     (subst (λ (rs : List Run). left_at rs c.settle-loaded.result ≡ left_at rs
     (record { run = l.at.run; used = l.at.used + 1 })) c.as_slice.ensures c.settle-loaded.ensures.left) (subst
     (λ (rs : List Run). IsSettled rs c.settle-loaded.result) c.as_slice.ensures c.settle-loaded.ensures.settled)))
@@ -56,28 +56,28 @@ returns-in_default-clause-turn g c = λ v opens own due.
 pub returns-then-len-loaded-clause-turn : goal.returns-then-len-loaded-clause-turn
 returns-then-len-loaded-clause-turn g c = λ v opens own due.
     let l = c.args.loaded.now in
-    let len : c.len.result ≡ length c.keep.new.list.items = omega (arith, c.len.ensures, c.keep.new.list.ok) in
+    let len : c.len.result ≡ length c.keep_chain.new.list.items = omega (arith, c.len.ensures, c.keep_chain.new.list.ok) in
     let none = empty_of c.as_slice-in-Collected.result.now l.script.commands c.is_empty.result c.as_slice-in-Collected.ensures
     c.is_empty.ensures
     c.if-is_empty.true in
     from_begun c.args.loaded.now c.args.end.now c.begin_drive.new.end c.begin_drive.ensures.next opens due
-    (λ o. collected_at g.met.L.Layout.lawful.driver_end _ c.keep.new.list.items
+    (λ o. collected_at g.met.L.Layout.lawful.driver_end _ c.keep_chain.new.list.items
     c.in-Collected.number c.in-Collected.len c.in-Collected.head true none o (c.in-Collected.ensures v o.drives.stands own)
-    c.keep.ensures.items
-    (sym (eq-eqb (length c.keep.new.list.items) (scripted l.script) (omega (arith, len, c.requires.plan.total, c.if-len-loaded.true)))))
+    c.keep_chain.ensures.items
+    (sym (eq-eqb (length c.keep_chain.new.list.items) (scripted l.script) (omega (arith, len, c.requires.plan.total, c.if-len-loaded.true)))))
 
 pub returns-else-len-loaded-clause-turn : goal.returns-else-len-loaded-clause-turn
 returns-else-len-loaded-clause-turn g c = λ v opens own due.
     let l = c.args.loaded.now in
-    let len : c.len.result ≡ length c.keep.new.list.items = omega (arith, c.len.ensures, c.keep.new.list.ok) in
+    let len : c.len.result ≡ length c.keep_chain.new.list.items = omega (arith, c.len.ensures, c.keep_chain.new.list.ok) in
     let none = empty_of c.as_slice-in-Collected.result.now l.script.commands c.is_empty.result c.as_slice-in-Collected.ensures
     c.is_empty.ensures
     c.if-is_empty.true in
     from_begun c.args.loaded.now c.args.end.now c.begin_drive.new.end c.begin_drive.ensures.next opens due
-    (λ o. collected_at g.met.L.Layout.lawful.driver_end _ c.keep.new.list.items
+    (λ o. collected_at g.met.L.Layout.lawful.driver_end _ c.keep_chain.new.list.items
     c.in-Collected.number c.in-Collected.len c.in-Collected.head false none o (c.in-Collected.ensures v o.drives.stands own)
-    c.keep.ensures.items
-    (sym (ne_eqb (length c.keep.new.list.items) (scripted l.script)
+    c.keep_chain.ensures.items
+    (sym (ne_eqb (length c.keep_chain.new.list.items) (scripted l.script)
     (λ z. c.if-len-loaded.false (omega (arith, len, c.requires.plan.total, z))))))
 
 pub returns-else-is_empty-clause-turn : goal.returns-else-is_empty-clause-turn
