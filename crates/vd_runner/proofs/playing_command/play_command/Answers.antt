@@ -1,4 +1,4 @@
-use Rattle.std.proofs.Common.{List, ℕ, Option, true, false, length, subst, ◌∙◌}
+use Rattle.std.proofs.Common.{List, ℕ, Option, true, false, length, subst, refl, inr, ◌∙◌}
 use Rattle.vd_machine.specs.File.{view}
 use Rattle.vd_packed.specs.DeviceEnd.{packed_device}
 use Rattle.vd_packed.specs.DriverEnd.{packed_driver}
@@ -7,7 +7,9 @@ use Rattle.vd_split.specs.DeviceEnd.{split_device}
 use Rattle.vd_split.specs.DriverEnd.{split_driver}
 use Rattle.vd_split.specs.laws.SplitLayout.{split_layout}
 use Rattle.vd_play.specs.Setting.{setting_of}
+use Rattle.vd_runner.specs.declared.status.Status.{Status}
 use Rattle.vd_runner.specs.Layouts.{guests_for, devices_for}
+use Rattle.vd_runner.specs.Outcome.{PlaysTo}
 use Rattle.vd_runner.specs.Reading.{ReadsMachine, RefusesToRead}
 use Rattle.vd_runner.proofs.Outcome.{play_expected, refusal_expected, layout_read, by_layout}
 use Rattle.vd_runner.proofs.playing_command.play_command.Goals as goal
@@ -41,3 +43,33 @@ returns-clause-complete g c bytes told calm quiet still still_packed =
     (play_expected (setting_of split_driver split_device split_layout g.GS.Guest.party g.VS.Device.party) bytes _
     (view c.in-Ok.machine) c.args.brief split c.play_on-else-machine.new.bench _ _ _ _ c.play_on-else-machine.result quiet still read
     c.play_on-else-machine.ensures.answer)
+
+pub returns-then-machine-clause-memory : goal.returns-then-machine-clause-memory
+returns-then-machine-clause-memory g c = λ is. inr (record {
+  plan = view c.in-Ok.machine;
+  read = c.in-Ok.ensures.ok;
+  holds = record {
+    split = λ no. absurd (cc (c.if-machine.true, no));
+    packed = λ yes. (
+      (subst (λ (s : Status). PlaysTo
+          (setting_of packed_driver packed_device packed_layout g.GP.Guest.party g.VP.Device.party) (view c.in-Ok.machine) c.args.brief
+          c.args.packed.now c.play_on.new.bench _ _ _ _ s) is c.play_on.ensures.answer).0,
+      refl,
+    );
+  };
+})
+
+pub returns-clause-memory : goal.returns-clause-memory
+returns-clause-memory g c = λ is. inr (record {
+  plan = view c.in-Ok.machine;
+  read = c.in-Ok.ensures.ok;
+  holds = record {
+    split = λ no. (
+      (subst (λ (s : Status). PlaysTo
+          (setting_of split_driver split_device split_layout g.GS.Guest.party g.VS.Device.party) (view c.in-Ok.machine) c.args.brief
+          c.args.split.now c.play_on-else-machine.new.bench _ _ _ _ s) is c.play_on-else-machine.ensures.answer).0,
+      refl,
+    );
+    packed = λ yes. absurd (cc (c.if-machine.false, yes));
+  };
+})
