@@ -53,7 +53,8 @@ returns-then-machine-clause-memory g c = λ is. inr (record {
     packed = λ yes. (
       (subst (λ (s : Status). PlaysTo
           (setting_of packed_driver packed_device packed_layout g.GP.Guest.party g.VP.Device.party) (view c.in-Ok.machine) c.args.brief
-          c.args.packed.now c.play_on.new.bench _ _ _ _ s) is c.play_on.ensures.answer).0,
+          c.args.packed.now c.play_on.new.bench (g.K.Sink.held c.args.sink.now) (g.K.Sink.held c.play_on.new.sink)
+          (g.K.Sink.faults c.args.sink.now) (g.K.Sink.faults c.play_on.new.sink) s) is c.play_on.ensures.answer).0,
       refl,
     );
   };
@@ -67,7 +68,9 @@ returns-clause-memory g c = λ is. inr (record {
     split = λ no. (
       (subst (λ (s : Status). PlaysTo
           (setting_of split_driver split_device split_layout g.GS.Guest.party g.VS.Device.party) (view c.in-Ok.machine) c.args.brief
-          c.args.split.now c.play_on-else-machine.new.bench _ _ _ _ s) is c.play_on-else-machine.ensures.answer).0,
+          c.args.split.now c.play_on-else-machine.new.bench (g.K.Sink.held c.args.sink.now)
+          (g.K.Sink.held c.play_on-else-machine.new.sink) (g.K.Sink.faults c.args.sink.now)
+          (g.K.Sink.faults c.play_on-else-machine.new.sink) s) is c.play_on-else-machine.ensures.answer).0,
       refl,
     );
     packed = λ yes. absurd (cc (c.if-machine.false, yes));
