@@ -2,6 +2,7 @@ pub mod Epochs
 pub mod Journal
 pub mod Setting
 pub mod Before
+pub mod Commands
 pub mod Rings
 pub mod Lane
 pub mod Orders
