@@ -15,11 +15,15 @@ const TWO_REPORT: &str =
     "queue 0 chains 2 bytes 20\nchain 0 0 10\nchain 0 1 10\nepoch 0 0 pass 0 2\ndrained 2\n";
 
 /// Six chains of different lengths over a ring of four places, two of them in a shadow epoch.
-const SIX: &str =
-    "window = 3\nqueues = [[\"2*r4096+10 w8192+64\", \"r4096+9\", \"w8192+64\", \"2*r4096+7 r4103+1 w8192+5\"]]\nswitches = [{ after = 2, to = \"shadow\" }, { after = 4, to = \"pass\" }]";
+const SIX: &str = concat!(
+    "window = 3\nqueues = [[\"2*r4096+10 w8192+64\", \"r4096+9\", \"w8192+64\", \"2*r4096+7 r4103+1 w8192+5\"]]\n",
+    "switches = [{ after = 2, to = \"shadow\" }, { after = 4, to = \"pass\" }]",
+);
 
-const SIX_REPORT: &str =
-    "queue 0 chains 6 bytes 30\nchain 0 0 10\nchain 0 1 10\nchain 0 2 0\nchain 0 3 0\nchain 0 4 5\nchain 0 5 5\nepoch 0 0 pass 0 2\nepoch 0 1 shadow 2 4\nepoch 0 2 pass 4 6\ndrained 6\n";
+const SIX_REPORT: &str = concat!(
+    "queue 0 chains 6 bytes 30\nchain 0 0 10\nchain 0 1 10\nchain 0 2 0\nchain 0 3 0\nchain 0 4 5\nchain 0 5 5\n",
+    "epoch 0 0 pass 0 2\nepoch 0 1 shadow 2 4\nepoch 0 2 pass 4 6\ndrained 6\n",
+);
 
 const NONE_REPORT: &str = "queue 0 chains 0 bytes 0\nepoch 0 0 pass 0 0\ndrained 0\n";
 
@@ -28,8 +32,10 @@ const WINDOW: &str = "window = 4\nqueues = [[\"6*r4096+10\"]]\nfeatures = []";
 
 const IN_ORDER: &str = "window = 4\nqueues = [[\"6*r4096+10\"]]\nfeatures = [\"in_order\"]";
 
-const WINDOW_REPORT: &str =
-    "queue 0 chains 6 bytes 0\nchain 0 0 0\nchain 0 1 0\nchain 0 2 0\nchain 0 3 0\nchain 0 4 0\nchain 0 5 0\nepoch 0 0 pass 0 6\ndrained 6\n";
+const WINDOW_REPORT: &str = concat!(
+    "queue 0 chains 6 bytes 0\nchain 0 0 0\nchain 0 1 0\nchain 0 2 0\nchain 0 3 0\nchain 0 4 0\nchain 0 5 0\n",
+    "epoch 0 0 pass 0 6\ndrained 6\n",
+);
 
 /// A file of one queue as layout, size and lines, and what its play leaves: the report, the journal, and the numbers of the
 /// chains in the order in which they come back.

@@ -24,7 +24,8 @@ fn recording<'a>(
     alloc: Global,
     clock: &'a Cell<u32>,
 ) -> Result<Bench<Guests<'a>, Devices<'a>>, AllocError>
-    ensures { IfOk result (λ b. IsEmptyBench ⟦<RecordingGuest<'a, ModelGuest<Split>> as Guest<Split>>⟧.party ⟦<RecordingDevice<'a, ModelDevice<Split>> as Device<Split>>⟧.party b) }
+    ensures { IfOk result (λ b. IsEmptyBench ⟦<RecordingGuest<'a, ModelGuest<Split>> as Guest<Split>>⟧.party
+        ⟦<RecordingDevice<'a, ModelDevice<Split>> as Device<Split>>⟧.party b) }
 {
     let mut guests = Vec::new(alloc);
     guests.push(RecordingGuest {

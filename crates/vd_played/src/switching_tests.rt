@@ -16,8 +16,11 @@ const SHADOWED: &str =
 const TWICE: &str =
     "queues = [[\"3*r4096+10\"]]\nswitches = [{ after = 2, to = \"shadow\" }, { after = 2, to = \"pass\" }]";
 
-const EIGHT: &str =
-    "queues = [[], [\"r4096+10\"], [\"2*r4096+10\"], [\"3*r4096+10\"], [\"4*r4096+10\"], [\"5*r4096+10\"], [\"6*r4096+10\"], [\"7*r4096+10\"]]\nswitches = [{ after = 3, to = \"shadow\" }]";
+const EIGHT: &str = concat!(
+    "queues = [[], [\"r4096+10\"], [\"2*r4096+10\"], [\"3*r4096+10\"], ",
+    "[\"4*r4096+10\"], [\"5*r4096+10\"], [\"6*r4096+10\"], [\"7*r4096+10\"]]\n",
+    "switches = [{ after = 3, to = \"shadow\" }]",
+);
 
 const SIX: &str =
     "window = 4\nqueues = [[\"6*r4096+10\"]]\nswitches = [{ after = 3, to = \"shadow\" }]";
@@ -71,7 +74,10 @@ fn the_chains_of_a_shadow_epoch_are_at_their_iovas(rt: HostRuntime) -> Result<()
         alloc,
         "split",
         "4",
-        "iova_first = 1048576\nqueues = [[\"70000*r4096+10\"]]\nswitches = [{ after = 65535, to = \"shadow\" }, { after = 65537, to = \"pass\" }]",
+        concat!(
+            "iova_first = 1048576\nqueues = [[\"70000*r4096+10\"]]\n",
+            "switches = [{ after = 65535, to = \"shadow\" }, { after = 65537, to = \"pass\" }]",
+        ),
     )?;
     let left = left_by_faulty(alloc, BRIEF, text.as_str(), false, 0)?;
     assert!(rt; left.status == Status::Ok);
