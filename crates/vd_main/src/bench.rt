@@ -8,7 +8,7 @@ use vd_layout::Layout;
 use vd_models::{ModelDevice, ModelGuest};
 use vd_runner::Bench;
 
-/// As many guests and devices as a machine may have queues.
+/// As many guests and devices as a machine may have queues: eight data queues, and the control queue.
 const MOST: u32 = 9;
 
 /// Model guests and model devices, one of each for every queue that a machine may have.

@@ -22,7 +22,8 @@ const MOST_WINDOW: u32 = 64;
 
 /// A device that takes while fewer chains than its window are held. Where the window is full, all are begun, or no further
 /// chain is there, it gives all that it holds: the one begun last first, under IN_ORDER the one begun first. Where none is there
-/// and none is held it arms its end, and hears its bell until it wakes. It writes as many bytes as it may read and write.
+/// and none is held it arms its end, and hears its bell until it wakes. The length that it gives is the smaller
+/// of the chain's readable and writable bytes.
 ///
 /// On the control queue it takes one chain, loads its two command words, executes the command, stores its ack, and gives it with the
 /// length 1, before it takes the next.
