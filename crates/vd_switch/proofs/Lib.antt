@@ -24,3 +24,6 @@ pub mod CommandBegins
 pub mod CommandRests
 pub mod CommandAnswers
 pub mod CommandSettled
+pub mod Controlling
+pub mod CommandStays
+pub mod ControllingSteps
