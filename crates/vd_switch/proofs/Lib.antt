@@ -27,3 +27,5 @@ pub mod CommandSettled
 pub mod Controlling
 pub mod CommandStays
 pub mod ControllingSteps
+pub mod ControllingBegins
+pub mod ControllingParties
