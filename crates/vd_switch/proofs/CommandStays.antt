@@ -45,7 +45,7 @@ module _ {E D : Type 0} (e : DeviceModel E) (d : DriverModel D) (l : LayoutModel
       (h : CommandParts l y begun now words shadow_words v w sv sw)
       (after : CommandParts l y begun now words shadow_words' v w sv' sw)
       (follows : IsReplayed y.from.replayed sv'.done) where
-    is_begun : (k : ℕ) → k < y.from.replayed → k < length (drop y.by.at begun)
+    pub is_begun : (k : ℕ) → k < y.from.replayed → k < length (drop y.by.at begun)
     is_begun k low =
         let places : Places sv'.frame sv'.done = law.places shadow_words' sv' sw after.shadow_ring in
         let lists : Lists sv'.frame sv'.done sw.done = law.lists shadow_words' sv' sw after.shadow_ring in

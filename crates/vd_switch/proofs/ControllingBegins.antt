@@ -34,7 +34,7 @@ use Rattle.vd_switch.proofs.CommandLanes.{replay_keeps, command_keeps}
 use Rattle.vd_switch.proofs.CommandRests.{command_leaves, all_answered, replay_leaves}
 use Rattle.vd_switch.proofs.Controlling.{is_carrying, all_of, some_by, untouched_by, carrying, replaying}
 
-rested_stage : (s : Stage) → is_rested s ≡ true → s ≡ stage.Rested
+pub rested_stage : (s : Stage) → is_rested s ≡ true → s ≡ stage.Rested
 rested_stage stage.Rested is = refl
 rested_stage (stage.Offering n head) is = absurd (cc is)
 rested_stage stage.Taking is = absurd (cc is)

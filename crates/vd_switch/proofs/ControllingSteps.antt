@@ -40,6 +40,7 @@ use Rattle.vd_switch.specs.ShadowingLanes.{IsWinding}
 use Rattle.vd_switch.proofs.CommandGuest.{acks_stay}
 use Rattle.vd_switch.proofs.CommandJournal.{begun_taken}
 use Rattle.vd_switch.proofs.CommandLanes.{command_links}
+use Rattle.vd_switch.proofs.CommandAcks.{acks_kept}
 use Rattle.vd_switch.proofs.CommandStays.{carried_stays, answers_kept, gave_one}
 use Rattle.vd_switch.proofs.Controlling.{kind, is_carrying, all_of, some_by, carried_less, carried_first, parts_at, few_of, untouched_by, list_by, carries_by, carrying}
 
@@ -318,6 +319,7 @@ module _ {P Q E D : Type 0} (p : PortModel P) (q : PortModel Q) (plaw : IsLawful
         account = account;
         gave = gave t plain;
         answers = answers t plain;
+        acks = λ acts old. old;
       }
       by_made (inr (stay, leaves, t)) = record {
         words = words;
@@ -332,4 +334,5 @@ module _ {P Q E D : Type 0} (p : PortModel P) (q : PortModel Q) (plaw : IsLawful
         account = account;
         gave = inl refl;
         answers = λ acts old. old;
+        acks = acks_kept e d l law (start_of x k) begun now words shadow_words v w sv sw h.parts (shadow_view t leaves shadow_plain).done;
       }

@@ -29,3 +29,6 @@ pub mod CommandStays
 pub mod ControllingSteps
 pub mod ControllingBegins
 pub mod ControllingParties
+pub mod CommandAcks
+pub mod ControllingSettles
+pub mod ControllingSettings

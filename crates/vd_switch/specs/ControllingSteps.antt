@@ -20,6 +20,7 @@ use Rattle.vd_relay.specs.declared.state.State.{State}
 use Rattle.vd_relay.specs.Modes.{Opening, again}
 use Rattle.vd_relay.specs.ModeSteps.{OnGuestControl, OnShadowControl}
 use Rattle.vd_switch.specs.CommandLanes.{AreAnsweredTo, lane_commands}
+use Rattle.vd_switch.specs.CommandSettling.{AcksCount}
 use Rattle.vd_switch.specs.Controlling.{ControlStart, IsControlling, start_of}
 use Rattle.vd_switch.specs.LaneBag.{MayEndOne}
 
@@ -56,3 +57,5 @@ pub record RelayControlled {P Q E D : Type 0} (p : PortModel P) (q : PortModel Q
   pub account : lane_commands (start_of x k') begun ≡ lane_commands (start_of x k) begun
   pub gave : MayEndOne (length (offers v.done)) (length (lane_commands (start_of x k') begun)) (gives w.done) (gives view.done)
   pub answers : IsOneActMore w.done view.done → AreAnsweredTo (length x.opening.gives) v w → AreAnsweredTo (length x.opening.gives) v view
+  -- and the acks that were loaded count still, if no more than one act was added on the shadow ring
+  pub acks : IsOneActMore sv.done shadow_view.done → AcksCount sv.done → AcksCount shadow_view.done
