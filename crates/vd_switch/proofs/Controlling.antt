@@ -30,7 +30,8 @@ use Rattle.vd_switch.proofs.CommandReplays.{few_offers}
 
 -- ---- the first n of a list
 
-pub taken_more : {A : Type 0} (n m k : ℕ) (xs : List A) (b : A) → n ≤ m → slice_get (take n xs) k ≡ Some b → slice_get (take m xs) k ≡ Some b
+pub taken_more : {A : Type 0} (n m k : ℕ) (xs : List A) (b : A) → n ≤ m → slice_get (take n xs) k ≡ Some b
+    → slice_get (take m xs) k ≡ Some b
 taken_more n m k xs b le at =
     let low : k < length (take n xs) = slice_get_within (take n xs) k b at in
     let below : k < n = omega (arith, low, length-take n xs) in

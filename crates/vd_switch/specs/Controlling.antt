@@ -36,7 +36,8 @@ replay_list x = replay (again x.opening)
 
 -- a lane that carries after the first n of them
 abbrev pub start_after : ControlStart → ℕ → CommandStart
-start_after x n = record { from = carries_from x.opening n; replays = take n (replay_list x); old = x.old; by = x.by; settings = x.settings }
+start_after x n =
+    record { from = carries_from x.opening n; replays = take n (replay_list x); old = x.old; by = x.by; settings = x.settings }
 
 -- how many stand before the guest's commands: all of the list, or, once the relay carries, those that it replayed
 abbrev pub replayed_by : Mode → ℕ → ℕ → ℕ
@@ -46,8 +47,8 @@ replayed_by _ n all = all
 abbrev pub start_of : ControlStart → Control → CommandStart
 start_of x k = start_after x (replayed_by k.mode k.replay.next (length (replay_list x)))
 
--- the parts of a control lane: what its relay holds, the two rings and what the device of the shadow ring has journalled, and that the first
--- chains of the shadow ring carry the commands replayed
+-- the parts of a control lane: what its relay holds, the two rings and what the device of the shadow ring has journalled, and that the
+-- first chains of the shadow ring carry the commands replayed
 pub record IsControlling {E D : Type 0} (l : LayoutModel) (e : DeviceModel E) (d : DriverModel D) (x : ControlStart) (r : State E D)
     (k : Control) (s : Settings) (c : Counts) (begun : List Begun) (now : Settings) (words shadow_words : List ℕ) (v : DriverView)
     (w : DeviceView) (sv : DriverView) (sw : DeviceView) : Type 0 where

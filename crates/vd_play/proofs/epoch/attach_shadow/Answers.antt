@@ -80,7 +80,8 @@ returns-in-Ok-clause-ok g c =
         lane = record { lane = c.in-Ok.shadowing; words = c.in-Some-pop.ring.words };
         is = refl;
         words = refl;
-        relays = subst (λ z. Shadows e d z kit.driver kit.table.origins relay.state relay.counts) c.new.ensures.end (made.0 c.new.ensures.control).1;
+        relays = subst (λ z. Shadows e d z kit.driver kit.table.origins relay.state relay.counts) c.new.ensures.end
+            (made.0 c.new.ensures.control).1;
         fresh = made.2;
         plain = (made.0 c.new.ensures.control).0;
         attached = subst (λ (z : Terms). IsAttach e g.V.Device.party z None kit.device c.args.device.now c.to_shadow.new.device) ordered

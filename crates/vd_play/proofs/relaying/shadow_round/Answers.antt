@@ -130,7 +130,8 @@ returns-clause-goes g c = λ plan is q on k n h.
           let done = w.begin_wind_up.ensures in
           rw (w.lane-is, w.device-is) (goes_done (lawful g) h is guest relay off device w.begin_wind_up.new.self w.begin_wind_up.new.device
           (c.done.ensures.0 w.if-done.true) done.suspended
-          (done.plain c.relay_turn-by_relay.ensures.plain) (done.holds c.relay_turn-by_relay.ensures.plain) done.live done.winding done.target done.counts)
+          (done.plain c.relay_turn-by_relay.ensures.plain) (done.holds c.relay_turn-by_relay.ensures.plain) done.live done.winding
+          done.target done.counts)
           )
       | else-done w ↦
           rw (w.lane-is, w.device-is) (goes_shadowing (lawful g) h is guest relay off device

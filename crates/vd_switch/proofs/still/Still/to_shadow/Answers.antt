@@ -14,7 +14,8 @@ returns-in-Ok g c = (
     ap (λ r. r.control) c.new.ensures ∙ c.new-relay.ensures.plain off,
     λ ms w v stands drives paired fresh.
         let e = g.L.Device.DeviceEnd.device in let d = g.L.Driver.DriverEnd.driver in
-        let even = (g.met.L.Device.DeviceEnd.device_lawful.whole c.args.self.end w stands (still_of e c.args.self.end c.args.self.still)).1 in
+        let own = c.args.self in
+        let even = (g.met.L.Device.DeviceEnd.device_lawful.whole own.end w stands (still_of e own.end own.still)).1 in
         let sized = paired.size ∙ (c.requires.kit.3 w stands).0 in
         subst (λ r. Holds e d (start ms w) r.state r.counts w v) (sym c.new.ensures) (c.new-relay.ensures.holds off ms w v (record {
           serves = c.awake-guest.ensures.stands w stands;
