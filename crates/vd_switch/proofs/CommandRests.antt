@@ -91,7 +91,7 @@ module _ {E D : Type 0} (e : DeviceModel E) (d : DriverModel D) (l : LayoutModel
         | inr many ↦ omega (arith, low, winding.even, many)
       ]
 
-  given_all : length (gives w.done) ≡ before y + (length (drop y.by.at begun) - y.from.replayed)
+  pub given_all : length (gives w.done) ≡ before y + (length (drop y.by.at begun) - y.from.replayed)
   given_all =
       let winding = h.winds at_rest.0 in
       let lists : Lists sv.frame sv.done sw.done = law.lists shadow_words sv sw h.parts.shadow_ring in

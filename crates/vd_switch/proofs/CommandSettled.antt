@@ -31,7 +31,7 @@ use Rattle.vd_switch.proofs.CommandLists.{front, commands_count, command_at}
 use Rattle.vd_switch.proofs.CommandWords.{load_given}
 
 -- one more: it passes where it is a command
-one_more : (bytes : ℕ → List ℕ) (passes : ℕ → Bool) (a : ℕ) (xs ys : List ℕ) (c : Option Command) → command (bytes a) ≡ c
+pub one_more : (bytes : ℕ → List ℕ) (passes : ℕ → Bool) (a : ℕ) (xs ys : List ℕ) (c : Option Command) → command (bytes a) ≡ c
     → passes a ≡ is_some (command (bytes a)) → filter_map command (map bytes xs) ≡ filter_map command (map bytes ys)
     → filter_map command (map bytes (cond (passes a) (a ∷ xs) xs)) ≡ cons_option (command (bytes a)) (filter_map command (map bytes ys))
 one_more bytes passes a xs ys (Some c) is pass more =
@@ -52,7 +52,7 @@ all_commands bytes passes a (suc n) h = one_more bytes passes a (filter passes (
     (command (bytes a)) refl (h a (omega arith) (omega arith))
     (all_commands bytes passes (a + 1) n (λ k low high. h k (omega arith) (omega arith)))
 
-ok_at : (c : Option Command) → (ack_for c % 256 == 0) ≡ is_some c
+pub ok_at : (c : Option Command) → (ack_for c % 256 == 0) ≡ is_some c
 ok_at (Some c) = refl
 ok_at None = refl
 
