@@ -16,12 +16,13 @@ use Rattle.vd_play.specs.Epochs.{mode_at}
 use Rattle.vd_play.specs.Journal.{queue_epochs, guest_frame}
 use Rattle.vd_play.specs.Kits.{IsShadowRing, HasKits}
 use Rattle.vd_play.specs.Orders.{pass_order, shadow_order}
-use Rattle.vd_play.specs.Progress.{IsStopped, IsShadowing, RelayingBy, StoppedWith, InEpochWith, Stopped, InEpoch}
+use Rattle.vd_play.specs.Progress.{IsStopped, IsShadowing, RelayingBy, StoppedWith, InEpochWith, IsPlain, Stopped, InEpoch}
 use Rattle.vd_play.specs.Setting.{Setting, IsLawful}
 use Rattle.vd_play.proofs.Begin.{pass_begins}
 use Rattle.vd_play.proofs.KitsTaken.{kits_pass, some_kit, kit_is, next_kit, kits_shadow}
 use Rattle.vd_play.proofs.Lists.{some_same}
 use Rattle.vd_play.proofs.Renewals.{Renews}
+use Rattle.vd_play.proofs.ShadowLanes.{plain_stopped}
 use Rattle.vd_play.proofs.ShadowBegin.{shadow_starts}
 
 guest_framed : {D E G X C : Type 0} (s : Setting D E G X C) (law : IsLawful s) (plan : Plan) (q k : ℕ) (words : RingWords) (end : E)
@@ -46,6 +47,8 @@ module _ {L D E G X C : Type 0} (s : Setting D E G X C) (law : IsLawful s) (plan
           held = began.0;
           kits = subst (λ z. HasKits s.driver s.device s.layout plan q (k + 1) z.items) (sym same.2)
               (kits_pass s.driver s.device s.layout plan q k a.kits.items p.kits mode);
+          plain = subst (λ (z : Option (Relaying L D E)). IsPlain z) (sym same.1)
+              (plain_stopped s plan q k a.words a.still a.relaying a.relayed guest device p.held);
         },
         began.1,
       )
@@ -136,6 +139,7 @@ module _ {L D E G X C : Type 0} (s : Setting D E G X C) (law : IsLawful s) (plan
           (kit_is s.driver s.device s.layout plan q k a.kits.items p.kits less mode h.ring h.next) p.held n;
       kits = subst (HasKits s.driver s.device s.layout plan q (k + 1)) (sym same.1)
           (kits_shadow s.driver s.device s.layout plan q k a.kits.items p.kits less mode);
+      plain = subst (λ (z : Option (Relaying L D E)). IsPlain z) (sym h.is) h.plain;
     },
     h.attached.noted.counts.0,
   )

@@ -20,6 +20,7 @@ use Rattle.vd_play.specs.Progress.{IsStopped, StoppedWith, InEpochWith, AllInEpo
 use Rattle.vd_play.specs.Rings.{shadows}
 use Rattle.vd_play.specs.Rounds.{IsLast, AllDone}
 use Rattle.vd_play.specs.Setting.{Setting, IsLawful}
+use Rattle.vd_play.proofs.ShadowLanes.{plain_stopped}
 use Rattle.vd_play.proofs.Bounds.{at_index, many_epochs, chains_count}
 use Rattle.vd_play.proofs.Lists.{All-at}
 use Rattle.vd_play.proofs.Low.{IsLow, low_few, stopped_low, passing_low, relaying_low, relaying_rounds}
@@ -113,7 +114,11 @@ module _ {L D E G X C : Type 0} (s : Setting D E G X C) (plan : Plan) where
   all_closed k lanes bench each = record {
     at = λ q a b x ha hb hx.
         let h = each.at q a b x ha hb hx in
-        record { held = closed s plan q k a.words a.still a.relaying a.relayed b x h.held; kits = h.kits };
+        record {
+          held = closed s plan q k a.words a.still a.relaying a.relayed b x h.held;
+          kits = h.kits;
+          plain = plain_stopped s plan q (k + 1) a.words a.still a.relaying a.relayed b x h.held;
+        };
   }
 
   pub all_late : (law : IsLawful s) (k r : ℕ) (lanes : List (Lane L D E)) (bench : Bench G X) → 4294967296 ≤ r

@@ -4,7 +4,7 @@ use Rattle.std.proofs.lemmas.Bool.{false≢true}
 use Rattle.vd_words.specs.Plain.{RingWords}
 use Rattle.vd_machine.specs.File.{Plan}
 use Rattle.vd_play.specs.declared.floor.Relaying.{Relaying}
-use Rattle.vd_play.specs.Progress.{IsStopped, IsRelaying, InEpochWith}
+use Rattle.vd_play.specs.Progress.{IsStopped, IsRelaying, StoppedWith, InEpochWith, IsPlain}
 use Rattle.vd_play.specs.Setting.{Setting}
 
 pub some_in : {A : Type 0} (o : Option A) → is_some o ≡ true → (x : A) × (o ≡ Some x)
@@ -42,3 +42,21 @@ stopped_of s plan q k n words relayed guest device end on (Some y) None is none 
     subst (λ z. IsStopped s plan q (k + 1) n words z relayed guest device) (sym (Rattle.std.proofs.lemmas.Option.same_Some y end is)) h
 stopped_of s plan q k n words relayed guest device end on None o is none h = absurd (cc)
 stopped_of s plan q k n words relayed guest device end on (Some y) (Some x) is none h = absurd (cc)
+
+-- ---- a relay of a data queue
+
+pub plain_of : {L D E : Type 0} (x : Relaying L D E) (o : Option (Relaying L D E)) → o ≡ Some x → IsPlain o → x.lane.relay.control ≡ None
+plain_of x None is p = absurd (cc)
+plain_of x (Some y) is p =
+    subst (λ (z : Relaying _ _ _). z.lane.relay.control ≡ None) (Rattle.std.proofs.lemmas.Option.same_Some y x is) p
+
+pub plain_none : {L D E : Type 0} (o : Option (Relaying L D E)) → o ≡ None → IsPlain o
+plain_none None is = tt
+plain_none (Some x) is = absurd (cc)
+
+pub plain_stopped : {L D E G X C : Type 0} (s : Setting D E G X C) (plan : Plan) (q k : ℕ) (words : RingWords) (still : Option E)
+    (o : Option (Relaying L D E)) (relayed : ℕ) (guest : G) (device : X) → StoppedWith s plan q k words still o relayed guest device
+    → IsPlain o
+plain_stopped s plan q k words still None relayed guest device p = tt
+plain_stopped s plan q k words None (Some x) relayed guest device p = absurd p
+plain_stopped s plan q k words (Some end) (Some x) relayed guest device p = absurd p

@@ -25,7 +25,7 @@ use Rattle.vd_play.proofs.ShadowPace.{bounds_of, low_of}
 use Rattle.vd_play.proofs.ShadowRounds.{Works, shadowing_works, winding_works, winds_on, shadows_on}
 use Rattle.vd_play.proofs.ShadowEnds.{stops}
 use Rattle.vd_play.proofs.ShadowStops.{winds_from}
-use Rattle.vd_play.proofs.ShadowLanes.{relaying_of, epoch_of, stopped_of}
+use Rattle.vd_play.proofs.ShadowLanes.{relaying_of, epoch_of, stopped_of, plain_of, plain_none}
 
 -- ---- what the three calls promise, with the numbers of their steps that were no looks
 
@@ -42,6 +42,7 @@ pub record RelayTurned {L D E G X C : Type 0} (s : Setting D E G X C) (ms : List
     (x x1 : Relaying L D E) (b : ℕ) : Type 0 where
   pub few : b ≤ 4
   pub ring : words2.ring ≡ words1.ring
+  pub plain : x1.lane.relay.control ≡ None
   pub turns : RelayTurns s.layout s.device s.driver ms words1.words words2.words x.words.words x1.words.words x.lane.relay.state
       x1.lane.relay.state x.lane.relay.counts x1.lane.relay.counts b
 
@@ -56,6 +57,9 @@ pub record DeviceTurned {D E G X C : Type 0} (s : Setting D E G X C) (shadow1 sh
 module _ {L D E G X C : Type 0} {s : Setting D E G X C} (law : IsLawful s) {plan : Plan} {q : ℕ} {on : Bool} {k n : ℕ} {lane : Lane L D E}
     {guest : G} {device : X} (h : InEpoch s plan q on k n lane guest device) {ms : List Mapping} (tree : ms ≡ tree_map plan)
     {x : Relaying L D E} {words1 : RingWords} {guest1 : G} {a : ℕ} (t : GuestTurned s lane x words1 guest guest1 a) where
+  pub is_plain : x.lane.relay.control ≡ None
+  is_plain = plain_of x lane.relaying t.is h.plain
+
   abbrev By : Bool → Type 0
   By w = RelayingBy w s plan q k n lane.words x.words.words x.lane.relay.state x.lane.relay.counts lane.relayed guest device
 
@@ -157,6 +161,7 @@ module _ {L D E G X C : Type 0} {s : Setting D E G X C} (law : IsLawful s) {plan
             held = stopped_of s plan q k (n + 1) words2 (lane.relayed + b) guest1 device x1.lane.relay.state.guest on still relaying kept
                 gone y.0;
             kits = h.kits;
+            plain = plain_none relaying gone;
           },
           y.1,
         )
@@ -170,15 +175,16 @@ module _ {L D E G X C : Type 0} {s : Setting D E G X C} (law : IsLawful s) {plan
         (guest_at true p) (relay_at true p) live
 
     -- a lane that goes on with a relay
-    goes_with : (x2 : Relaying L D E) (w : Bool) (device1 : X) (made : ℕ) → x2.lane.relay.state.winding ≡ w
+    goes_with : (x2 : Relaying L D E) (w : Bool) (device1 : X) (made : ℕ) → x2.lane.relay.control ≡ None → x2.lane.relay.state.winding ≡ w
         → RelayingBy w s plan q k (n + 1) words2 x2.words.words x2.lane.relay.state x2.lane.relay.counts (lane.relayed + b) guest1 device1
         → steps s (lane.relayed + b) guest1 device1 ≡ steps s lane.relayed guest device + made → Goes lane.still (Some x2) device1 made
-    goes_with x2 w device1 made is p counted = (
+    goes_with x2 w device1 made plain is p counted = (
       record {
         held = epoch_of s plan q k (n + 1) words2 x2 (lane.relayed + b) guest1 device1 on lane.still (Some x2) held.0 held.1 refl
             (subst (λ (z : Bool). RelayingBy z s plan q k (n + 1) words2 x2.words.words x2.lane.relay.state x2.lane.relay.counts
             (lane.relayed + b) guest1 device1) (sym is) p);
         kits = h.kits;
+        plain = plain;
       },
       counted,
     )
@@ -187,7 +193,7 @@ module _ {L D E G X C : Type 0} {s : Setting D E G X C} (law : IsLawful s) {plan
     pub goes_winding : is_rested x1.lane.relay.state.stage ≡ false → x1.lane.relay.state.winding ≡ true
         → Goes lane.still (Some x1) device (a + b)
     goes_winding live winding =
-        let y = winds_by winds refl held.2 live winding in goes_with x1 true device (a + b) winding y.0 y.1
+        let y = winds_by winds refl held.2 live winding in goes_with x1 true device (a + b) u.plain winding y.0 y.1
 
     -- ---- the device's, of a relay that doesn't wind up
 
@@ -227,20 +233,20 @@ module _ {L D E G X C : Type 0} {s : Setting D E G X C} (law : IsLawful s) {plan
             let y = shadows_on s law plan q k n a b t.few u.few d z.few lane.words words1 words2 x.words.words x1.words.words
             shadow2.words x.lane.relay.state x1.lane.relay.state x.lane.relay.counts x1.lane.relay.counts lane.relayed guest guest1 device
             device1 shadows t.ring u.ring (guest_at false shadows) (relay_at false shadows) device_at live in
-            goes_with (record { lane = x1.lane; words = shadow2 }) false device1 (a + b + d) off y.0 y.1
+            goes_with (record { lane = x1.lane; words = shadow2 }) false device1 (a + b + d) u.plain off y.0 y.1
 
         -- it is done, and suspended; its relay begins to wind up
         pub goes_done : (lane2 : Shadowing L D E) (device2 : X) → s.party.is_done device1
-            → ((end : E) × IsSuspend s.device s.party device1 device2 end)
+            → ((end : E) × IsSuspend s.device s.party device1 device2 end) → lane2.relay.control ≡ None
             → ((z : Start) (w : DeviceView) (v : DriverView) → Holds s.device s.driver z x1.lane.relay.state x1.lane.relay.counts w v
             → Holds s.device s.driver z lane2.relay.state lane2.relay.counts w v)
             → is_rested lane2.relay.state.stage ≡ false → lane2.relay.state.winding ≡ true
             → ((sw : DeviceView) → s.party.holds device1 sw → lane2.relay.state.target ≡ length (gives sw.done))
             → lane2.relay.counts ≡ x1.lane.relay.counts
             → Goes lane.still (Some (record { lane = lane2; words = shadow2 })) device2 (a + b + d)
-        goes_done lane2 device2 done suspended holds live winding target counts =
+        goes_done lane2 device2 done suspended plain holds live winding target counts =
             let y = winds_from s law plan q k n a b t.few u.few d z.few lane.words words1 words2 x.words.words x1.words.words
             shadow2.words x.lane.relay.state x1.lane.relay.state lane2.relay.state x.lane.relay.counts x1.lane.relay.counts
             lane2.relay.counts lane.relayed guest guest1 device device1 device2 suspended.0 shadows t.ring u.ring (guest_at false shadows)
             (relay_at false shadows) device_at done suspended.1 holds live winding target counts in
-            goes_with (record { lane = lane2; words = shadow2 }) true device2 (a + b + d) winding y.0 y.1
+            goes_with (record { lane = lane2; words = shadow2 }) true device2 (a + b + d) plain winding y.0 y.1

@@ -44,4 +44,5 @@ pub record HasShadowed {L D E X C : Type 0} (d : DriverModel D) (e : DeviceModel
   pub words : lane.words ≡ ring.words
   pub relays : Shadows e d end ring.kit.driver ring.kit.table.origins lane.lane.relay.state lane.lane.relay.counts
   pub fresh : IsNew lane.lane.relay.state lane.lane.relay.counts
+  pub plain : lane.lane.relay.control ≡ None
   pub attached : IsAttach e m t None ring.kit.device x y

@@ -184,6 +184,11 @@ InEpochWith s plan q on k n words None (Some x) relayed guest device = If on (Is
 InEpochWith s plan q on k n words (Some end) None relayed guest device = IsStopped s plan q (k + 1) n words end relayed guest device
 InEpochWith s plan q on k n words (Some end) (Some x) relayed guest device = ⊥
 
+-- a relay is one of a data queue
+abbrev pub IsPlain : {L D E : Type 0} → Option (Relaying L D E) → Type 0
+IsPlain None = Unit {0}
+IsPlain (Some x) = x.lane.relay.control ≡ None
+
 -- the lane is still before epoch k, and has the shadow rings from there on
 pub record Stopped {L D E G X C : Type 0} (s : Setting D E G X C) (plan : Plan) (q k : ℕ) (lane : Lane L D E) (guest : G) (device : X)
     : Type 0 where
@@ -195,6 +200,7 @@ pub record InEpoch {L D E G X C : Type 0} (s : Setting D E G X C) (plan : Plan) 
     (guest : G) (device : X) : Type 0 where
   pub held : InEpochWith s plan q on k n lane.words lane.still lane.relaying lane.relayed guest device
   pub kits : HasKits s.driver s.device s.layout plan q (k + 1) lane.kits.items
+  pub plain : IsPlain lane.relaying
 
 -- ---- all lanes
 

@@ -20,7 +20,7 @@ use vd_turns::{Draws, device_turn, guest_turn, relay_turn};
 /// Keeps the end of the guest's ring in the lane, which a relay that rests hands back.
 #[inline(never)]
 fn stop<L: Layout>(relaying: &mut Option<Relaying<L>>, still: &mut Option<L::Device>)
-    requires rested { IsSomeAnd relaying.old (λ x. (is_rested x.lane.relay.state.stage ≡ true)
+    requires rested { IsSomeAnd relaying.old (λ x. (is_rested x.lane.relay.state.stage ≡ true) × (x.lane.relay.control ≡ None)
         × ((z : Start) × (w : DeviceView) × (v : DriverView)
         × Holds L.Device.device L.Driver.driver z x.lane.relay.state x.lane.relay.counts w v)) }
     ensures gone { relaying.new ≡ None }

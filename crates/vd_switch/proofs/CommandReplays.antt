@@ -25,7 +25,7 @@ use Rattle.vd_switch.specs.CommandLanes.{CommandStart, IsReplaying}
 use Rattle.vd_switch.specs.CommandLaneSteps.{ReplayCommanded}
 
 -- no more chains are offered than there are commands
-few_offers : (st : ReplayStage) (cs : List Command) (n : ℕ) (g : Frame) (o : List DriverDone) → IsAt st cs n g o
+pub few_offers : (st : ReplayStage) (cs : List Command) (n : ℕ) (g : Frame) (o : List DriverDone) → IsAt st cs n g o
     → length (offers o) ≤ length cs
 few_offers First cs n g o h = omega (arith, h.0, h.1.offered)
 few_offers Second cs n g o h = omega (arith, h.0, h.1.offered)

@@ -24,3 +24,8 @@ pub mod CommandBegins
 pub mod CommandRests
 pub mod CommandAnswers
 pub mod CommandSettled
+pub mod Controlling
+pub mod CommandStays
+pub mod ControllingSteps
+pub mod ControllingBegins
+pub mod ControllingParties

@@ -1,5 +1,5 @@
 -- A still lane's end.
-use Rattle.std.proofs.Common.{◌≡◌, ◌⊎◌, ◌||◌, Bool, true, false, refl, inl, inr}
+use Rattle.std.proofs.Common.{◌≡◌, ◌⊎◌, ◌||◌, Bool, true, false, Option, Some, None, IsSomeAnd, refl, inl, inr}
 use Rattle.vd_layout.specs.Device.{DeviceModel, IsStill}
 use Rattle.vd_switch.specs.Stills.{is_still}
 
@@ -9,3 +9,12 @@ still_of e end is = one_of (e.resting end) (e.fresh end) is
     one_of : (a b : Bool) → (a || b) ≡ true → (a ≡ true) ⊎ (b ≡ true)
     one_of true b is = inl refl
     one_of false b is = inr is
+
+-- a rested end is one
+pub still_rests : {E : Type 0} (e : DeviceModel E) (end : E) → e.resting end ≡ true → is_still e end ≡ true
+still_rests e end is = rw is refl
+
+-- what follows of a value follows of the one that an option has
+pub some_of : {A : Type 0} {P Q : A → Type 0} (o : Option A) → IsSomeAnd o P → ((x : A) → P x → Q x) → IsSomeAnd o Q
+some_of None p f = absurd p
+some_of (Some x) p f = f x p

@@ -9,3 +9,5 @@ pub mod ShadowingSteps
 pub mod CommandLanes
 pub mod CommandLaneSteps
 pub mod CommandSettling
+pub mod Controlling
+pub mod ControllingSteps

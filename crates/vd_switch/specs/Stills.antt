@@ -5,11 +5,18 @@ use Rattle.vd_ring.specs.declared.driver.DriverView.{DriverView}
 use Rattle.vd_ring.specs.declared.device.DeviceView.{DeviceView}
 use Rattle.vd_layout.specs.Driver.{DriverModel}
 use Rattle.vd_layout.specs.Device.{DeviceModel}
+use Rattle.vd_layout.specs.Layout.{LayoutModel}
+use Rattle.vd_control.specs.declared.settings.Settings.{Settings}
 use Rattle.vd_table.specs.declared.Origin.{Origin}
+use Rattle.vd_table.specs.declared.ShadowTable.{ShadowTable}
+use Rattle.vd_relay.specs.declared.control.Control.{Control}
 use Rattle.vd_relay.specs.declared.counts.Counts.{Counts}
 use Rattle.vd_relay.specs.declared.state.State.{State}
-use Rattle.vd_relay.specs.Pairing.{ArePaired}
+use Rattle.vd_relay.specs.ModeEnds.{opening}
+use Rattle.vd_relay.specs.Modes.{ControlHolds}
 use Rattle.vd_relay.specs.Moving.{Holds, start}
+use Rattle.vd_relay.specs.Pairing.{ArePaired, AreControls}
+use Rattle.vd_relay.specs.Replays.{IsShadowRing}
 use Rattle.vd_relay.specs.Stages.{is_rested}
 
 -- it rests or is fresh
@@ -20,6 +27,12 @@ is_still e end = e.resting end || e.fresh end
 abbrev pub Shadows : {E D : Type 0} → DeviceModel E → DriverModel D → E → D → List (Option Origin) → State E D → Counts → Type 0
 Shadows e d end shadow table r c = (ms : List Mapping) (w : DeviceView) (v : DriverView) → e.stands end w → d.stands shadow v
     → ArePaired ms w.frame v.frame → v.done ≡ [] → Holds e d (start ms w) r c w v
+
+-- a relay of a control queue was made of them and of the lane's settings, which it replays, or not: from there on it holds both rings
+abbrev pub Replays : {E D : Type 0} → LayoutModel → DeviceModel E → DriverModel D → Bool → Settings → E → D → ShadowTable → State E D
+    → Control → Counts → Type 0
+Replays l e d replay s end shadow table r k c = (w : DeviceView) (v : DriverView) → e.stands end w → d.stands shadow v
+    → IsShadowRing l v.frame → AreControls w.frame v.frame → v.done ≡ [] → ControlHolds l e d (opening s replay w) r k s c w v
 
 -- a new relay has made no step, winds nothing up, and its end doesn't rest
 pub record IsNew {E D : Type 0} (r : State E D) (c : Counts) : Type 0 where

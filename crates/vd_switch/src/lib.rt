@@ -4,6 +4,8 @@
 
 pub mod command_laws;
 pub mod command_step_laws;
+pub mod control_laws;
+pub mod control_step_laws;
 mod fault;
 mod kit;
 pub mod laws;

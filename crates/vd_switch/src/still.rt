@@ -1,5 +1,5 @@
 //! A lane between two epochs.
-ghost use Rattle.std.specs.Prelude.{◌≡◌, ℕ, ◌≤◌, ◌<◌, ◌+◌, ◌^◌, None, Some, true, false, length, MatchResult};
+ghost use Rattle.std.specs.Prelude.{◌≡◌, ◌↔◌, ℕ, ◌≤◌, ◌<◌, ◌+◌, ◌^◌, None, Some, IsSomeAnd, true, false, length, MatchResult};
 ghost use Rattle.std.specs.Option.{option_copied};
 ghost use Rattle.vd_control.specs.Settings.{default, HasPairs};
 ghost use Rattle.vd_model.specs.declared.features.Features.{Features};
@@ -7,9 +7,9 @@ ghost use Rattle.vd_layout.specs.Begun.{DeviceOp};
 ghost use Rattle.vd_layout.specs.Device.{IsStill};
 ghost use Rattle.vd_ring.specs.declared.device.DeviceView.{DeviceView};
 ghost use Rattle.vd_bus.specs.Device.{IsAttach, IsRefused, IsReset};
-ghost use Rattle.vd_bus.specs.Orders.{IsData};
+ghost use Rattle.vd_bus.specs.Orders.{IsData, IsControl};
 ghost use Rattle.vd_switch.specs.Kits.{IsKit};
-ghost use Rattle.vd_switch.specs.Stills.{is_still, Shadows, IsNew};
+ghost use Rattle.vd_switch.specs.Stills.{is_still, Shadows, Replays, IsNew};
 
 use crate::fault::DeviceFault;
 use crate::kit::Kit;
@@ -116,8 +116,8 @@ impl<L: Layout> Still<L> {
         }
     }
 
-    /// Lets the device work on a shadow ring, and a relay stand between it and the guest's ring. A refusal leaves the lane and the kit
-    /// as they were.
+    /// Lets the device work on a shadow ring, and a relay stand between it and the guest's ring. Of a control lane the relay may first
+    /// replay the lane's settings. A refusal leaves the lane and the kit as they were.
     pub fn to_shadow<V: Device<L>>(
         self,
         kit: Kit<L>,
@@ -126,13 +126,12 @@ impl<L: Layout> Still<L> {
         order: &Order,
         control: Option<&V>,
     ) -> Result<Shadowing<L>, DeviceFault<L>>
-        requires lane { self.control ≡ false }
-        requires once { replay ≡ false }
+        requires once { replay ≡ true → self.control ≡ true }
         requires pairs { HasPairs self.settings }
         requires shadow { 16 ≤ order.now.ring }
-        requires data { IsData order.now.queue }
+        requires queue { (self.control ≡ true) ↔ IsControl order.now.queue }
         requires kit { (size : ℕ) × (f : Features)
-            × IsKit L.Driver.driver L.Device.device L.layout size f false kit.driver kit.device kit.table
+            × IsKit L.Driver.driver L.Device.device L.layout size f self.control kit.driver kit.device kit.table
             × ((w : DeviceView) → L.Device.device.stands self.end w → (w.frame.size ≡ size) × (w.frame.features ≡ f)) }
         requires stands { (w : DeviceView) × L.Device.device.stands self.end w }
         requires base { L.Device.device.base kit.device ≡ order.now.base.0 }
@@ -142,7 +141,10 @@ impl<L: Layout> Still<L> {
         requires few { length (V.party.begun device.old) + order.now.count < 2 ^ 32 }
         ensures { MatchResult
             result
-            (λ lane. Shadows L.Device.device L.Driver.driver self.end kit.driver kit.table.origins lane.relay.state lane.relay.counts
+            (λ lane. (self.control ≡ false → (lane.relay.control ≡ None)
+            × Shadows L.Device.device L.Driver.driver self.end kit.driver kit.table.origins lane.relay.state lane.relay.counts)
+            × (self.control ≡ true → IsSomeAnd lane.relay.control (λ k. Replays L.layout L.Device.device L.Driver.driver replay
+            self.settings self.end kit.driver kit.table lane.relay.state k lane.relay.counts))
             × IsNew lane.relay.state lane.relay.counts × (lane.relay.settings ≡ self.settings)
             × IsAttach L.Device.device V.party order.now (option_copied control.entry) kit.device device.old device.new)
             (λ fault. (fault.lane.end ≡ self.end) × (fault.lane.control ≡ self.control) × (fault.lane.settings ≡ self.settings)

@@ -1,5 +1,5 @@
 //! A relay's turn: single accesses of the plain words of its two rings, until it looked, rests, or has made as many as were drawn.
-ghost use Rattle.std.specs.Prelude.{◌≡◌, ◌≤◌, ℕ, false, List};
+ghost use Rattle.std.specs.Prelude.{◌≡◌, ◌≤◌, ℕ, None, false, List};
 ghost use Rattle.vd_model.specs.declared.chain.Piece.{Piece};
 ghost use Rattle.vd_model.specs.declared.record.Begun.{Begun};
 ghost use Rattle.vd_ring.specs.declared.device.DeviceView.{DeviceView};
@@ -24,9 +24,11 @@ fn relay_access<L: Layout, P: Port, Q: Port>(
     tree: &IovaTree,
 ) -> Move
     requires live { is_rested lane.old.relay.state.stage ≡ false }
+    requires plain { lane.old.relay.control ≡ None }
     requires on { (ws : List ℕ) × (us : List ℕ) × P.port.plain guest_port.old ws × Q.port.plain shadow_port.old us
         × CanRelay L.layout L.Device.device L.Driver.driver tree.now.mappings ws us lane.old.relay.state lane.old.relay.counts }
-    ensures { (ws : List ℕ) (us : List ℕ) (z : Start) (old : List (List Piece × ℕ)) (begun : List Begun) (by : Attached)
+    ensures plain { lane.new.relay.control ≡ None }
+    ensures step { (ws : List ℕ) (us : List ℕ) (z : Start) (old : List (List Piece × ℕ)) (begun : List Begun) (by : Attached)
         (v : DriverView) (w : DeviceView) (sv : DriverView) (sw : DeviceView) → P.port.plain guest_port.old ws
         → Q.port.plain shadow_port.old us → tree.now.mappings ≡ z.map
         → IsShadowing L.Device.device L.Driver.driver L.layout z old lane.old.relay.state begun by ws us v w sv sw
@@ -45,10 +47,12 @@ fn relay_step<L: Layout>(
     tree: &IovaTree,
 ) -> Move
     requires live { is_rested lane.old.relay.state.stage ≡ false }
+    requires plain { lane.old.relay.control ≡ None }
     requires on { CanRelay L.layout L.Device.device L.Driver.driver tree.now.mappings words.old.words shadow.old.words
         lane.old.relay.state lane.old.relay.counts }
     ensures ring { words.new.ring ≡ words.old.ring }
     ensures shadow_ring { shadow.new.ring ≡ shadow.old.ring }
+    ensures plain { lane.new.relay.control ≡ None }
     ensures step { RelaySteps L.layout L.Device.device L.Driver.driver tree.now.mappings words.old.words words.new.words shadow.old.words
         shadow.new.words lane.old.relay.state lane.new.relay.state lane.old.relay.counts lane.new.relay.counts result }
 {
@@ -67,11 +71,13 @@ fn relay_drawn<L: Layout>(
     draws: &mut Draws,
 ) -> u64
     requires live { is_rested lane.old.relay.state.stage ≡ false }
+    requires plain { lane.old.relay.control ≡ None }
     requires on { CanRelay L.layout L.Device.device L.Driver.driver tree.now.mappings words.old.words shadow.old.words
         lane.old.relay.state lane.old.relay.counts }
     ensures few { result ≤ 4 }
     ensures ring { words.new.ring ≡ words.old.ring }
     ensures shadow_ring { shadow.new.ring ≡ shadow.old.ring }
+    ensures plain { lane.new.relay.control ≡ None }
     ensures turn { RelayTurns L.layout L.Device.device L.Driver.driver tree.now.mappings words.old.words words.new.words shadow.old.words
         shadow.new.words lane.old.relay.state lane.new.relay.state lane.old.relay.counts lane.new.relay.counts result }
 {
@@ -94,11 +100,13 @@ fn relay_once<L: Layout>(
     tree: &IovaTree,
 ) -> u64
     requires live { is_rested lane.old.relay.state.stage ≡ false }
+    requires plain { lane.old.relay.control ≡ None }
     requires on { CanRelay L.layout L.Device.device L.Driver.driver tree.now.mappings words.old.words shadow.old.words
         lane.old.relay.state lane.old.relay.counts }
     ensures few { result ≤ 4 }
     ensures ring { words.new.ring ≡ words.old.ring }
     ensures shadow_ring { shadow.new.ring ≡ shadow.old.ring }
+    ensures plain { lane.new.relay.control ≡ None }
     ensures turn { RelayTurns L.layout L.Device.device L.Driver.driver tree.now.mappings words.old.words words.new.words shadow.old.words
         shadow.new.words lane.old.relay.state lane.new.relay.state lane.old.relay.counts lane.new.relay.counts result }
 {
@@ -118,11 +126,13 @@ pub fn relay_turn<L: Layout>(
     draws: &mut Draws,
 ) -> u64
     requires live { is_rested lane.old.relay.state.stage ≡ false }
+    requires plain { lane.old.relay.control ≡ None }
     requires on { CanRelay L.layout L.Device.device L.Driver.driver tree.now.mappings words.old.words shadow.old.words
         lane.old.relay.state lane.old.relay.counts }
     ensures few { result ≤ 4 }
     ensures ring { words.new.ring ≡ words.old.ring }
     ensures shadow_ring { shadow.new.ring ≡ shadow.old.ring }
+    ensures plain { lane.new.relay.control ≡ None }
     ensures turn { RelayTurns L.layout L.Device.device L.Driver.driver tree.now.mappings words.old.words words.new.words shadow.old.words
         shadow.new.words lane.old.relay.state lane.new.relay.state lane.old.relay.counts lane.new.relay.counts result }
 {

@@ -37,7 +37,7 @@ returns-clause-ends g c = λ plan q k h.
     let z = c.pass_alone.ensures.ends plan q k lane.relayed p.1 in
     let x = in_epoch_stopped s plan q true k z.0.0 c.pass_alone.new.words c.pass_alone.new.still lane.relaying lane.relayed
     c.pass_alone.new.guest c.pass_alone.new.device z.0.1 z.0.2 c.requires.alone z.0.3 in
-    ((z.0.0, record { held = x; kits = h.kits }), omega (arith, z.1))
+    ((z.0.0, record { held = x; kits = h.kits; plain = h.plain }), omega (arith, z.1))
 
 pub overflow_add-before : goal.overflow_add-before
 overflow_add-before g c =

@@ -1,4 +1,5 @@
-use Rattle.std.proofs.Common.{◌≡◌, ◌-◌, Some, None, false, length, slice_get, sym, refl, ap, subst, ◌∙◌}
+use Rattle.std.proofs.Common.{◌≡◌, ◌-◌, Some, None, false, length, slice_get, sym, refl, ap, subst, arith, ◌∙◌}
+use Rattle.std.proofs.lemmas.Bool.{false≢true}
 use Rattle.vd_control.specs.Settings.{HasPairs}
 use Rattle.vd_bus.specs.Bus.{BusState}
 use Rattle.vd_bus.specs.BusRings.{terms}
@@ -14,6 +15,13 @@ use Rattle.vd_play.proofs.epoch.attach_shadow.Goals as goal
 
 pub to_shadow-requires-clause-pairs : goal.to_shadow-requires-clause-pairs
 to_shadow-requires-clause-pairs g c = subst HasPairs (sym c.new.ensures.settings) default_pairs
+
+pub to_shadow-requires-clause-queue : goal.to_shadow-requires-clause-queue
+to_shadow-requires-clause-queue g c =
+    let ordered : c.order-order.result.queue ≡ c.args.queue = ap (λ (z : Terms). z.queue) c.order-order.ensures in (
+      λ on. absurd (false≢true (sym c.new.ensures.control ∙ on)),
+      λ of. absurd (omega (arith, of, ordered, c.requires.can.low)),
+    )
 
 pub to_shadow-requires-clause-kit : goal.to_shadow-requires-clause-kit
 to_shadow-requires-clause-kit g c =
@@ -72,8 +80,9 @@ returns-in-Ok-clause-ok g c =
         lane = record { lane = c.in-Ok.shadowing; words = c.in-Some-pop.ring.words };
         is = refl;
         words = refl;
-        relays = subst (λ z. Shadows e d z kit.driver kit.table.origins relay.state relay.counts) c.new.ensures.end made.0;
-        fresh = made.1;
+        relays = subst (λ z. Shadows e d z kit.driver kit.table.origins relay.state relay.counts) c.new.ensures.end (made.0 c.new.ensures.control).1;
+        fresh = made.2;
+        plain = (made.0 c.new.ensures.control).0;
         attached = subst (λ (z : Terms). IsAttach e g.V.Device.party z None kit.device c.args.device.now c.to_shadow.new.device) ordered
             made.3;
       },

@@ -52,7 +52,7 @@ returns-then-is_some-clause-goes g c = λ plan q on k r h.
     let x = waits_with s plan q (record { layout = g.met.L.Layout.lawful; guest = g.met.G.Guest.lawful; party = g.met.V.Device.lawful })
     on k r c.guest_turn-by_guest.result c.guest_turn-by_guest.ensures.few lane.words _ lane.still lane.relaying lane.relayed
     c.args.guest.now _ c.args.device.now some c.guest_turn-by_guest.ensures.ring h.held c.guest_turn-by_guest.ensures.turn in
-    (record { held = x.0; kits = h.kits }, x.1)
+    (record { held = x.0; kits = h.kits; plain = h.plain }, x.1)
 
 pub returns-then-not-done-clause-goes : goal.returns-then-not-done-clause-goes
 returns-then-not-done-clause-goes g c = λ plan q on k r h.
@@ -70,7 +70,7 @@ returns-then-not-done-clause-goes g c = λ plan q on k r h.
     c.guest_turn-by_guest.ensures.ring c.device_turn-by_device.ensures.ring t u live in
     let held = in_epoch_none s plan q on k (r + 1) c.device_turn-by_device.new.words lane.still lane.relaying lane.relayed
     c.guest_turn-by_guest.new.guest c.device_turn-by_device.new.device none c.requires.alone f.0 x.0 in
-    (record { held = held; kits = h.kits }, x.1)
+    (record { held = held; kits = h.kits; plain = h.plain }, x.1)
 
 pub returns-clause-goes : goal.returns-clause-goes
 returns-clause-goes g c = λ plan q on k r h.
@@ -85,4 +85,4 @@ returns-clause-goes g c = λ plan q on k r h.
     let x = suspends s plan q (record { layout = g.met.L.Layout.lawful; guest = g.met.G.Guest.lawful; party = g.met.V.Device.lawful })
     k r _ _ c.guest_turn-by_guest.ensures.few c.device_turn-by_device.ensures.few _ _ _ _ lane.relaying lane.relayed _ _ _ _ _ on p
     c.guest_turn-by_guest.ensures.ring c.device_turn-by_device.ensures.ring t u done c.requires.alone c.suspend.ensures in
-    (record { held = x.0; kits = h.kits }, x.1)
+    (record { held = x.0; kits = h.kits; plain = h.plain }, x.1)

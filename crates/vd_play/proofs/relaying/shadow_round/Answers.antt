@@ -5,7 +5,7 @@ use Rattle.vd_relay.specs.Stages.{is_rested}
 use Rattle.vd_play.specs.Setting.{setting_of, IsLawful}
 use Rattle.vd_play.proofs.ShadowRounds.{works_by}
 use Rattle.vd_play.proofs.ShadowLanes.{some_in, relaying_of}
-use Rattle.vd_play.proofs.ShadowTurns.{GuestTurned, RelayTurned, DeviceTurned, can_relay, few_relayed, holds_after, goes_rested, goes_winding, is_live, can_serve, device_holds, device_carries, goes_shadowing, goes_done}
+use Rattle.vd_play.proofs.ShadowTurns.{GuestTurned, RelayTurned, DeviceTurned, is_plain, can_relay, few_relayed, holds_after, goes_rested, goes_winding, is_live, can_serve, device_holds, device_carries, goes_shadowing, goes_done}
 use Rattle.vd_play.proofs.relaying.shadow_round.Given.{Over}
 use Rattle.vd_play.proofs.relaying.shadow_round.Goals as goal
 use Rattle.vd_play.proofs.relaying.shadow_round.Goals.{In-Some, After-relay_turn-by_relay, After-device_turn-by_device, then-done, else-done}
@@ -34,6 +34,7 @@ by_relay : (g : Over) (c : After-relay_turn-by_relay g) → RelayTurned
 by_relay g c = record {
   few = c.relay_turn-by_relay.ensures.few;
   ring = c.relay_turn-by_relay.ensures.ring;
+  plain = c.relay_turn-by_relay.ensures.plain;
   turns = c.relay_turn-by_relay.ensures.turn;
 }
 
@@ -60,6 +61,11 @@ relay_turn-by_relay-requires-clause-on g c =
     let at = (goal.at.relay_turn-by_relay-requires-clause-on g c).In-Some in
     can_relay (lawful g) c.requires.lane.6 c.requires.lane.5 (by_guest g at)
 
+pub relay_turn-by_relay-requires-clause-plain : goal.relay_turn-by_relay-requires-clause-plain
+relay_turn-by_relay-requires-clause-plain g c =
+    let at = (goal.at.relay_turn-by_relay-requires-clause-plain g c).In-Some in
+    is_plain c.requires.lane.6 (by_guest g at)
+
 pub overflow_add-lane : goal.overflow_add-lane
 overflow_add-lane g c =
     let at = goal.at.overflow_add-lane g c in
@@ -72,9 +78,13 @@ stop-requires g c =
     record {
       rested = (
         rests,
+        c.relay_turn-by_relay.ensures.plain,
         holds_after (lawful g) c.requires.lane.6 c.requires.lane.5 (by_guest g at.In-Some) (by_relay g at.After-relay_turn-by_relay),
       );
     }
+
+pub begin_wind_up-requires-clause-commands : goal.begin_wind_up-requires-clause-commands
+begin_wind_up-requires-clause-commands g c = λ k is. absurd (cc (c.relay_turn-by_relay.ensures.plain, is))
 
 pub device_turn-by_device-requires-clause-live : goal.device_turn-by_device-requires-clause-live
 device_turn-by_device-requires-clause-live g c =
@@ -119,7 +129,8 @@ returns-clause-goes g c = λ plan is q on k n h.
       | then-done w ↦ (
           let done = w.begin_wind_up.ensures in
           rw (w.lane-is, w.device-is) (goes_done (lawful g) h is guest relay off device w.begin_wind_up.new.self w.begin_wind_up.new.device
-          (c.done.ensures.0 w.if-done.true) done.suspended done.holds done.live done.winding done.target done.counts)
+          (c.done.ensures.0 w.if-done.true) done.suspended
+          (done.plain c.relay_turn-by_relay.ensures.plain) (done.holds c.relay_turn-by_relay.ensures.plain) done.live done.winding done.target done.counts)
           )
       | else-done w ↦
           rw (w.lane-is, w.device-is) (goes_shadowing (lawful g) h is guest relay off device

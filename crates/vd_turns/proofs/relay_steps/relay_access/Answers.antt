@@ -3,7 +3,7 @@ use Rattle.vd_turns.proofs.Relaying.{relay_on}
 use Rattle.vd_turns.proofs.relay_steps.relay_access.Goals as goal
 
 pub step-requires-clause-own : goal.step-requires-clause-own
-step-requires-clause-own g c =
+step-requires-clause-own g c = λ plain.
     let r = c.requires.on in
     let o = r.4 in
     let lane = o.8 in
@@ -20,8 +20,11 @@ step-requires-clause-own g c =
       own_plain_driver g.Q.Port.port g.met.Q.Port.lawful d e l law c.args.shadow_port.now r.1 o.6 o.7 r.3 lane.shadow_ring,
     )
 
-pub returns : goal.returns
-returns g c = λ ws us z old begun by v w sv sw plain shadow_plain is lane holds.
+pub step-requires-clause-commands : goal.step-requires-clause-commands
+step-requires-clause-commands g c = λ k is. absurd (cc (c.requires.plain, is))
+
+pub returns-clause-step : goal.returns-clause-step
+returns-clause-step g c = λ ws us z old begun by v w sv sw plain shadow_plain is lane holds.
     let d = g.L.Driver.DriverEnd.driver in
     let e = g.L.Device.DeviceEnd.device in
     let l = g.L.Layout.layout in
@@ -33,4 +36,4 @@ returns g c = λ ws us z old begun by v w sv sw plain shadow_plain is lane holds
     relay_on p g.met.P.Port.lawful q g.met.Q.Port.lawful e d l law z old begun by ws us v w sv sw c.args.lane.now.relay.state
     c.step.new.self.relay.state c.args.lane.now.relay.counts c.step.new.self.relay.counts c.args.guest_port.now c.step.new.guest_port
     c.args.shadow_port.now c.step.new.shadow_port c.step.result plain shadow_plain lane c.requires.live
-    (c.step.ensures.step z w sv holds is own other)
+    (c.step.ensures.step c.requires.plain z w sv holds is own other)

@@ -8,6 +8,7 @@ loop-made-init g c = record {
   ring = refl;
   shadow_ring = refl;
   live = c.requires.live;
+  plain = c.requires.plain;
   way = λ z old begun by v w sv sw is lane holds.
       relay_starts g.L.Layout.layout g.L.Device.DeviceEnd.device g.L.Driver.DriverEnd.driver z old begun by v sw _ _ w sv
       c.args.lane.now.relay.state c.args.lane.now.relay.counts c.requires.live lane holds;
@@ -45,6 +46,7 @@ loop-made-preserved g c = record {
       let r = c.loop-made.invariant.way o.0 o.1 o.2 o.3 o.4 o.5 o.6 o.7 o.10 o.8 o.9 in
       let step = c.relay_step.ensures.step o.0 o.1 o.2 o.3 o.4 r.run.view r.run.shadow_view o.7 o.10 r.run.lane r.run.holds in
       live_on c.relay_step.new.lane.relay.state.stage (λ rests. cc (step.finished.1 rests, c.in-Worked.is));
+  plain = c.relay_step.ensures.plain;
   way = λ z old begun by v w sv sw is lane holds.
       let r = c.loop-made.invariant.way z old begun by v w sv sw is lane holds in
       relay_goes g.L.Layout.layout g.L.Device.DeviceEnd.device g.L.Driver.DriverEnd.driver z old begun by v sw _ _ _ _ w sv

@@ -1,4 +1,4 @@
-use Rattle.std.proofs.Common.{◌≡◌, false, List, ℕ}
+use Rattle.std.proofs.Common.{◌≡◌, None, false, List, ℕ}
 use Rattle.vd_model.specs.declared.chain.Piece.{Piece}
 use Rattle.vd_model.specs.declared.record.Begun.{Begun}
 use Rattle.vd_ring.specs.declared.device.DeviceView.{DeviceView}
@@ -16,6 +16,7 @@ invariant-loop-made g l = record {
   ring : l.words.ring ≡ l.initial.words.ring;
   shadow_ring : l.shadow.ring ≡ l.initial.shadow.ring;
   live : is_rested l.lane.relay.state.stage ≡ false;
+  plain : l.lane.relay.control ≡ None;
   way : (z : Start) (old : List (List Piece × ℕ)) (begun : List Begun) (by : Attached) (v : DriverView) (w : DeviceView) (sv : DriverView)
       (sw : DeviceView) → l.initial.tree.mappings ≡ z.map
       → IsShadowing g.L.Device.DeviceEnd.device g.L.Driver.DriverEnd.driver g.L.Layout.layout z old l.initial.lane.relay.state begun by

@@ -1,5 +1,7 @@
-use Rattle.std.proofs.Common.{refl}
 use Rattle.vd_switch.proofs.shadowing.Shadowing.step.Goals as goal
 
 pub returns-clause-step : goal.returns-clause-step
-returns-clause-step g c = λ z w v h is own other. c.step.ensures.step refl z w v h is own other
+returns-clause-step g c = c.step.ensures.step
+
+pub returns-clause-commands : goal.returns-clause-commands
+returns-clause-commands g c = c.step.ensures.control
