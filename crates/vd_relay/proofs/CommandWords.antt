@@ -6,9 +6,10 @@ use Rattle.vd_words.specs.declared.access.Op.TheVariants.{Control}
 use Rattle.vd_words.specs.Model.{PortModel}
 use Rattle.vd_model.specs.declared.chain.Piece.{Piece}
 use Rattle.vd_ring.specs.declared.frame.Used.{Used}
+use Rattle.vd_ring.specs.declared.device.DeviceDone.TheVariants.{LoadCommand, StoreAck}
 use Rattle.vd_ring.specs.declared.device.DeviceView.{DeviceView}
 use Rattle.vd_ring.specs.declared.driver.DriverView.{DriverView}
-use Rattle.vd_ring.specs.History.{offers, collects, takes, gives}
+use Rattle.vd_ring.specs.History.{offers, collects, takes, gives, taken_head}
 use Rattle.vd_ring.specs.Sleep.{driver_woken, device_woken}
 use Rattle.vd_layout.specs.Driver.{DriverModel, IsLawfulDriver}
 use Rattle.vd_layout.specs.Device.{DeviceModel, IsLawfulDevice}
@@ -20,6 +21,7 @@ use Rattle.vd_relay.specs.declared.commander.Commander.{Commander}
 use Rattle.vd_relay.specs.declared.counts.Counts.{Counts}
 use Rattle.vd_relay.specs.declared.counts.Turn.TheVariants.{Worked}
 use Rattle.vd_relay.specs.declared.state.State.{State}
+use Rattle.vd_relay.specs.Acts.{AddsOneAct}
 use Rattle.vd_relay.specs.Pace.{raised, guest_handled, shadow_handled}
 use Rattle.vd_relay.specs.Stages.{is_rested}
 use Rattle.vd_relay.specs.Relay.{owes}
@@ -43,6 +45,17 @@ guest_word e law a w (Store p x) got serves next =
     let n = (law.controls.stores w p x).0 next in
     let is = law.controls.stored w p x got n.0 n.1 in
     (ap (λ (y : DeviceView). takes y.done) is, ap (λ (y : DeviceView). gives y.done) is)
+
+guest_word_acts : {E : Type 0} (e : DeviceModel E) → IsLawfulDevice e → (a : E) (w : DeviceView) (x : Access) (got : ℕ)
+    → e.stands a w → e.side.next w Control x → AddsOneAct w.done (e.side.after w Control x got).done
+guest_word_acts e law a w (Load p) got serves next =
+    let n = (law.controls.loads w p).0 next in
+    let is = law.controls.loaded w p got n.0 n.1 ((law.runs a w serves).apart n.1.number n.1.runs) in
+    inr (LoadCommand n.1.number n.1.half got, ap (λ (y : DeviceView). y.done) is)
+guest_word_acts e law a w (Store p x) got serves next =
+    let n = (law.controls.stores w p x).0 next in
+    let is = law.controls.stored w p x got n.0 n.1 in
+    inr (StoreAck (taken_head w.done n.1.number) x, ap (λ (y : DeviceView). y.done) is)
 
 shadow_word : {D : Type 0} (d : DriverModel D) → IsLawfulDriver d → (v : DriverView) (x : Access) (got : ℕ)
     → d.side.next v Control x → (offers (d.side.after v Control x got).done ≡ offers v.done)
@@ -85,6 +98,7 @@ module _ {P E D : Type 0} (port : PortModel P) (l : LayoutModel) (e : DeviceMode
             hears_shadow = h.hears_shadow;
             leaves = h.leaves;
           };
+          acts = guest_word_acts e law r.guest w o.access o.got h.commands.stands.serves o.was_next;
           bag = inl stays.1;
           grown = omega (
             arith,

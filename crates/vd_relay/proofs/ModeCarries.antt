@@ -58,6 +58,7 @@ module _ {P Q E D : Type 0} (port : PortModel P) (other : PortModel Q) (l : Layo
     was_next = t.0.was_next;
     moved = t.0.moved;
     holds = carried_on s (e.side.after w t.0.op t.0.access t.0.got) v h at t.1;
+    acts = t.0.acts;
     bag = t.0.bag;
     grown = t.0.grown;
     looked = t.0.looked;

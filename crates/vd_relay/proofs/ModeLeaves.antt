@@ -70,6 +70,7 @@ module _ {P E D : Type 0} (port : PortModel P) (l : LayoutModel) (e : DeviceMode
           done = holds.done;
           does = subst (λ (y : Mode). Does y l e d z guest_to k s c' w' v) (sym at) now;
         };
+        acts = m.acts;
         bag = inl m.gives;
         grown = omega (
           arith,

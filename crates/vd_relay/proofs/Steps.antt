@@ -1,13 +1,15 @@
 -- One step of a relay, from the access that it makes and from how that is counted.
-use Rattle.std.proofs.Common.{◌≡◌, ◌≢◌, ◌⊎◌, ◌↔◌, ℕ, ◌+◌, ◌*◌, ◌<◌, ◌≤◌, Bool, true, false, IsTrue, List, refl, sym, ◌∙◌, ap, subst, arith, inl, inr}
+use Rattle.std.proofs.Common.{◌≡◌, ◌≢◌, ◌⊎◌, ◌↔◌, ℕ, ◌+◌, ◌*◌, ◌<◌, ◌≤◌, Bool, true, false, IsTrue, List, [], ◌∷◌, refl, sym, ◌∙◌, ap, subst, arith, inl, inr}
 use Rattle.vd_words.specs.Model.{PortModel}
 use Rattle.vd_ring.specs.declared.act.DeviceAct.{DeviceAct}
 use Rattle.vd_ring.specs.declared.act.DeviceAct.TheVariants as act
 use Rattle.vd_ring.specs.declared.device.DeviceDone.{DeviceDone}
+use Rattle.vd_ring.specs.declared.device.DeviceDone.TheVariants.{Take, Give, Rest}
 use Rattle.vd_ring.specs.declared.driver.DriverNow.TheVariants as driver
 use Rattle.vd_ring.specs.declared.driver.DriverView.{DriverView}
 use Rattle.vd_ring.specs.declared.device.DeviceNow.TheVariants as device
 use Rattle.vd_ring.specs.declared.device.DeviceView.{DeviceView}
+use Rattle.vd_ring.specs.History.{entry}
 use Rattle.vd_layout.specs.Begun.{DriverOp, DeviceOp}
 use Rattle.vd_layout.specs.Driver.{DriverModel, IsLawfulDriver}
 use Rattle.vd_layout.specs.Device.{DeviceModel, IsLawfulDevice}
@@ -19,6 +21,7 @@ use Rattle.vd_relay.specs.declared.counts.Turn.TheVariants.{Worked, Handled, Wok
 use Rattle.vd_relay.specs.declared.stage.Stage.{Stage}
 use Rattle.vd_relay.specs.declared.stage.Stage.TheVariants as stage
 use Rattle.vd_relay.specs.declared.state.State.{State}
+use Rattle.vd_relay.specs.Acts.{AddsOneAct}
 use Rattle.vd_relay.specs.Pace.{last_count, raised, counted, handled, woke, move_of, guest_handled, shadow_handled, KeepsPace}
 use Rattle.vd_relay.specs.Stages.{GuestIs, ShadowIs, is_hearing, is_shadow, is_offering}
 use Rattle.vd_relay.specs.Tie.{Course}
@@ -277,6 +280,18 @@ module _ {E D : Type 0} (e : DeviceModel E) (d : DriverModel D) (z : Course) (r 
   leaves_on Woke look same leaves = leaves (λ i. cc i)
   leaves_on Again look same leaves = leaves (λ i. cc i)
 
+-- what an answer says was done on the guest's ring is at most one act
+acts_of : {E : Type 0} (e : DeviceModel E) (answer : DeviceAct) (a a' : E) (s s' : List DeviceDone) → GuestDid e answer a a' s s'
+    → AddsOneAct s s'
+acts_of e (act.Taken k c) a a' s s' did = inr (Take c did.0, did.1)
+acts_of e (act.Given k) a a' s s' did = inr (Give (entry k did.0 ∷ []), did.2)
+acts_of e act.Rested a a' s s' did = inr (Rest, did.1)
+acts_of e act.Moved a a' s s' did = inl did
+acts_of e act.Nothing a a' s s' did = inl did
+acts_of e act.Armed a a' s s' did = inl did
+acts_of e act.Awake a a' s s' did = inl did
+acts_of e act.Asleep a a' s s' did = inl did
+
 -- how the counts went up
 pub record Noted (c c' : Counts) (t : Turn) : Type 0 where
   pub accesses : c'.accesses ≡ raised (counted t) c.accesses
@@ -309,6 +324,7 @@ module _ {P E D : Type 0} (port : PortModel P) (e : DeviceModel E) (d : DriverMo
         hears_shadow = λ i idle. waits.1 i;
         leaves = leaves_on e d z r r' c w v holds t (λ i. (guest_looks law holds h i).live) kept.0 h.leaves;
       };
+      acts = acts_of e (e.act w h.op h.access h.got) r.guest r'.guest w.done (e.side.after w h.op h.access h.got).done h.did;
       bag = h.bag;
       grown = h.grown;
       looked = both (looked_is said t b is) h.slept;

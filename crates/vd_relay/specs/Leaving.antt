@@ -8,6 +8,7 @@ use Rattle.vd_ring.specs.declared.device.DeviceView.{DeviceView}
 use Rattle.vd_ring.specs.History.{takes, gives}
 use Rattle.vd_layout.specs.Begun.{DeviceOp}
 use Rattle.vd_layout.specs.Device.{DeviceModel}
+use Rattle.vd_relay.specs.Acts.{AddsOneAct}
 use Rattle.vd_relay.specs.Pace.{guest_handled}
 
 -- an end that is free: all that was taken is given, and it neither rests nor sleeps
@@ -49,6 +50,7 @@ pub record IsLeave {P E : Type 0} (port : PortModel P) (e : DeviceModel E) (p q 
   pub was_next : e.side.next w op access
   pub moved : port.moves p op access got q
   pub left : IsLeft e a' (e.side.after w op access got)
+  pub acts : AddsOneAct w.done (e.side.after w op access got).done
   pub takes : Rattle.vd_ring.specs.History.takes (e.side.after w op access got).done ≡ Rattle.vd_ring.specs.History.takes w.done
   pub gives : Rattle.vd_ring.specs.History.gives (e.side.after w op access got).done ≡ Rattle.vd_ring.specs.History.gives w.done
   pub handled : guest_handled (e.act w op access got) ≡ 0

@@ -10,6 +10,7 @@ pub mod Moving
 pub mod Replays
 pub mod Leaving
 pub mod Accesses
+pub mod Acts
 pub mod Carrying
 pub mod Settling
 pub mod Commanding

@@ -24,6 +24,7 @@ use Rattle.vd_relay.specs.declared.counts.Counts.{Counts}
 use Rattle.vd_relay.specs.declared.replay.ReplayStage.TheVariants.{Hearing}
 use Rattle.vd_relay.specs.declared.stage.Stage.TheVariants as stage
 use Rattle.vd_relay.specs.declared.state.State.{State}
+use Rattle.vd_relay.specs.Acts.{AddsOneAct}
 use Rattle.vd_relay.specs.Pace.{guest_handled, shadow_handled, KeepsPace}
 use Rattle.vd_relay.specs.Stages.{is_rested}
 use Rattle.vd_relay.specs.Tie.{returned}
@@ -53,6 +54,7 @@ pub record OnGuestControl {P E D : Type 0} (port : PortModel P) (l : LayoutModel
   pub was_next : e.side.next w op access
   pub moved : port.moves p op access got q
   pub holds : ControlHolds l e d z r' k' s' c' (e.side.after w op access got) v
+  pub acts : AddsOneAct w.done (e.side.after w op access got).done
   pub bag : GivesOne (returned (carries (carries_from z k'.replay.next)) v.done) w.done (e.side.after w op access got).done
   pub grown : length (takes w.done) + length (gives w.done) + guest_handled (e.act w op access got)
       ≤ (if is_rested r'.stage then length (takes w.done) else length (takes (e.side.after w op access got).done))

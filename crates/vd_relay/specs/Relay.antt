@@ -29,6 +29,7 @@ use Rattle.vd_relay.specs.declared.counts.Turn.TheVariants.{Slept, Again}
 use Rattle.vd_relay.specs.declared.stage.Stage.{Stage}
 use Rattle.vd_relay.specs.declared.stage.Stage.TheVariants as stage
 use Rattle.vd_relay.specs.declared.state.State.{State}
+use Rattle.vd_relay.specs.Acts.{AddsOneAct}
 use Rattle.vd_relay.specs.Pace.{raised, counted, handled, woke, guest_handled, shadow_handled, guest_owes, shadow_owes, KeepsPace}
 use Rattle.vd_relay.specs.Stages.{is_rested, is_shadow, is_hearing, roused, GuestIs, ShadowIs, TakesFrom, OffersHand, InHand, OfferIs, BackIs, EndsIs, BeforeRest, GuestArmed, ShadowArmed, GuestShown, ShadowShown}
 use Rattle.vd_relay.specs.Tie.{Course, IsTied, guests, returned}
@@ -215,6 +216,7 @@ pub record OnGuest {P E D : Type 0} (port : PortModel P) (e : DeviceModel E) (d 
   pub was_next : e.side.next w op access
   pub moved : port.moves p op access got q
   pub holds : Holds e d z r' c' (e.side.after w op access got) v
+  pub acts : AddsOneAct w.done (e.side.after w op access got).done
   pub bag : GivesOne (returned z v.done) w.done (e.side.after w op access got).done
   pub grown : length (takes w.done) + length (gives w.done) + guest_handled (e.act w op access got)
       ≤ (if is_rested r'.stage then length (takes w.done) else length (takes (e.side.after w op access got).done))
