@@ -1,4 +1,5 @@
-use Rattle.std.proofs.Common.{◌≡◌, ◌-◌, Some, None, false, length, slice_get, sym, refl, ap, subst, ◌∙◌}
+use Rattle.std.proofs.Common.{◌≡◌, ◌-◌, Some, false, length, slice_get, sym, refl, ap, subst, ◌∙◌}
+use Rattle.std.specs.Option.{option_copied}
 use Rattle.vd_control.specs.Settings.{HasPairs}
 use Rattle.vd_bus.specs.Bus.{BusState}
 use Rattle.vd_bus.specs.BusRings.{terms}
@@ -74,7 +75,8 @@ returns-in-Ok-clause-ok g c =
         words = refl;
         relays = subst (λ z. Shadows e d z kit.driver kit.table.origins relay.state relay.counts) c.new.ensures.end made.0;
         fresh = made.1;
-        attached = subst (λ (z : Terms). IsAttach e g.V.Device.party z None kit.device c.args.device.now c.to_shadow.new.device) ordered
+        attached = subst (λ (z : Terms). IsAttach e g.V.Device.party z (option_copied c.args.control) kit.device c.args.device.now
+            c.to_shadow.new.device) ordered
             made.3;
       },
     )
