@@ -1,17 +1,18 @@
 -- At an epoch's begin the lanes' devices are attached one after the other.
-use Rattle.std.proofs.Common.{◌≡◌, ℕ, ◌+◌, ◌-◌, ◌<◌, ◌≤◌, true, Some, None, List, length, set, slice_get, refl, sym, subst, arith}
+use Rattle.std.proofs.Common.{◌≡◌, ℕ, ◌+◌, ◌-◌, ◌<◌, ◌≤◌, true, Option, Some, None, List, length, set, slice_get, refl, sym, subst, arith}
 use Rattle.std.specs.Vec.{with_item}
 use Rattle.std.proofs.lemmas.Option.{slice_get_within}
 use Rattle.vd_model.specs.declared.base.Mode.TheVariants.{Pass, Shadow}
 use Rattle.vd_bus.specs.Bus.{BusState, vring_of}
 use Rattle.vd_bus.specs.BusRings.{terms}
-use Rattle.vd_bus.specs.Device.{IsAttach, IsRefused}
+use Rattle.vd_bus.specs.Device.{IsAttach, IsRefused, control_settings}
 use Rattle.vd_bus.specs.Orders.{Terms}
 use Rattle.vd_machine.specs.File.{Plan}
 use Rattle.vd_play.specs.declared.bench.Bench.{Bench}
 use Rattle.vd_play.specs.declared.floor.Lane.{Lane}
 use Rattle.vd_play.specs.Attaching.{IsSameLane, CanShadow, HasShadowed, removed_last}
 use Rattle.vd_play.specs.Before.{begun_at, resets}
+use Rattle.vd_play.specs.Commands.{settings_at}
 use Rattle.vd_play.specs.Each.{EachLane, Stage, HasLanes}
 use Rattle.vd_play.specs.Epochs.{mode_at}
 use Rattle.vd_play.specs.Journal.{queue_epochs}
@@ -120,24 +121,28 @@ module _ {L D E G X C : Type 0} {s : Setting D E G X C} (law : IsLawful s) {plan
       abbrev HasBegun : Type 0
       HasBegun = InEpoch s plan i true k 0 lane' p.guest device' × (s.party.accesses device' ≡ s.party.accesses device)
 
-      pub begins_pass : mode_at plan k ≡ Pass → IsSameLane lane lane' × (lane'.relaying ≡ lane.relaying) × (lane'.kits ≡ lane.kits)
+      pub begins_pass : (control : Option X) → control_settings s.party.settings control ≡ settings_at plan k → mode_at plan k ≡ Pass
+          → IsSameLane lane lane' × (lane'.relaying ≡ lane.relaying) × (lane'.kits ≡ lane.kits)
           → (lane'.still ≡ None) × ((end : E) → lane.still ≡ Some end
-          → IsAttach s.device s.party (terms (serving b i) i (stop - begun)) None end device device') → HasBegun
-      begins_pass mode same ok =
-          lane_passes s law plan i k stop lane lane' p.guest renewed.before device device' p.to.0 p.to.1 mode same ok.0
-          (λ end is. subst (λ (n : ℕ). IsAttach s.device s.party (pass_order s.device plan i (stop - n) end) None end device device')
-          (sym p.many) (subst (λ (t : Terms). IsAttach s.device s.party t None end device device')
+          → IsAttach s.device s.party (terms (serving b i) i (stop - begun)) control end device device') → HasBegun
+      begins_pass control set mode same ok =
+          lane_passes s law plan i k control set stop lane lane' p.guest renewed.before device device' p.to.0 p.to.1 mode same ok.0
+          (λ end is. subst (λ (n : ℕ). IsAttach s.device s.party (pass_order s.device plan i (stop - n) end) control end device device')
+          (sym p.many) (subst (λ (t : Terms). IsAttach s.device s.party t control end device device')
           (ordered_is s.device s.layout.fresh_base plan (mode_at plan k) k lanes b p.so_far.ready i p.low mode (stop - begun) lane end at
           is) (ok.1 end is))) is_still anew
 
-      pub begins_shadow : mode_at plan k ≡ Shadow → IsSameLane lane lane' × (lane'.kits.items ≡ removed_last lane.kits.items)
+      pub begins_shadow : (control : Option X) → control_settings s.party.settings control ≡ settings_at plan k → mode_at plan k ≡ Shadow
+          → IsSameLane lane lane' × (lane'.kits.items ≡ removed_last lane.kits.items)
           → (lane'.still ≡ None)
-          × HasShadowed s.driver s.device s.party (terms (serving b i) i (stop - begun)) lane lane' device device' → HasBegun
-      begins_shadow mode same ok =
-          lane_shadows s law plan i k stop lane lane' p.guest renewed.before device device' p.to.0 p.to.1 p.epoch mode same ok.0
-          (subst (λ (n : ℕ). HasShadowed s.driver s.device s.party (shadow_order s.layout plan k i (stop - n)) lane lane' device device')
+          × HasShadowed s.driver s.device s.party (terms (serving b i) i (stop - begun)) control lane lane' device device' → HasBegun
+      begins_shadow control set mode same ok =
+          lane_shadows s law plan i k control set stop lane lane' p.guest renewed.before device device' p.to.0 p.to.1 p.epoch mode same ok.0
+          (subst (λ (n : ℕ). HasShadowed s.driver s.device s.party (shadow_order s.layout plan k i (stop - n)) control lane lane' device
+          device')
           (sym p.many)
-          (subst (λ (t : Terms). HasShadowed s.driver s.device s.party t lane lane' device device') (order_is mode) ok.1)) is_still anew
+          (subst (λ (t : Terms). HasShadowed s.driver s.device s.party t control lane lane' device device') (order_is mode) ok.1)) is_still
+          anew
 
       pub attached_more : HasBegun → IsSameLane lane lane' → lane'.still ≡ None → s.party.carried device' ≡ s.party.carried device
           → s.party.faults device' ≡ s.party.faults device → (b' : BusState) → b' ≡ serving b i

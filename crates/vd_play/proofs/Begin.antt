@@ -6,10 +6,10 @@ use Rattle.vd_model.specs.declared.record.Script.{Script}
 use Rattle.vd_bus.specs.Scripts.{run_count, run_chains}
 use Rattle.vd_machine.specs.Queues.{script}
 use Rattle.vd_model.specs.declared.base.Mode.TheVariants.{Pass}
-use Rattle.vd_control.specs.Settings.{default}
+use Rattle.vd_control.specs.declared.settings.Settings.{Settings}
 use Rattle.vd_words.specs.Plain.{RingWords}
 use Rattle.vd_bus.specs.declared.event.Event.TheVariants.{Attach}
-use Rattle.vd_bus.specs.Device.{IsAttach}
+use Rattle.vd_bus.specs.Device.{IsAttach, control_settings}
 use Rattle.vd_bus.specs.Orders.{Terms, FitsQueue, mode_of}
 use Rattle.vd_bus.specs.Pace.{attaches}
 use Rattle.vd_machine.specs.File.{Plan}
@@ -18,6 +18,7 @@ use Rattle.vd_ring.specs.declared.frame.Frame.{Frame}
 use Rattle.vd_play.specs.declared.floor.Relaying.{Relaying}
 use Rattle.vd_play.specs.Journal.{queue_script, queue_chains, queue_epochs, guest_frame, attach_event, base_at, pass_map}
 use Rattle.vd_play.specs.Before.{events_before, begun_at, resets}
+use Rattle.vd_play.specs.Commands.{settings_at}
 use Rattle.vd_play.specs.Orders.{pass_order, stop_of, CanAttach}
 use Rattle.vd_play.specs.Epochs.{mode_at}
 use Rattle.vd_play.specs.Progress.{IsPaced, IsStopped, IsPassing, StoppedWith, InEpochWith}
@@ -50,12 +51,13 @@ paced_attached s plan q k guest device device' v p same counted = record {
 
 module _ {D E G X C : Type 0} (s : Setting D E G X C) (law : IsLawful s) (plan : Plan) (q k : ℕ) where
   -- by the machine's order for an epoch of the mode pass
-  pub pass_starts : (to : ℕ) (words : RingWords) (end : E) (relayed : ℕ) (guest : G) (device device1 device' : X)
+  pub pass_starts : (control : Option X) → control_settings s.party.settings control ≡ settings_at plan k
+      → (to : ℕ) (words : RingWords) (end : E) (relayed : ℕ) (guest : G) (device device1 device' : X)
       → to ≡ begun_at plan q (k + 1) → k < length (queue_epochs plan q) → mode_at plan k ≡ Pass
       → IsStopped s plan q k 0 words end relayed guest device → Renews s.party (resets plan q k) device device1
-      → IsAttach s.device s.party (pass_order s.device plan q (to - length (s.party.begun device1)) end) None end device1 device'
+      → IsAttach s.device s.party (pass_order s.device plan q (to - length (s.party.begun device1)) end) control end device1 device'
       → IsPassing s plan q k 0 words relayed guest device'
-  pass_starts to words end relayed guest device device1 device' is more mode p n a =
+  pass_starts control set to words end relayed guest device device1 device' is more mode p n a =
       let order : Terms = pass_order s.device plan q (to - length (s.party.begun device1)) end in
       let b = bounded (length (queue_chains plan q)) (queue_epochs plan q) k p.kept.driven.queue.chained more in
       let many : length (s.party.begun device1) ≡ begun_at plan q k = ap length n.begun ∙ p.rests.begun in
@@ -64,12 +66,14 @@ module _ {D E G X C : Type 0} (s : Setting D E G X C) (law : IsLawful s) (plan :
       let other : q ≡ 15 → ⊥ = λ h. omega (arith, h, p.kept.driven.queue.low) in
       let base = base_of s law plan q words end guest p.view p.device_view (begun_at plan q k) p.kept.driven p.rests.stands
       p.rests.still p.rests.taken in
-      let last : Attach (length (s.party.begun device1)) q (record { 0 = s.device.base end }) (mode_of q) default (pass_map plan)
-      ≡ attach_event s.device s.layout plan q (begun_at plan q k) =
-      ap (λ z. Attach z q (record { 0 = s.device.base end }) (mode_of q) default (pass_map plan)) many
-      ∙ ap (λ z. Attach (begun_at plan q k) q z (mode_of q) default (pass_map plan)) base
-      ∙ ap (λ z. Attach (begun_at plan q k) q (base_at s.device s.layout plan q (begun_at plan q k)) z default (pass_map plan))
-      (passes q p.kept.driven.queue.low) in
+      let own : Settings = control_settings s.party.settings control in
+      let last : Attach (length (s.party.begun device1)) q (record { 0 = s.device.base end }) (mode_of q) own (pass_map plan)
+      ≡ attach_event s.device s.layout plan q k (begun_at plan q k) =
+      ap (λ z. Attach z q (record { 0 = s.device.base end }) (mode_of q) own (pass_map plan)) many
+      ∙ ap (λ z. Attach (begun_at plan q k) q z (mode_of q) own (pass_map plan)) base
+      ∙ ap (λ z. Attach (begun_at plan q k) q (base_at s.device s.layout plan q (begun_at plan q k)) z own (pass_map plan))
+      (passes q p.kept.driven.queue.low)
+      ∙ ap (λ z. Attach (begun_at plan q k) q (base_at s.device s.layout plan q (begun_at plan q k)) Pass z (pass_map plan)) set in
       let counted : attaches (s.party.events device') ≡ attaches (s.party.events device) + 1 =
       ap attaches a.noted.events ∙ attaches_more (s.party.events device1) _ ∙ ap (λ j. j + 1) n.attaches_same in
       record {
@@ -124,22 +128,26 @@ module _ {L D E G X C : Type 0} (s : Setting D E G X C) (law : IsLawful s) (plan
       )
 
   -- the lane and its device begin the epoch
-  pub pass_begins : (to : ℕ) (words words' : RingWords) (still still' : Option E) (relaying relaying' : Option (Relaying L D E))
+  pub pass_begins : (control : Option X) → control_settings s.party.settings control ≡ settings_at plan k
+      → (to : ℕ) (words words' : RingWords) (still still' : Option E) (relaying relaying' : Option (Relaying L D E))
       (relayed relayed' : ℕ) (guest : G) (device device1 device' : X) → to ≡ begun_at plan q (k + 1) → k < length (queue_epochs plan q)
       → mode_at plan k ≡ Pass → (words' ≡ words) × (relayed' ≡ relayed) → still' ≡ None → relaying' ≡ relaying
       → ((end : E) → still ≡ Some end
-      → IsAttach s.device s.party (pass_order s.device plan q (to - length (s.party.begun device1)) end) None end device1 device')
+      → IsAttach s.device s.party (pass_order s.device plan q (to - length (s.party.begun device1)) end) control end device1 device')
       → StoppedWith s plan q k words still relaying relayed guest device → Renews s.party (resets plan q k) device device1
       → InEpochWith s plan q true k 0 words' still' relaying' relayed' guest device'
       × (s.party.accesses device' ≡ s.party.accesses device1)
-  pass_begins to words words' None still' relaying relaying' relayed relayed' guest device device1 device' is more mode same none
+  pass_begins control set to words words' None still' relaying relaying' relayed relayed' guest device device1 device' is more mode same
+      none
       as_before a p n = absurd p
-  pass_begins to words words' (Some end) still' (Some x) relaying' relayed relayed' guest device device1 device' is more mode same none
+  pass_begins control set to words words' (Some end) still' (Some x) relaying' relayed relayed' guest device device1 device' is more mode
+      same none
       as_before a p n = absurd p
-  pass_begins to words words' (Some end) still' None relaying' relayed relayed' guest device device1 device' is more mode same none
+  pass_begins control set to words words' (Some end) still' None relaying' relayed relayed' guest device device1 device' is more mode same
+      none
       as_before a p n =
       let begun : IsPassing s plan q k 0 words relayed guest device' =
-      pass_starts s law plan q k to words end relayed guest device device1 device' is more mode p n (a end refl) in (
+      pass_starts s law plan q k control set to words end relayed guest device device1 device' is more mode p n (a end refl) in (
         rw (same.0, none, as_before, same.1) begun,
         (a end refl).noted.counts.0,
       )

@@ -4,7 +4,7 @@ use Rattle.vd_model.specs.declared.base.Mode.TheVariants.{Pass, Shadow}
 use Rattle.vd_words.specs.Plain.{RingWords}
 use Rattle.vd_ring.specs.declared.device.DeviceView.{DeviceView}
 use Rattle.vd_ring.specs.declared.frame.Frame.{Frame}
-use Rattle.vd_bus.specs.Device.{IsAttach}
+use Rattle.vd_bus.specs.Device.{IsAttach, control_settings}
 use Rattle.vd_machine.specs.File.{Plan}
 use Rattle.vd_switch.specs.Stills.{Shadows, IsNew}
 use Rattle.vd_play.specs.declared.floor.Lane.{Lane}
@@ -12,6 +12,7 @@ use Rattle.vd_play.specs.declared.floor.Relaying.{Relaying}
 use Rattle.vd_play.specs.declared.floor.ShadowRing.{ShadowRing}
 use Rattle.vd_play.specs.Attaching.{IsSameLane, CanShadow, HasShadowed, removed_last}
 use Rattle.vd_play.specs.Before.{begun_at, resets}
+use Rattle.vd_play.specs.Commands.{settings_at}
 use Rattle.vd_play.specs.Epochs.{mode_at}
 use Rattle.vd_play.specs.Journal.{queue_epochs, guest_frame}
 use Rattle.vd_play.specs.Kits.{IsShadowRing, HasKits}
@@ -33,15 +34,17 @@ guest_framed s law plan q k words end relayed guest device p =
 
 module _ {L D E G X C : Type 0} (s : Setting D E G X C) (law : IsLawful s) (plan : Plan) (q k : ℕ) where
   -- in the mode pass
-  pub lane_passes : (to : ℕ) (a b : Lane L D E) (guest : G) (device device1 device' : X) → to ≡ begun_at plan q (k + 1)
+  pub lane_passes : (control : Option X) → control_settings s.party.settings control ≡ settings_at plan k
+      → (to : ℕ) (a b : Lane L D E) (guest : G) (device device1 device' : X) → to ≡ begun_at plan q (k + 1)
       → k < length (queue_epochs plan q) → mode_at plan k ≡ Pass
       → IsSameLane a b × (b.relaying ≡ a.relaying) × (b.kits ≡ a.kits) → b.still ≡ None
       → ((end : E) → a.still ≡ Some end
-      → IsAttach s.device s.party (pass_order s.device plan q (to - length (s.party.begun device1)) end) None end device1 device')
+      → IsAttach s.device s.party (pass_order s.device plan q (to - length (s.party.begun device1)) end) control end device1 device')
       → Stopped s plan q k a guest device → Renews s.party (resets plan q k) device device1
       → InEpoch s plan q true k 0 b guest device' × (s.party.accesses device' ≡ s.party.accesses device1)
-  lane_passes to a b guest device device1 device' is more mode same none at p n =
-      let began = pass_begins s law plan q k to a.words b.words a.still b.still a.relaying b.relaying a.relayed b.relayed guest device
+  lane_passes control set to a b guest device device1 device' is more mode same none at p n =
+      let began = pass_begins s law plan q k control set to a.words b.words a.still b.still a.relaying b.relaying a.relayed b.relayed guest
+      device
       device1 device' is more mode same.0 none same.1 at p.held n in (
         record {
           held = began.0;
@@ -97,23 +100,27 @@ module _ {L D E G X C : Type 0} (s : Setting D E G X C) (law : IsLawful s) (plan
         base = refl;
       }
 
-  held_shadows : (to : ℕ) (words words' : RingWords) (still still' : Option E) (relaying relaying' : Option (Relaying L D E))
+  held_shadows : (control : Option X) → control_settings s.party.settings control ≡ settings_at plan k
+      → (to : ℕ) (words words' : RingWords) (still still' : Option E) (relaying relaying' : Option (Relaying L D E))
       (relayed relayed' : ℕ) (guest : G) (device device1 device' : X) (end : E) (ring : ShadowRing L D E) (x : Relaying L D E)
       → to ≡ begun_at plan q (k + 1) → k < length (queue_epochs plan q) → mode_at plan k ≡ Shadow
       → (words' ≡ words) × (relayed' ≡ relayed) → still' ≡ None → relaying' ≡ Some x → still ≡ Some end → x.words ≡ ring.words
       → Shadows s.device s.driver end ring.kit.driver ring.kit.table.origins x.lane.relay.state x.lane.relay.counts
       → IsNew x.lane.relay.state x.lane.relay.counts
-      → IsAttach s.device s.party (shadow_order s.layout plan k q (to - length (s.party.begun device1))) None ring.kit.device device1
+      → IsAttach s.device s.party (shadow_order s.layout plan k q (to - length (s.party.begun device1))) control ring.kit.device device1
       device'
       → IsShadowRing s.driver s.device s.layout plan q k ring
       → StoppedWith s plan q k words still relaying relayed guest device → Renews s.party (resets plan q k) device device1
       → InEpochWith s plan q true k 0 words' still' relaying' relayed' guest device'
-  held_shadows to words words' None still' relaying relaying' relayed relayed' guest device device1 device' end ring x is more mode same
+  held_shadows control set to words words' None still' relaying relaying' relayed relayed' guest device device1 device' end ring x is more
+      mode same
       none
       has was own shadows fresh a kit p n = absurd p
-  held_shadows to words words' (Some old) still' (Some y) relaying' relayed relayed' guest device device1 device' end ring x is more mode
+  held_shadows control set to words words' (Some old) still' (Some y) relaying' relayed relayed' guest device device1 device' end ring x is
+      more mode
       same none has was own shadows fresh a kit p n = absurd p
-  held_shadows to words words' (Some old) still' None relaying' relayed relayed' guest device device1 device' end ring x is more mode
+  held_shadows control set to words words' (Some old) still' None relaying' relayed relayed' guest device device1 device' end ring x is
+      more mode
       same none has was own shadows fresh a kit p n =
       let r = x.lane.relay.state in
       let c = x.lane.relay.counts in
@@ -121,20 +128,24 @@ module _ {L D E G X C : Type 0} (s : Setting D E G X C) (law : IsLawful s) (plan
       (λ (z : E). IsStopped s plan q k 0 words z relayed guest device) (some_same old end (Some old) refl was) p in
       let begun : IsShadowing s plan q k 0 words x.words.words r c relayed guest device' = subst
       (λ (z : RingWords). IsShadowing s plan q k 0 words z.words r c relayed guest device') (sym own)
-      (shadow_starts s law plan q k to words end relayed guest device device1 device' ring r c is more mode stopped n kit shadows fresh
+      (shadow_starts s law plan q k to words end relayed guest device device1 device' ring r c control set is more mode stopped n kit
+      shadows fresh
       a) in
       rw (same.0, none, has, same.1)
       (subst (λ b. RelayingBy b s plan q k 0 words x.words.words r c relayed guest device') (sym fresh.winding) begun)
 
-  pub lane_shadows : (to : ℕ) (a b : Lane L D E) (guest : G) (device device1 device' : X) → to ≡ begun_at plan q (k + 1)
+  pub lane_shadows : (control : Option X) → control_settings s.party.settings control ≡ settings_at plan k
+      → (to : ℕ) (a b : Lane L D E) (guest : G) (device device1 device' : X) → to ≡ begun_at plan q (k + 1)
       → k < length (queue_epochs plan q) → k < length plan.switches + 2 → mode_at plan k ≡ Shadow
       → IsSameLane a b × (b.kits.items ≡ removed_last a.kits.items) → b.still ≡ None
-      → HasShadowed s.driver s.device s.party (shadow_order s.layout plan k q (to - length (s.party.begun device1))) a b device1 device'
+      → HasShadowed s.driver s.device s.party (shadow_order s.layout plan k q (to - length (s.party.begun device1))) control a b device1
+      device'
       → Stopped s plan q k a guest device → Renews s.party (resets plan q k) device device1
       → InEpoch s plan q true k 0 b guest device' × (s.party.accesses device' ≡ s.party.accesses device1)
-  lane_shadows to a b guest device device1 device' is more less mode same none h p n = (
+  lane_shadows control set to a b guest device device1 device' is more less mode same none h p n = (
     record {
-      held = held_shadows to a.words b.words a.still b.still a.relaying b.relaying a.relayed b.relayed guest device device1 device' h.end
+      held = held_shadows control set to a.words b.words a.still b.still a.relaying b.relaying a.relayed b.relayed guest device device1
+          device' h.end
           h.ring h.lane is more mode same.0 none h.is h.was h.words h.relays h.fresh h.attached
           (kit_is s.driver s.device s.layout plan q k a.kits.items p.kits less mode h.ring h.next) p.held n;
       kits = subst (HasKits s.driver s.device s.layout plan q (k + 1)) (sym same.1)

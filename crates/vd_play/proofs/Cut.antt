@@ -110,10 +110,10 @@ module _ {D E G X C : Type 0} (s : Setting D E G X C) (law : IsLawful s) (plan :
       let l = s.layout in
       let b = bounded (length (queue_chains plan q)) (queue_epochs plan q) k p.kept.driven.queue.chained p.serves.epoch in
       let at = p.kept.driven.queue.numbered.at k b.epoch b.is in
-      let attach : Event = attach_event e l plan q (begun_at plan q k) in
+      let attach : Event = attach_event e l plan q k (begun_at plan q k) in
       let suspend : Event = suspend_event e l plan q (begun_at plan q (k + 1)) in
       let parts : epoch_events e l plan q b.epoch ≡ (resets plan q k ++ attach ∷ []) ++ suspend ∷ [] =
-      pass_events e l plan q k b.epoch at.2 b.first (at.1 ∙ p.serves.mode) b.end
+      pass_events e l plan q k b.epoch at.2 b.first (at.1 ∙ p.serves.mode) at.0 b.end
       ∙ sym (append_assoc (resets plan q k) (attach ∷ []) (suspend ∷ [])) in
       cut_driven words guest device p.view p.device_view p.kept.driven p.kept.given p.kept.account.each
       (subst (λ zs. IsPrefix zs (journal_events e l plan q)) (sym p.serves.events)

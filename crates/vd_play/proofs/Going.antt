@@ -208,9 +208,9 @@ module _ {D E G X C : Type 0} (s : Setting D E G X C) (law : IsLawful s) (plan :
       ∙ ap (λ y. Suspend (begun_at plan q (k + 1)) y) base in
       let mode = p.kept.driven.queue.numbered.at k bound.epoch bound.is in
       let whole : epoch_events s.device s.layout plan q bound.epoch ≡ resets plan q k
-      ++ attach_event s.device s.layout plan q (begun_at plan q k)
+      ++ attach_event s.device s.layout plan q k (begun_at plan q k)
       ∷ suspend_event s.device s.layout plan q (begun_at plan q (k + 1)) ∷ [] =
-      pass_events s.device s.layout plan q k bound.epoch mode.2 bound.first (mode.1 ∙ m.mode) bound.end in
+      pass_events s.device s.layout plan q k bound.epoch mode.2 bound.first (mode.1 ∙ m.mode) mode.0 bound.end in
       let events = two_events (s.party.events device2) (s.party.events device3) (events_before s.device s.layout plan q k)
       (resets plan q k) _ _ _ (u.run.served.events ∙ m.events) z.noted.events last in
       let counted : attaches (s.party.events device3) ≡ attaches (s.party.events device2) =

@@ -31,6 +31,10 @@ pub mod Mapped
 pub mod Setups
 pub mod Rings
 pub mod Chained
+pub mod ControlSettings
+pub mod ControlEpochs
+pub mod NoCommands
+pub mod ControlRooms
 pub mod Laying
 pub mod Trees
 pub mod Moves

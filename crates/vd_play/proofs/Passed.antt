@@ -26,19 +26,19 @@ module _ {E : Type 0} (e : DeviceModel E) (l : LayoutModel) (plan : Plan) (q k :
       ap (λ (b : Bool). (if b then Reset ep.first ∷ [] else []) ++ rest) renewed
       ∙ ap (λ (n : ℕ). (if renewed_at plan k then Reset n ∷ [] else []) ++ rest) first
 
-  pass_attach : ep.mode ≡ Pass → epoch_attach e l plan q ep ≡ attach_event e l plan q ep.first
-  pass_attach m = rw m refl
+  pass_attach : ep.mode ≡ Pass → ep.number ≡ k → epoch_attach e l plan q ep ≡ attach_event e l plan q k ep.first
+  pass_attach m n = rw (m, n) refl
 
   pass_suspend : ep.mode ≡ Pass → epoch_suspend e l plan q ep ≡ suspend_event e l plan q ep.end
   pass_suspend m = rw m refl
 
-  pub pass_events : ep.mode ≡ Pass → ep.end ≡ begun_at plan q (k + 1) → epoch_events e l plan q ep ≡ resets plan q k
-      ++ attach_event e l plan q (begun_at plan q k) ∷ suspend_event e l plan q (begun_at plan q (k + 1)) ∷ []
-  pass_events m end =
+  pub pass_events : ep.mode ≡ Pass → ep.number ≡ k → ep.end ≡ begun_at plan q (k + 1) → epoch_events e l plan q ep ≡ resets plan q k
+      ++ attach_event e l plan q k (begun_at plan q k) ∷ suspend_event e l plan q (begun_at plan q (k + 1)) ∷ []
+  pass_events m n end =
       let front : List Event = resets plan q k in
-      let attach : Event = attach_event e l plan q (begun_at plan q k) in
+      let attach : Event = attach_event e l plan q k (begun_at plan q k) in
       events_split
-      ∙ ap (λ (x : Event). front ++ x ∷ epoch_suspend e l plan q ep ∷ []) (pass_attach m ∙ ap (attach_event e l plan q) first)
+      ∙ ap (λ (x : Event). front ++ x ∷ epoch_suspend e l plan q ep ∷ []) (pass_attach m n ∙ ap (attach_event e l plan q k) first)
       ∙ ap (λ (x : Event). front ++ attach ∷ x ∷ []) (pass_suspend m ∙ ap (suspend_event e l plan q) end)
 
 pub pass_chains : (plan : Plan) (q : ℕ) (ep : Epoch) → ep.mode ≡ Pass → epoch_chains plan q ep ≡ own_chains plan q ep

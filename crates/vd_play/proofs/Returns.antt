@@ -12,7 +12,8 @@ use Rattle.vd_ring.specs.History.{collects, takes, gives, running, numbers, occu
 use Rattle.vd_ring.specs.Lists.{Lists}
 use Rattle.vd_ring.proofs.Counts.{one_small, occurs-append}
 use Rattle.vd_bus.specs.Guest.{as_return}
-use Rattle.vd_play.specs.Journal.{returned_numbers, HasLen, IsReturned}
+use Rattle.vd_play.specs.Journal.{HasLen, IsReturned}
+use Rattle.vd_play.specs.Returned.{returned_numbers}
 use Rattle.vd_play.specs.Lane.{HasGiven}
 
 pub same_numbers : (us : List Used) → returned_numbers (map as_return us) ≡ numbers us

@@ -1,10 +1,10 @@
 -- A lane that is still, and its device's attach to a shadow ring.
-use Rattle.std.proofs.Common.{◌≡◌, ℕ, ◌+◌, ◌*◌, ◌-◌, ◌<◌, ◌≤◌, inl, None, false, List, [], ◌∷◌, ◌++◌, length, map, take, slice_index_or, refl, sym, ◌∙◌, ap, subst, arith}
+use Rattle.std.proofs.Common.{◌≡◌, ℕ, ◌+◌, ◌*◌, ◌-◌, ◌<◌, ◌≤◌, inl, Option, None, false, List, [], ◌∷◌, ◌++◌, length, map, take, slice_index_or, refl, sym, ◌∙◌, ap, subst, arith}
 use Rattle.std.specs.List.{All, zip}
 use Rattle.std.proofs.lemmas.Bool.{le-ltb}
 use Rattle.std.proofs.lemmas.List.{length-map, take_all, get_or-map}
 use Rattle.std.proofs.lemmas.Option.{get_or_from_slice_get, slice_get_within}
-use Rattle.vd_control.specs.Settings.{default}
+use Rattle.vd_control.specs.declared.settings.Settings.{Settings}
 use Rattle.vd_model.specs.declared.base.Mode.TheVariants.{Shadow}
 use Rattle.vd_model.specs.declared.chain.Piece.{Piece}
 use Rattle.vd_model.specs.declared.record.Begun.{Begun}
@@ -19,7 +19,7 @@ use Rattle.vd_layout.specs.Layout.{IsMadeWith}
 use Rattle.vd_bus.specs.declared.device.Attached.{Attached}
 use Rattle.vd_bus.specs.declared.event.Event.{Event}
 use Rattle.vd_bus.specs.declared.event.Event.TheVariants.{Attach}
-use Rattle.vd_bus.specs.Device.{IsAttach, lens_of}
+use Rattle.vd_bus.specs.Device.{IsAttach, lens_of, control_settings}
 use Rattle.vd_bus.specs.Orders.{mode_of}
 use Rattle.vd_bus.specs.Pace.{attaches}
 use Rattle.vd_relay.specs.declared.counts.Counts.{Counts}
@@ -36,6 +36,7 @@ use Rattle.vd_machine.specs.File.{Plan}
 use Rattle.vd_turns.specs.RelayTurns.{reached}
 use Rattle.vd_play.specs.declared.floor.ShadowRing.{ShadowRing}
 use Rattle.vd_play.specs.Before.{begun_at, events_before, resets}
+use Rattle.vd_play.specs.Commands.{settings_at}
 use Rattle.vd_play.specs.Epochs.{mode_at}
 use Rattle.vd_play.specs.Journal.{queue_chains, queue_epochs, guest_frame, shadow_frame, pass_map, shadow_map, tree_map}
 use Rattle.vd_play.specs.Kits.{IsShadowRing}
@@ -92,12 +93,12 @@ reached_live r v w live = rw live refl
 
 module _ {L D E G X C : Type 0} (s : Setting D E G X C) (law : IsLawful s) (plan : Plan) (q k to : ℕ) (words : RingWords) (end : E)
     (relayed : ℕ) (guest : G) (device device1 device' : X) (ring : ShadowRing L D E) (r : State E D) (c : Counts)
-    (is : to ≡ begun_at plan q (k + 1))
+    (control : Option X) (set : control_settings s.party.settings control ≡ settings_at plan k) (is : to ≡ begun_at plan q (k + 1))
     (more : k < length (queue_epochs plan q)) (mode : mode_at plan k ≡ Shadow)
     (p : IsStopped s plan q k 0 words end relayed guest device) (n : Renews s.party (resets plan q k) device device1)
     (kit : IsShadowRing s.driver s.device s.layout plan q k ring)
     (shadows : Shadows s.device s.driver end ring.kit.driver ring.kit.table.origins r c) (fresh : IsNew r c)
-    (a : IsAttach s.device s.party (shadow_order s.layout plan k q (to - length (s.party.begun device1))) None ring.kit.device device1
+    (a : IsAttach s.device s.party (shadow_order s.layout plan k q (to - length (s.party.begun device1))) control ring.kit.device device1
     device')
   where
     abbrev number : ℕ
@@ -201,11 +202,15 @@ module _ {L D E G X C : Type 0} (s : Setting D E G X C) (law : IsLawful s) (plan
       (bounded (length (queue_chains plan q)) (queue_epochs plan q) k queue.chained more).rises,
     )
 
-    last : Attach (length (s.party.begun device1)) number (record { 0 = s.layout.fresh_base }) (mode_of number) default (shadow_map plan)
+    abbrev own : Settings
+    own = control_settings s.party.settings control
+
+    last : Attach (length (s.party.begun device1)) number (record { 0 = s.layout.fresh_base }) (mode_of number) own (shadow_map plan)
         ≡ shadow_attach s.layout plan q k (begun_at plan q k)
-    last = ap (λ j. Attach j number (record { 0 = s.layout.fresh_base }) (mode_of number) default (shadow_map plan)) many_still
-        ∙ ap (λ m. Attach (begun_at plan q k) number (record { 0 = s.layout.fresh_base }) m default (shadow_map plan))
+    last = ap (λ j. Attach j number (record { 0 = s.layout.fresh_base }) (mode_of number) own (shadow_map plan)) many_still
+        ∙ ap (λ m. Attach (begun_at plan q k) number (record { 0 = s.layout.fresh_base }) m own (shadow_map plan))
         (shadow_mode number (omega arith))
+        ∙ ap (λ z. Attach (begun_at plan q k) number (record { 0 = s.layout.fresh_base }) Shadow z (shadow_map plan)) set
 
     counted : attaches (s.party.events device') ≡ attaches (s.party.events device) + 1
     counted = ap attaches a.noted.events ∙ attaches_more (s.party.events device1) _ ∙ ap (λ j. j + 1) n.attaches_same

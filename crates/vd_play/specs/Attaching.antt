@@ -32,9 +32,9 @@ pub record CanShadow {L D E : Type 0} (d : DriverModel D) (e : DeviceModel E) (l
   pub shadow : 16 ≤ t.ring
   pub base : t.base ≡ record { 0 = l.fresh_base }
 
--- the device was attached to that ring, and a relay was made of the lane's end and its kit
-pub record HasShadowed {L D E X C : Type 0} (d : DriverModel D) (e : DeviceModel E) (m : DeviceParty X C) (t : Terms) (a b : Lane L D E)
-    (x y : X) : Type 0 where
+-- the device was attached to that ring, with the settings of the control queue's device, and a relay was made of the lane's end and its kit
+pub record HasShadowed {L D E X C : Type 0} (d : DriverModel D) (e : DeviceModel E) (m : DeviceParty X C) (t : Terms) (control : Option X)
+    (a b : Lane L D E) (x y : X) : Type 0 where
   pub end : E
   pub ring : ShadowRing L D E
   pub was : a.still ≡ Some end
@@ -45,4 +45,4 @@ pub record HasShadowed {L D E X C : Type 0} (d : DriverModel D) (e : DeviceModel
   pub relays : Shadows e d end ring.kit.driver ring.kit.table.origins lane.lane.relay.state lane.lane.relay.counts
   pub fresh : IsNew lane.lane.relay.state lane.lane.relay.counts
   pub plain : lane.lane.relay.control ≡ None
-  pub attached : IsAttach e m t None ring.kit.device x y
+  pub attached : IsAttach e m t control ring.kit.device x y

@@ -12,7 +12,7 @@ use Rattle.vd_bus.specs.GuestCommands.{commands}
 use Rattle.vd_machine.specs.File.{Plan}
 use Rattle.vd_machine.specs.Queues.{script}
 use Rattle.vd_play.specs.Epochs.{Epoch, epochs, begun_before}
-use Rattle.vd_play.specs.Journal.{returned_numbers}
+use Rattle.vd_play.specs.Returned.{returned_numbers}
 
 -- what its guest offers; nothing, where there is no control queue
 abbrev pub control_queue : Plan → Script

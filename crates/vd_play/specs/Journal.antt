@@ -12,7 +12,6 @@ use Rattle.vd_model.specs.declared.chain.Piece.{Piece}
 use Rattle.vd_model.specs.declared.map.Mapping.{Mapping}
 use Rattle.vd_model.specs.declared.record.Return.{Return}
 use Rattle.vd_model.specs.declared.record.Script.{Script}
-use Rattle.vd_control.specs.Settings.{default}
 use Rattle.vd_ring.specs.declared.frame.Frame.{Frame}
 use Rattle.vd_ring.specs.History.{occurs, upto}
 use Rattle.vd_layout.specs.Both.{plain_frame}
@@ -24,7 +23,9 @@ use Rattle.vd_bus.specs.Scripts.{chains}
 use Rattle.vd_machine.specs.File.{Plan}
 use Rattle.vd_machine.specs.Queues.{script}
 use Rattle.vd_machine.specs.declared.regions.Region.{Region}
+use Rattle.vd_play.specs.Commands.{settings_at}
 use Rattle.vd_play.specs.Epochs.{Epoch, epochs}
+use Rattle.vd_play.specs.Returned.{returned_numbers}
 
 -- what the guest of a queue offers
 abbrev pub queue_script : Plan → ℕ → Script
@@ -48,9 +49,9 @@ guest_frame l plan q = plain_frame l q plan.size plan.features false (Some (pass
 abbrev pub base_at : {E : Type 0} → DeviceModel E → LayoutModel → Plan → ℕ → ℕ → Base
 base_at e l plan q k = record { 0 = e.base_of (guest_frame l plan q) (take k (queue_chains plan q)) }
 
--- the device is attached to the guest's ring after k chains, with the default settings
-abbrev pub attach_event : {E : Type 0} → DeviceModel E → LayoutModel → Plan → ℕ → ℕ → Event
-attach_event e l plan q k = Attach k q (base_at e l plan q k) Pass default (pass_map plan)
+-- for epoch k the device is attached to the guest's ring after `at` chains, with what the commands begun before that epoch have set
+abbrev pub attach_event : {E : Type 0} → DeviceModel E → LayoutModel → Plan → ℕ → ℕ → ℕ → Event
+attach_event e l plan q k at = Attach at q (base_at e l plan q at) Pass (settings_at plan k) (pass_map plan)
 
 -- it is suspended after k chains
 abbrev pub suspend_event : {E : Type 0} → DeviceModel E → LayoutModel → Plan → ℕ → ℕ → Event
@@ -99,11 +100,12 @@ own_chains plan q ep = take (ep.end - ep.first) (drop ep.first (queue_chains pla
 abbrev pub epoch_chains : Plan → ℕ → Epoch → List (List Piece)
 epoch_chains plan q ep = by_mode ep.mode (own_chains plan q ep) (map (moved (shadow_map plan)) (own_chains plan q ep))
 
--- how the device is attached and suspended: in a shadow epoch to a fresh ring, which has the epoch's chains at the end
+-- how the device is attached and suspended: in a shadow epoch to a fresh ring, which has the epoch's chains at the end. Its settings are
+-- those that the control queue's device has as the epoch begins
 abbrev pub epoch_attach : {E : Type 0} → DeviceModel E → LayoutModel → Plan → ℕ → Epoch → Event
 epoch_attach e l plan q ep =
-    by_mode ep.mode (attach_event e l plan q ep.first)
-    (Attach ep.first (ring_of q ep) (record { 0 = l.fresh_base }) Shadow default (shadow_map plan))
+    by_mode ep.mode (attach_event e l plan q ep.number ep.first)
+    (Attach ep.first (ring_of q ep) (record { 0 = l.fresh_base }) Shadow (settings_at plan ep.number) (shadow_map plan))
 
 abbrev pub epoch_suspend : {E : Type 0} → DeviceModel E → LayoutModel → Plan → ℕ → Epoch → Event
 epoch_suspend e l plan q ep =
@@ -123,9 +125,6 @@ abbrev pub journal_chains : Plan → ℕ → List (List Piece)
 journal_chains plan q = flat_map (epoch_chains plan q) (queue_epochs plan q)
 
 -- ---- what comes back
-
-abbrev pub returned_numbers : List Return → List ℕ
-returned_numbers rs = map (λ r. r.number) rs
 
 -- a chain that was begun came back with the length that was given for it, and without an acknowledgement
 pub record HasLen (lens : List ℕ) (r : Return) : Type 0 where

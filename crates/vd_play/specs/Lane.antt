@@ -100,6 +100,6 @@ pub record Serves {D E G X C : Type 0} (s : Setting D E G X C) (plan : Plan) (q 
   pub from : (by.at ≡ begun_at plan q k) × (by.from ≡ begun_at plan q k)
   pub to : by.at + by.count ≡ begun_at plan q (k + 1)
   pub events : s.party.events device ≡ events_before s.device s.layout plan q k
-      ++ (resets plan q k ++ attach_event s.device s.layout plan q (begun_at plan q k) ∷ [])
+      ++ (resets plan q k ++ attach_event s.device s.layout plan q k (begun_at plan q k) ∷ [])
   pub room : HasRoom s plan q device
   pub live : s.party.is_done device → ⊥

@@ -1,8 +1,11 @@
 pub mod Epochs
+pub mod Returned
+pub mod Commands
 pub mod Journal
+pub mod ControlRings
+pub mod ControlJournal
 pub mod Setting
 pub mod Before
-pub mod Commands
 pub mod Rings
 pub mod Lane
 pub mod Orders
@@ -11,6 +14,8 @@ pub mod Kits
 pub mod Each
 pub mod Progress
 pub mod Played
+pub mod CommandsPlayed
+pub mod AllWork
 pub mod Prepared
 pub mod Rounds
 pub mod Alone

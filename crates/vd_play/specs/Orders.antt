@@ -4,13 +4,13 @@ use Rattle.std.specs.Option.{option_map_or}
 use Rattle.vd_layout.specs.Device.{DeviceModel, IsStill}
 use Rattle.vd_layout.specs.Layout.{LayoutModel}
 use Rattle.vd_model.specs.declared.base.Mode.TheVariants.{Shadow}
-use Rattle.vd_control.specs.Settings.{default}
 use Rattle.vd_bus.specs.declared.event.Event.{Event}
 use Rattle.vd_bus.specs.declared.event.Event.TheVariants.{Attach}
 use Rattle.vd_bus.specs.Device.{DeviceParty}
 use Rattle.vd_bus.specs.Orders.{Terms}
 use Rattle.vd_machine.specs.File.{Plan}
 use Rattle.vd_machine.specs.declared.machine.Switch.{Switch}
+use Rattle.vd_play.specs.Commands.{settings_at}
 use Rattle.vd_play.specs.Journal.{pass_map, shadow_map}
 
 -- the guest's ring is served from where its end rests, and `count` chains are begun
@@ -37,9 +37,10 @@ shadow_order l plan k q count = record {
   map = shadow_map plan;
 }
 
--- the device is attached to the shadow ring of epoch k after `at` chains, with the default settings
+-- the device is attached to the shadow ring of epoch k after `at` chains, with what the commands begun before that epoch have set
 abbrev pub shadow_attach : LayoutModel → Plan → ℕ → ℕ → ℕ → Event
-shadow_attach l plan q k at = Attach at (16 * (k + 1) + q) (record { 0 = l.fresh_base }) Shadow default (shadow_map plan)
+shadow_attach l plan q k at =
+    Attach at (16 * (k + 1) + q) (record { 0 = l.fresh_base }) Shadow (settings_at plan k) (shadow_map plan)
 
 -- where epoch k of a queue of n chains ends
 abbrev pub stop_of : List Switch → ℕ → ℕ → ℕ

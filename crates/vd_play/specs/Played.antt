@@ -10,7 +10,8 @@ use Rattle.vd_machine.specs.File.{Plan}
 use Rattle.vd_play.specs.declared.bench.Bench.{Bench}
 use Rattle.vd_play.specs.declared.epoch.PlayFault.{PlayFault}
 use Rattle.vd_play.specs.declared.epoch.PlayFault.TheVariants.{Device}
-use Rattle.vd_play.specs.Journal.{journal_events, journal_chains, queue_script, queue_chains, returned_numbers, HasLen, IsReturned}
+use Rattle.vd_play.specs.Journal.{journal_events, journal_chains, queue_script, queue_chains, HasLen, IsReturned}
+use Rattle.vd_play.specs.Returned.{returned_numbers}
 use Rattle.vd_play.specs.Setting.{Setting}
 
 -- the device's journal is the one that the machine orders, with the lengths that the device gave

@@ -1,9 +1,11 @@
 //! An epoch's begin: each lane's device is attached to its ring.
 ghost use Rattle.std.specs.Prelude.{◌≡◌, ◌<◌, ◌+◌, true, None, Some, IfErr, IfOk, OnOk, length};
+ghost use Rattle.std.specs.Option.{option_copied};
 ghost use Rattle.vd_bus.specs.Bus.{vring_of};
 ghost use Rattle.vd_bus.specs.BusRings.{enable_fault, order_fault, terms};
-ghost use Rattle.vd_bus.specs.Device.{IsAttach, IsRefused};
+ghost use Rattle.vd_bus.specs.Device.{IsAttach, IsRefused, control_settings};
 ghost use Rattle.vd_machine.specs.File.{view};
+ghost use Rattle.vd_play.specs.Commands.{settings_at};
 ghost use Rattle.vd_play.specs.Each.{EachLane, HasLanes};
 ghost use Rattle.vd_play.specs.Epochs.{mode_at};
 ghost use Rattle.vd_play.specs.Orders.{CanAttach};
@@ -32,14 +34,15 @@ pub enum PlayFault {
     Device(u32),
 }
 
-/// Attaches a lane's device to the guest's ring, by an order of the bus to begin `count` chains more. A refusal leaves the end in the
-/// lane.
-fn attach_pass<'a, L: Layout, V: Device<L>>(
+/// Attaches a lane's device to the guest's ring, by an order of the bus to begin `count` chains more, with the settings of the control
+/// queue's device, or the default where there is none. A refusal leaves the end in the lane.
+fn attach_pass<L: Layout, V: Device<L>>(
     bus: &mut Bus,
     queue: u32,
     count: u32,
     lane: &mut Lane<L>,
-    device: &'a mut V,
+    device: &mut V,
+    control: Option<&V>,
 ) -> Result<(), PlayFault>
     requires can { CanAttach L.Device.device V.party queue count lane.old.still device.old }
     requires enabled { enable_fault bus.old (on queue) ≡ None }
@@ -48,7 +51,8 @@ fn attach_pass<'a, L: Layout, V: Device<L>>(
     ensures bus { bus.new ≡ serving bus.old queue }
     ensures lane { IsSameLane lane.old lane.new × (lane.new.relaying ≡ lane.old.relaying) × (lane.new.kits ≡ lane.old.kits) }
     ensures ok { IfOk result (λ _. (lane.new.still ≡ None) × ((end : _) → lane.old.still ≡ Some end
-        → IsAttach L.Device.device V.party (terms (serving bus.old queue) queue count) None end device.old device.new)) }
+        → IsAttach L.Device.device V.party (terms (serving bus.old queue) queue count) (option_copied control.entry) end
+        device.old device.new)) }
     ensures carried { V.party.carried device.new ≡ V.party.carried device.old }
     ensures faults { OnOk result (V.party.faults device.new ≡ V.party.faults device.old) }
     ensures err { IfErr result (λ f. (f ≡ PlayFault.Device queue) × (lane.new.still ≡ lane.old.still)
@@ -65,8 +69,6 @@ fn attach_pass<'a, L: Layout, V: Device<L>>(
         },
     );
     let order = order(bus, queue, count);
-    // A lifetime of its own would have to be shown to be outlived by V.
-    let control: Option<&'a V> = None;
     match device.attach(&order, end, control) {
         Ok(()) => Ok(()),
         Err(refused) => {
@@ -76,14 +78,15 @@ fn attach_pass<'a, L: Layout, V: Device<L>>(
     }
 }
 
-/// Attaches a lane's device to the epoch's shadow ring, by an order of the bus to begin `count` chains more, and lets a relay stand between
-/// it and the guest's ring. A refusal leaves the end in the lane.
-fn attach_shadow<'a, L: Layout, V: Device<L>>(
+/// Attaches a lane's device to the epoch's shadow ring, by an order of the bus to begin `count` chains more, with the settings of the
+/// control queue's device, and lets a relay stand between it and the guest's ring. A refusal leaves the end in the lane.
+fn attach_shadow<L: Layout, V: Device<L>>(
     bus: &mut Bus,
     queue: u32,
     count: u32,
     lane: &mut Lane<L>,
-    device: &'a mut V,
+    device: &mut V,
+    control: Option<&V>,
 ) -> Result<(), PlayFault>
     requires can { CanAttach L.Device.device V.party queue count lane.old.still device.old }
     requires enabled { enable_fault bus.old (on queue) ≡ None }
@@ -93,7 +96,7 @@ fn attach_shadow<'a, L: Layout, V: Device<L>>(
     ensures bus { bus.new ≡ serving bus.old queue }
     ensures lane { IsSameLane lane.old lane.new × (lane.new.kits.items ≡ removed_last lane.old.kits.items) }
     ensures ok { IfOk result (λ _. (lane.new.still ≡ None) × HasShadowed L.Driver.driver L.Device.device V.party
-        (terms (serving bus.old queue) queue count) lane.old lane.new device.old device.new) }
+        (terms (serving bus.old queue) queue count) (option_copied control.entry) lane.old lane.new device.old device.new) }
     ensures carried { V.party.carried device.new ≡ V.party.carried device.old }
     ensures faults { OnOk result (V.party.faults device.new ≡ V.party.faults device.old) }
     ensures err { IfErr result (λ f. (f ≡ PlayFault.Device queue) × (lane.new.still ≡ lane.old.still)
@@ -113,7 +116,6 @@ fn attach_shadow<'a, L: Layout, V: Device<L>>(
         },
     );
     let order = order(bus, queue, count);
-    let control: Option<&'a V> = None;
     match Still::new(end, false).to_shadow(ring.kit, false, device, &order, control) {
         Ok(shadowing) => {
             lane.relaying = Some(Relaying {
@@ -129,14 +131,17 @@ fn attach_shadow<'a, L: Layout, V: Device<L>>(
     }
 }
 
-/// Begins an epoch on each lane, in the order of the queues. A refusal ends it, and no further device is attached.
+/// Begins an epoch on each lane, in the order of the queues, with the settings of the control queue's device. A refusal ends it, and no
+/// further device is attached.
 pub(crate) fn attach_all<L: Layout, G: Guest<L>, V: Device<L>>(
     m: &Machine,
     epoch: usize,
     bus: &mut Bus,
     floor: &mut Floor<L>,
     bench: &mut Bench<G, V>,
+    control: Option<&V>,
 ) -> Result<(), PlayFault>
+    requires settings { control_settings V.party.settings (option_copied control) ≡ settings_at (view m.now) epoch }
     requires many { length floor.old.lanes.items ≡ length m.now.queues }
     requires parties { HasLanes (length m.now.queues) bench.old }
     requires epoch { epoch < length m.now.switches + 2 }
@@ -167,10 +172,10 @@ pub(crate) fn attach_all<L: Layout, G: Guest<L>, V: Device<L>>(
         let count = stop - device.journal().begun.len() as u32;
         match mode {
             Mode::Pass => {
-                attach_pass::<L, V>(bus, i as u32, count, &mut floor.lanes[i], device)?;
+                attach_pass::<L, V>(bus, i as u32, count, &mut floor.lanes[i], device, control)?;
             }
             Mode::Shadow => {
-                attach_shadow::<L, V>(bus, i as u32, count, &mut floor.lanes[i], device)?;
+                attach_shadow::<L, V>(bus, i as u32, count, &mut floor.lanes[i], device, control)?;
             }
         }
     }

@@ -1,5 +1,5 @@
 //! All epochs of a machine, one after the other.
-ghost use Rattle.std.specs.Prelude.{◌≡◌, ℕ, ◌<◌, ◌≤◌, ◌+◌, false, IfErr, IfOk, OnOk, length};
+ghost use Rattle.std.specs.Prelude.{◌≡◌, ℕ, ◌<◌, ◌≤◌, ◌+◌, false, None, IfErr, IfOk, OnOk, length};
 ghost use Rattle.vd_machine.specs.File.{Plan, view};
 ghost use Rattle.vd_play.specs.Each.{HasLanes};
 ghost use Rattle.vd_play.specs.Played.{AllPlayed, AllCut, KeepsBench, HasNoFault, IsFaultOf, faulty};
@@ -39,13 +39,14 @@ fn halt_all<L: Layout, G: Guest<L>, V: Device<L>>(floor: Floor<L>, bench: &mut B
 
 /// Plays the machine, for which the floor was prepared, with the parties of the bench: each live party in its turn, one
 /// access after the other. With a seed a turn has 1 to 4 of them. It answers how many accesses were made, without the
-/// looks of sleepers.
-pub fn play_machine<L: Layout, G: Guest<L>, V: Device<L>>(
+/// looks of sleepers. The machine has data queues alone: a control queue isn't played yet.
+pub fn play_machine<'a, L: Layout, G: Guest<L>, V: Device<L>>(
     floor: Floor<L>,
     m: &Machine,
     seed: Option<u64>,
-    bench: &mut Bench<G, V>,
+    bench: &'a mut Bench<G, V>,
 ) -> Result<u64, PlayFault>
+    requires uncontrolled { m.now.control ≡ None }
     requires prepared { IsPrepared (setting_of L.Driver.driver L.Device.device L.layout G.party V.party) (view m.now)
         floor.lanes.items bench.old }
     requires tree { IsLaid (view m.now) floor.tree.mappings }
@@ -64,7 +65,9 @@ pub fn play_machine<L: Layout, G: Guest<L>, V: Device<L>>(
     for epoch in 0..m.switches.len() + 2 {
         renew::<L, G, V>(m, epoch, &mut bus, bench);
         set_up::<L>(m, &floor.tree, epoch, &mut bus, floor.lanes.as_slice());
-        attach_all::<L, G, V>(m, epoch, &mut bus, &mut floor, bench)?;
+        // There is no control queue's device. (A lifetime of its own would have to be shown to be outlived by V.)
+        let control: Option<&'a V> = None;
+        attach_all::<L, G, V>(m, epoch, &mut bus, &mut floor, bench, control)?;
         made += run_epoch::<L, G, V>(&mut floor, bench, &mut draws);
     }
     made += drain::<L, G, V>(&mut floor, bench, &mut draws);

@@ -1,5 +1,5 @@
 //! A machine that was read is played over a bench of its layout, and reported.
-ghost use Rattle.std.specs.Prelude.{◌≡◌, false};
+ghost use Rattle.std.specs.Prelude.{◌≡◌, false, None};
 ghost use Rattle.vd_machine.specs.File.{view};
 ghost use Rattle.vd_play.specs.Played.{faulty};
 ghost use Rattle.vd_play.specs.Prepared.{IsOfLayout, IsEmptyBench, IsUntouched};
@@ -26,7 +26,7 @@ fn status_of(fault: PlayFault) -> Status
 }
 
 /// Plays the machine with the parties of the bench, by the turns of the seed where there is one, and writes its report to
-/// the sink. All memory is taken before the first step of a ring.
+/// the sink. All memory is taken before the first step of a ring. The machine has no control queue yet.
 pub fn play_on<L: Layout, K: Sink, G: Guest<L>, V: Device<L>>(
     alloc: Global,
     m: &Machine,
@@ -36,6 +36,7 @@ pub fn play_on<L: Layout, K: Sink, G: Guest<L>, V: Device<L>>(
     sink: &mut K,
 ) -> Status
     requires layout { IsOfLayout L.layout (view m.now) }
+    requires uncontrolled { m.now.control ≡ None }
     requires empty { IsEmptyBench G.party V.party bench.old }
     ensures answer { PlaysTo (setting_of L.Driver.driver L.Device.device L.layout G.party V.party) (view m.now) brief
         bench.old bench.new

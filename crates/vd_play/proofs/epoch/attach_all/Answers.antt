@@ -1,4 +1,5 @@
 use Rattle.std.proofs.Common.{◌<◌, length, arith, sym, refl, ap, ◌∙◌}
+use Rattle.std.specs.Option.{option_copied}
 use Rattle.std.proofs.lemmas.Option.{slice_get_read}
 use Rattle.std.proofs.lemmas.List.{length-set}
 use Rattle.vd_model.specs.declared.record.Script.{Script}
@@ -160,8 +161,8 @@ loop-i-preserved g c =
           let device' = w.attach_pass.new.device in
           let ok = w.in_ok-attach_pass-in-Pass.ensures.ok in
           let same = w.attach_pass.ensures.lane in
-          let began = begins_pass (lawful g) p w.index_mut.result.now hl lane' device' (sym c.mode_of-mode.ensures ∙ w.in-Pass.is) same
-          ok in
+          let began = begins_pass (lawful g) p w.index_mut.result.now hl lane' device' (option_copied c.args.control) c.requires.settings
+          (sym c.mode_of-mode.ensures ∙ w.in-Pass.is) same ok in
           rw (w.bus-is, w.floor-is, w.bench-is) record {
             tree = c.loop-i.invariant.tree;
             many = length-set lanes i lane' ∙ c.loop-i.invariant.many;
@@ -176,7 +177,8 @@ loop-i-preserved g c =
           let device' = w.attach_shadow.new.device in
           let ok = w.in_ok-attach_shadow-in-Shadow.ensures.ok in
           let same = w.attach_shadow.ensures.lane in
-          let began = begins_shadow (lawful g) p lane hl lane' device' (sym c.mode_of-mode.ensures ∙ w.in-Shadow.is) same ok in
+          let began = begins_shadow (lawful g) p lane hl lane' device' (option_copied c.args.control) c.requires.settings
+          (sym c.mode_of-mode.ensures ∙ w.in-Shadow.is) same ok in
           rw (w.bus-is, w.floor-is, w.bench-is) record {
             tree = c.loop-i.invariant.tree;
             many = length-set lanes i lane' ∙ c.loop-i.invariant.many;

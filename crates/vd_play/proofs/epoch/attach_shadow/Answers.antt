@@ -1,4 +1,5 @@
 use Rattle.std.proofs.Common.{◌≡◌, ◌-◌, Some, None, false, length, slice_get, sym, refl, ap, subst, arith, ◌∙◌}
+use Rattle.std.specs.Option.{option_copied}
 use Rattle.std.proofs.lemmas.Bool.{false≢true}
 use Rattle.vd_control.specs.Settings.{HasPairs}
 use Rattle.vd_bus.specs.Bus.{BusState}
@@ -84,7 +85,8 @@ returns-in-Ok-clause-ok g c =
             (made.0 c.new.ensures.control).1;
         fresh = made.2;
         plain = (made.0 c.new.ensures.control).0;
-        attached = subst (λ (z : Terms). IsAttach e g.V.Device.party z None kit.device c.args.device.now c.to_shadow.new.device) ordered
+        attached = subst (λ (z : Terms). IsAttach e g.V.Device.party z (option_copied c.args.control) kit.device c.args.device.now
+            c.to_shadow.new.device) ordered
             made.3;
       },
     )

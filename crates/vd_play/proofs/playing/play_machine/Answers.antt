@@ -14,6 +14,7 @@ use Rattle.vd_play.specs.Tree.{IsLaid}
 use Rattle.vd_play.proofs.Setups.{still_serve}
 use Rattle.vd_play.proofs.Benches.{keeps_none, keeps_through, lanes_kept, fault_later, same_many}
 use Rattle.vd_play.proofs.Chained.{few_switches}
+use Rattle.vd_play.proofs.ControlSettings.{settings_none}
 use Rattle.vd_play.proofs.Cut.{if_err_by, if_err_any}
 use Rattle.vd_play.proofs.Each.{each_queue}
 use Rattle.vd_play.proofs.Lasting.{all_closed, all_low, last_epoch}
@@ -48,6 +49,9 @@ renew-requires-clause-devices g c = λ is.
     (view c.args.m.now) c.loop-epoch.epoch (length c.args.m.now.queues) c.loop-epoch.floor.lanes.items c.loop-epoch.bench
     c.loop-epoch.bench c.loop-epoch.invariant.many c.loop-epoch.invariant.each c.loop-epoch.invariant.parties
     (omega (arith, c.loop-epoch-test.true, c.len-epoch-end.ensures)) is
+
+pub attach_all-requires-clause-settings : goal.attach_all-requires-clause-settings
+attach_all-requires-clause-settings g c = sym (settings_none (view c.args.m.now) c.loop-epoch.epoch c.requires.uncontrolled)
 
 pub attach_all-requires-clause-parties : goal.attach_all-requires-clause-parties
 attach_all-requires-clause-parties g c =
