@@ -1,5 +1,5 @@
 //! A machine that was read is played over a bench of its layout, and reported.
-ghost use Rattle.std.specs.Prelude.{◌≡◌, false};
+ghost use Rattle.std.specs.Prelude.{◌≡◌, None, false};
 ghost use Rattle.vd_machine.specs.File.{view};
 ghost use Rattle.vd_play.specs.Played.{faulty};
 ghost use Rattle.vd_play.specs.Prepared.{IsOfLayout, IsEmptyBench, IsUntouched};
@@ -37,6 +37,7 @@ pub fn play_on<L: Layout, K: Sink, G: Guest<L>, V: Device<L>>(
 ) -> Status
     requires layout { IsOfLayout L.layout (view m.now) }
     requires empty { IsEmptyBench G.party V.party bench.old }
+    requires uncontrolled { m.now.control ≡ None }
     ensures answer { PlaysTo (setting_of L.Driver.driver L.Device.device L.layout G.party V.party) (view m.now) brief
         bench.old bench.new
         (K.held sink.old) (K.held sink.new) (K.faults sink.old) (K.faults sink.new) result }

@@ -1,5 +1,5 @@
 //! Reading the machine that a source orders.
-ghost use Rattle.std.specs.Prelude.{IfOk, IfErr};
+ghost use Rattle.std.specs.Prelude.{◌≡◌, None, IfOk, IfErr};
 ghost use Rattle.vd_machine.specs.File.{view};
 ghost use Rattle.vd_runner.specs.Reading.{RefusesToRead, ReadsMachine};
 
@@ -11,6 +11,7 @@ use vd_stream::{MOST_BYTES, ReadFault, Source, read_whole};
 /// The machine that the source's bytes mean, or how the command ends.
 pub fn read_machine<S: Source>(alloc: Global, source: &mut S) -> Result<Machine, Status>
     ensures ok { IfOk result (λ m. ReadsMachine (S.left source.old) (S.left source.new) (view m)) }
+    ensures uncontrolled { IfOk result (λ m. m.control ≡ None) }
     ensures err { IfErr result (RefusesToRead (S.left source.old) (S.left source.new) (S.faults source.old) (S.faults source.new)) }
 {
     let bytes = match read_whole(alloc, source) {
