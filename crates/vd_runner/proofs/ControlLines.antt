@@ -1,9 +1,8 @@
 -- The next line of a control queue's report, and the lines after it.
-use Rattle.std.proofs.Common.{◌≡◌, ℕ, suc, ◌+◌, ◌-◌, ◌/◌, ◌%◌, ◌<◌, ◌≤◌, Bool, true, false, List, [], ◌∷◌, ◌++◌, length, get_or, take, drop, Option, Some, refl, ap, sym, subst, ◌∙◌, arith, append_assoc, append-nil, inl, inr}
-use Rattle.std.specs.Prelude.{◌≢◌, cond, flat_map, filter, map, slice_get, slice_index}
+use Rattle.std.proofs.Common.{◌≡◌, ℕ, suc, ◌+◌, ◌-◌, ◌/◌, ◌%◌, ◌<◌, ◌≤◌, Bool, true, false, List, [], ◌∷◌, ◌++◌, length, get_or, drop, Option, Some, ap, sym, ◌∙◌, arith, append_assoc, append-nil, inl, inr}
+use Rattle.std.specs.Prelude.{◌≢◌, cond, flat_map, filter, slice_get, slice_index}
 use Rattle.std.specs.List.{Contains, range_with_len}
-use Rattle.std.proofs.lemmas.List.{drop_more, drop_all, take_more, get_or-map, length-map}
-use Rattle.std.proofs.lemmas.Grind.{flat_map-append}
+use Rattle.std.proofs.lemmas.List.{drop_more, drop_all, get_or-map, length-map}
 use Rattle.std.proofs.lemmas.Bool.{cases_lt}
 use Rattle.std.proofs.lemmas.Option.{slice_get-get_or, slice_get_within}
 use Rattle.hex.specs.Hex.{encode_with, encode_lower, lower_digits}
@@ -13,15 +12,9 @@ use Rattle.vd_control.specs.Settings.{passing}
 use Rattle.vd_ring.specs.History.{occurs}
 use Rattle.vd_ring.proofs.Counts.{Contains_from}
 use Rattle.vd_play.specs.Commands.{IsAnswered, AreAnswered}
-use Rattle.vd_runner.specs.CommandReport.{entry_numbers, flag_text, command_line, command_lines, vlan_line}
+use Rattle.vd_runner.specs.CommandReport.{entry_numbers, command_line, command_lines, vlan_line}
 
--- ---- the settings
-
-pub flag_more : (flags : List Bool) (i : ℕ) (d : Bool) → i < length flags
-    → flat_map flag_text (take (i + 1) flags) ≡ flat_map flag_text (take i flags) ++ flag_text (get_or flags i d)
-flag_more flags i d h =
-    ap (flat_map flag_text) (take_more flags i d h) ∙ flat_map-append flag_text (take i flags) (get_or flags i d ∷ [])
-    ∙ ap (λ t. flat_map flag_text (take i flags) ++ t) (append-nil (flag_text (get_or flags i d)))
+-- ---- the address
 
 -- two digits of the next byte are put
 pub byte_more : (old mid new mac : List ℕ) (i : ℕ) → i < length mac
@@ -93,9 +86,6 @@ command_at in_order sent list k place r all below is =
     ap (command_lines k) (bytes_are sent k a.bytes at)
     ∙ ap (λ ack. command_line k ack ++ command_lines (k + 1) (drop (k + 1) sent)) (sym a.ack)
 
-pub last_command : (sent : List (List ℕ)) (k : ℕ) → length sent ≤ k → command_lines k (drop k sent) ≡ []
-last_command sent k h = ap (command_lines k) (drop_all k sent h)
-
 -- ---- the VLANs
 
 -- the lines of the VLANs from number k on that are set
@@ -117,7 +107,8 @@ next_vlan passes k n h =
     let more : n - k ≡ suc (n - (k + 1)) = omega arith in
     ap (λ j. flat_map vlan_line (filter passes (range_with_len k j))) more
 
-pub vlan_there : (passes : ℕ → Bool) (k n : ℕ) → k < n → passes k ≡ true → vlans_from passes k n ≡ vlan_line k ++ vlans_from passes (k + 1) n
+pub vlan_there : (passes : ℕ → Bool) (k n : ℕ) → k < n → passes k ≡ true
+    → vlans_from passes k n ≡ vlan_line k ++ vlans_from passes (k + 1) n
 unfolding vlans_from
 vlan_there passes k n h is =
     let rest = filter passes (range_with_len (k + 1) (n - (k + 1))) in

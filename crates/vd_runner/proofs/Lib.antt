@@ -5,4 +5,3 @@ pub mod Prepared
 pub mod Outcome
 pub mod Twice
 pub mod ControlLines
-pub mod ControlQueue
