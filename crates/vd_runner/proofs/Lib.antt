@@ -4,3 +4,4 @@ pub mod Queues
 pub mod Prepared
 pub mod Outcome
 pub mod Twice
+pub mod ControlLines

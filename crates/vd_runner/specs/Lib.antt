@@ -1,4 +1,6 @@
 pub mod Report
+pub mod CommandReport
+pub mod ControlPlayed
 pub mod Checking
 pub mod Command
 pub mod Given

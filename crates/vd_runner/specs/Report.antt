@@ -1,12 +1,14 @@
 -- The report, line by line. Every line ends with a line feed, and numbers are decimal.
-use Rattle.std.specs.Prelude.{ℕ, ◌+◌, Bool, List, [], ◌∷◌, ◌++◌, length, map, sum, take, codes, decimal, if◌then◌else◌}
+use Rattle.std.specs.Prelude.{ℕ, ◌+◌, Bool, List, [], ◌∷◌, ◌++◌, length, map, sum, take, codes, decimal, if◌then◌else◌, is_some}
 use Rattle.std.specs.List.{sum_by}
 use Rattle.vd_model.specs.declared.base.Mode.{Mode}
 use Rattle.vd_model.specs.declared.base.Mode.TheVariants.{Pass, Shadow}
 use Rattle.vd_bus.specs.Device.{DeviceParty, lens_of}
 use Rattle.vd_machine.specs.File.{Plan}
+use Rattle.vd_play.specs.Commands.{control_commands, settings_of}
 use Rattle.vd_play.specs.Epochs.{Epoch, working_epochs}
 use Rattle.vd_play.specs.declared.bench.Bench.{Bench}
+use Rattle.vd_runner.specs.CommandReport.{command_lines, settings_lines}
 
 -- `queue q chains N bytes B`
 unfoldable pub queue_line : ℕ → ℕ → ℕ → List ℕ
@@ -57,10 +59,15 @@ all_queue_lines plan brief q (lens ∷ more) = queue_lines plan brief q lens ++ 
 abbrev pub drained : List (List ℕ) → ℕ
 drained all = sum_by (λ (lens : List ℕ). length lens) all
 
--- the report of a machine, with the lengths that were given on each of its queues
-unfoldable pub report : Plan → Bool → List (List ℕ) → List ℕ
-report plan brief all = all_queue_lines plan brief 0 all ++ drained_line (drained all)
+-- where there is a control queue, its commands with their acks and what they have set, also where the report is brief
+abbrev pub control_lines : Plan → List ℕ
+control_lines plan =
+    if is_some plan.control then command_lines 0 (control_commands plan) ++ settings_lines (settings_of plan) else []
 
--- the lengths that stand in the journal of each queue's device
+-- the report of a machine, with the lengths that were given on each of its data queues, whose chains alone are counted at its end
+unfoldable pub report : Plan → Bool → List (List ℕ) → List ℕ
+report plan brief all = all_queue_lines plan brief 0 all ++ (control_lines plan ++ drained_line (drained all))
+
+-- the lengths that stand in the journal of each data queue's device
 abbrev pub all_lens : {G X C : Type 0} → DeviceParty X C → Plan → Bench G X → List (List ℕ)
 all_lens m plan bench = map (λ x. lens_of (m.begun x)) (take (length plan.queues) bench.devices.items)

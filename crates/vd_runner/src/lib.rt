@@ -1,8 +1,11 @@
 //! The whole of a command: words, a source, a sink and the parties of a bench.
 #![tactic(auto)]
 
+mod acks;
 mod checking;
 mod chosen;
+mod control;
+mod control_line;
 mod epochs;
 mod line;
 mod playing;
@@ -21,3 +24,6 @@ pub use status::Status;
 pub use top::vdpa;
 pub use vd_play::{Bench, Floor, PlayFault, play_machine, prepare};
 pub use words::options;
+
+#[cfg(test)]
+mod tests;

@@ -10,8 +10,9 @@ use vd_model::Mode;
 /// A line of at most 120 bytes.
 pub type Line = ArrayString<120>;
 
+/// Appends a number.
 #[inline(always)]
-fn push_number(line: &mut Line, number: u64)
+pub fn push_number(line: &mut Line, number: u64)
     requires { array_string_len line.old + 20 ≤ 120 }
     ensures bytes { line.new.bytes ≡ line.old.bytes ++ decimal number }
     ensures len { array_string_len line.new ≤ array_string_len line.old + 20 }
@@ -20,7 +21,8 @@ fn push_number(line: &mut Line, number: u64)
     line.push_str(buffer.format(number));
 }
 
-fn push_text(line: &mut Line, text: &str)
+/// Appends a text.
+pub fn push_text(line: &mut Line, text: &str)
     requires { array_string_len line.old + length text.now ≤ 120 }
     ensures bytes { line.new.bytes ≡ line.old.bytes ++ text.now }
     ensures len { array_string_len line.new ≡ array_string_len line.old + length text.now }

@@ -1,5 +1,5 @@
 //! A machine that was read is played over a bench of its layout, and reported.
-ghost use Rattle.std.specs.Prelude.{◌≡◌, false, None};
+ghost use Rattle.std.specs.Prelude.{◌≡◌, None, false};
 ghost use Rattle.vd_machine.specs.File.{view};
 ghost use Rattle.vd_play.specs.Played.{faulty};
 ghost use Rattle.vd_play.specs.Prepared.{IsOfLayout, IsEmptyBench, IsUntouched};
