@@ -1,3 +1,5 @@
 pub mod Turning
 pub mod Relaying
 pub mod RelayWays
+pub mod ControlRelaying
+pub mod ControlWays

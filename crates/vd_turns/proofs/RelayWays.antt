@@ -37,7 +37,7 @@ live_on stage.DisarmingShadow rests = refl
 live_on stage.Resting rests = refl
 
 -- what two steps add
-through : (a b c x y u : ℕ) → b + x ≤ a + y → c + y ≤ b + u → c + x ≤ a + u
+pub through : (a b c x y u : ℕ) → b + x ≤ a + y → c + y ≤ b + u → c + x ≤ a + u
 through a b c x y u f g = omega arith
 
 module _ {E D : Type 0} (l : LayoutModel) (e : DeviceModel E) (d : DriverModel D) (z : Start) (old : List (List Piece × ℕ))

@@ -53,7 +53,7 @@ before_live stage.DisarmingShadow s done live b = b
 before_live stage.Resting s done live b = b
 
 -- only in a wind-up it rests
-rests_winding : (st : Stage) (winding : Bool) (target : ℕ) (s : List DeviceDone) (o : List DriverDone) → EndsIs st winding target s o
+pub rests_winding : (st : Stage) (winding : Bool) (target : ℕ) (s : List DeviceDone) (o : List DriverDone) → EndsIs st winding target s o
     → winding ≡ false → is_rested st ≡ false
 rests_winding stage.Rested winding target s o ends off = absurd (cc (ends.0, off))
 rests_winding stage.Taking winding target s o ends off = refl
@@ -70,7 +70,7 @@ rests_winding stage.Resting winding target s o ends off = refl
 
 -- ---- counts
 
-worked_is : (m : Move) (b : Bool) → IsTrue b ↔ (m ≡ move.Looked) → unless b ≡ worked m
+pub worked_is : (m : Move) (b : Bool) → IsTrue b ↔ (m ≡ move.Looked) → unless b ≡ worked m
 worked_is move.Looked true f = refl
 worked_is move.Looked false f = absurd (cc (f.1 refl))
 worked_is move.Worked true f = absurd (cc (f.0 refl))
@@ -78,12 +78,12 @@ worked_is move.Worked false f = refl
 worked_is move.Finished true f = absurd (cc (f.0 refl))
 worked_is move.Finished false f = refl
 
-guest_did : (b : Bool) (n m k t g t' g' o x y : ℕ) → m ≡ raised k n → t + g + k ≤ (if b then t else t') + g' → t ≤ o
+pub guest_did : (b : Bool) (n m k t g t' g' o x y : ℕ) → m ≡ raised k n → t + g + k ≤ (if b then t else t') + g' → t ≤ o
     → m + (t + g + x + y) ≤ n + ((if b then o else t') + g' + x + y)
 guest_did true n m k t g t' g' o x y is grown few = omega arith
 guest_did false n m k t g t' g' o x y is grown few = omega arith
 
-shadow_did : (b : Bool) (n m k t g o x y x' y' : ℕ) → m ≡ raised k n → x + y + k ≤ x' + y' → t ≤ o
+pub shadow_did : (b : Bool) (n m k t g o x y x' y' : ℕ) → m ≡ raised k n → x + y + k ≤ x' + y' → t ≤ o
     → m + (t + g + x + y) ≤ n + ((if b then o else t) + g + x' + y')
 shadow_did true n m k t g o x y x' y' is grown few = omega arith
 shadow_did false n m k t g o x y x' y' is grown few = omega arith

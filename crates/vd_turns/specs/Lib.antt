@@ -1,3 +1,4 @@
 pub mod Draws
 pub mod Turns
 pub mod RelayTurns
+pub mod ControlTurns
