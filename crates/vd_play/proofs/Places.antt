@@ -55,10 +55,10 @@ each_place plan P each control p below = elim (either (length plan.queues) p (is
 ]
 
 by_control : (c : Bool) (P : BusState → Type 0) (x b : BusState) → (c ≡ true → P x) → (c ≡ false → P b) → P (if c then x else b)
-by_control true P x b yes no = yes refl
-by_control false P x b yes no = no refl
+by_control true P x b on off = on refl
+by_control false P x b on off = off refl
 
 -- a bus that is another one where there is a control queue
 pub where_control : (plan : Plan) (P : BusState → Type 0) (x b c : BusState) → c ≡ (if is_some plan.control then x else b)
     → (HasControl plan → P x) → (is_some plan.control ≡ false → P b) → P c
-where_control plan P x b c is yes no = subst P (sym is) (by_control (is_some plan.control) P x b yes no)
+where_control plan P x b c is on off = subst P (sym is) (by_control (is_some plan.control) P x b on off)

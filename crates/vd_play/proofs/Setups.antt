@@ -32,7 +32,7 @@ use Rattle.vd_play.specs.Places.{HasControl, control_place, control_ring}
 use Rattle.vd_play.specs.Prepared.{IsOfLayout}
 use Rattle.vd_play.specs.Progress.{AllStopped, IsStopped, StoppedWith}
 use Rattle.vd_play.specs.Setting.{Setting, IsLawful}
-use Rattle.vd_play.specs.Setup.{set_up, on, serving, with_vrings, with_map, IsBrought, IsBefore, CanSetUp, IsRing, HasRings, HasSizes, vring_at, base_in, AllServe, HasBase, HasBases, HasControlBase, IsReady}
+use Rattle.vd_play.specs.Setup.{set_up, on, serving, with_vrings, with_map, IsBrought, IsBefore, CanSetUp, IsRing, HasRings, HasSizes, IsUp, vring_at, base_in, AllServe, HasBase, HasBases, HasControlBase, IsReady}
 use Rattle.vd_play.proofs.Bounds.{at_index}
 use Rattle.vd_play.proofs.Buses.{ring_got, ring_new, serving_is, no_enable_fault, no_order_fault, offer_back, own, own_all}
 use Rattle.vd_play.proofs.Places.{IsAt, data_at, control_at, each_place}
