@@ -8,11 +8,13 @@ use Rattle.vd_bus.specs.declared.fault.BusFault.{BusFault}
 use Rattle.vd_bus.specs.declared.fault.BusFault.TheVariants.{BadNum}
 use Rattle.vd_bus.specs.declared.bus.vring.Vring.{Vring}
 use Rattle.vd_bus.specs.Bus.{BusState, fresh_vring, is_queue, vring_of, with_vring, is_lawful_size, is_lawful_base}
-use Rattle.vd_bus.specs.BusRings.{still_fault, num_fault, base_fault, enable_fault, order_fault}
+use Rattle.vd_bus.specs.BusRings.{still_fault, num_fault, after_num, base_fault, enable_fault, order_fault}
 use Rattle.vd_bus.specs.BusStatus.{has, version_1, access_platform, ring_packed, feature_bits, features_of, are_acceptable, offered_bits, is_driver_ok, is_features_ok, is_running}
 use Rattle.vd_machine.specs.Rings as rings
 use Rattle.vd_machine.specs.File.{Plan}
-use Rattle.vd_play.specs.Setup.{set_up, on, serving, with_vrings, with_map, Stands}
+use Rattle.vd_play.specs.Places.{queue_total}
+use Rattle.vd_play.specs.Setup.{set_up, on, serving, with_vrings, with_map, IsBrought, Stands}
+use Rattle.vd_play.proofs.Places.{IsAt}
 
 -- ---- tests in their order
 
@@ -81,61 +83,66 @@ offer_back p f = comes_back p f.indirect f.event_idx f.in_order
 -- ---- one queue
 
 module _ (plan : Plan) (st : ℕ) (sus : Bool) (vs : List Vring) (ms : List Mapping) (b : BusState) (e : b ≡ set_up plan st sus vs ms)
-    (q : ℕ) (low : q < length plan.queues) where
-  there : is_queue b q ≡ true
-  there = subst (λ (c : BusState). is_queue c q ≡ true) (sym e) (rw (lt-ltb q (length plan.queues) low) refl)
+    (n p : ℕ) (at : IsAt plan n p) where
+  pub there : is_queue b n ≡ true
+  there = subst (λ (c : BusState). is_queue c n ≡ true) (sym e) at.there
 
-  pub ring_put : (v : Vring) → with_vring b q v ≡ set_up plan st sus (slice_set vs q v) ms
-  ring_put v = subst (λ (c : BusState). with_vring c q v ≡ set_up plan st sus (slice_set vs q v) ms) (sym e)
-      (rw (lt-ltb q (length plan.queues) low) refl)
+  pub ring_put : (v : Vring) → with_vring b n v ≡ set_up plan st sus (slice_set vs p v) ms
+  ring_put v = subst (λ (c : BusState). with_vring c n v ≡ set_up plan st sus (slice_set vs p v) ms) (sym e)
+      (ap (λ (i : ℕ). set_up plan st sus (slice_set vs i v) ms) at.place)
 
-  pub ring_got : vring_of b q ≡ slice_index_or vs q (fresh_vring plan.packed)
-  ring_got = subst (λ (c : BusState). vring_of c q ≡ slice_index_or vs q (fresh_vring plan.packed)) (sym e)
-      (rw (lt-ltb q (length plan.queues) low) refl)
+  pub ring_got : vring_of b n ≡ slice_index_or vs p (fresh_vring plan.packed)
+  ring_got = subst (λ (c : BusState). vring_of c n ≡ slice_index_or vs p (fresh_vring plan.packed)) (sym e)
+      (ap (λ (i : ℕ). slice_index_or vs i (fresh_vring plan.packed)) at.place)
 
   -- after it is set
-  still_there : (v : Vring) → is_queue (with_vring b q v) q ≡ true
-  still_there v = subst (λ (c : BusState). is_queue c q ≡ true) (sym (ring_put v)) (rw (lt-ltb q (length plan.queues) low) refl)
+  still_there : (v : Vring) → is_queue (with_vring b n v) n ≡ true
+  still_there v = subst (λ (c : BusState). is_queue c n ≡ true) (sym (ring_put v)) at.there
 
-  pub ring_new : (v : Vring) → length vs ≡ length plan.queues → vring_of (with_vring b q v) q ≡ v
-  ring_new v many = subst (λ (c : BusState). vring_of c q ≡ v) (sym (ring_put v)) (rw (lt-ltb q (length plan.queues) low)
-      (get_or-set_same vs q v (fresh_vring plan.packed) (omega arith)))
+  pub ring_new : (v : Vring) → length vs ≡ queue_total plan → vring_of (with_vring b n v) n ≡ v
+  ring_new v many = subst (λ (c : BusState). vring_of c n ≡ v) (sym (ring_put v))
+      (ap (λ (i : ℕ). slice_index_or (slice_set vs p v) i (fresh_vring plan.packed)) at.place
+      ∙ get_or-set_same vs p v (fresh_vring plan.packed) (subst (λ (z : ℕ). p < z) (sym many) at.within))
 
-  pub no_still_fault : is_running b ≡ false → still_fault b q ≡ None
-  no_still_fault still = none2 (is_queue b q) (is_running b) _ _ there still
+  pub no_still_fault : is_running b ≡ false → still_fault b n ≡ None
+  no_still_fault still = none2 (is_queue b n) (is_running b) _ _ there still
 
-  pub no_num_fault : st ≡ 11 → is_lawful_size plan.packed plan.size ≡ true
-      → num_fault b (record { index = q; num = plan.size }) ≡ None
-  no_num_fault at lawful = none3 (is_queue b q) (is_driver_ok b) (is_lawful_size b.packed plan.size && nat_le plan.size b.size_max) _ _ _
-      there
-      (subst (λ (c : BusState). is_driver_ok c ≡ false) (sym e) (subst (λ (n : ℕ). has n 2 ≡ false) (sym at) refl))
-      (subst (λ (c : BusState). (is_lawful_size c.packed plan.size && nat_le plan.size c.size_max) ≡ true) (sym e)
-      (rw lawful (le-leb plan.size plan.size (omega arith))))
-
-  pub no_base_fault : (base : ℕ) → is_running b ≡ false → (slice_index_or vs q (fresh_vring plan.packed)).num ≡ plan.size
-      → is_lawful_base plan.packed plan.size base ≡ true → base_fault b (record { index = q; num = base }) ≡ None
+  pub no_base_fault : (base : ℕ) → is_running b ≡ false → (slice_index_or vs p (fresh_vring plan.packed)).num ≡ plan.size
+      → is_lawful_base plan.packed plan.size base ≡ true → base_fault b (record { index = n; num = base }) ≡ None
   no_base_fault base still sized lawful =
-      none3 (is_queue b q) (is_running b) (is_lawful_base b.packed (vring_of b q).num base) _ _ _ there still
-      (ap (λ (c : BusState). is_lawful_base c.packed (vring_of b q).num base) e
+      none3 (is_queue b n) (is_running b) (is_lawful_base b.packed (vring_of b n).num base) _ _ _ there still
+      (ap (λ (c : BusState). is_lawful_base c.packed (vring_of b n).num base) e
       ∙ ap (λ (v : Vring). is_lawful_base plan.packed v.num base) ring_got
       ∙ ap (λ (n : ℕ). is_lawful_base plan.packed n base) sized ∙ lawful)
 
-  pub no_enable_fault : st ≡ 15 → enable_fault b (on q) ≡ None
-  no_enable_fault at = none3 (is_queue b q) (not (is_features_ok b)) true _ _ (BadNum 1) there
-      (subst (λ (c : BusState). not (is_features_ok c) ≡ false) (sym e) (subst (λ (n : ℕ). not (has n 3) ≡ false) (sym at) refl)) refl
+  pub no_enable_fault : st ≡ 15 → enable_fault b (on n) ≡ None
+  no_enable_fault at_15 = none3 (is_queue b n) (not (is_features_ok b)) true _ _ (BadNum 1) there
+      (subst (λ (c : BusState). not (is_features_ok c) ≡ false) (sym e) (subst (λ (i : ℕ). not (has i 3) ≡ false) (sym at_15) refl)) refl
 
-  pub serving_is : serving b q ≡ set_up plan st sus (slice_set vs q (record (vring_of b q) { enabled = true })) ms
-  serving_is = ring_put (record (vring_of b q) { enabled = true })
+  pub serving_is : serving b n ≡ set_up plan st sus (slice_set vs p (record (vring_of b n) { enabled = true })) ms
+  serving_is = ring_put (record (vring_of b n) { enabled = true })
 
-  pub no_order_fault : st ≡ 15 → sus ≡ false → length vs ≡ length plan.queues → order_fault (serving b q) q ≡ None
-  no_order_fault at runs many =
-      let v : Vring = record (vring_of b q) { enabled = true } in
-      let c : BusState = serving b q in
-      let got : vring_of c q ≡ v = ring_new v many in
-      none2 (is_queue c q) (not ((c.status == 15) && not c.suspended && (vring_of c q).enabled)) _ _ (still_there v)
+  pub no_order_fault : st ≡ 15 → sus ≡ false → length vs ≡ queue_total plan → order_fault (serving b n) n ≡ None
+  no_order_fault at_15 runs many =
+      let v : Vring = record (vring_of b n) { enabled = true } in
+      let c : BusState = serving b n in
+      let got : vring_of c n ≡ v = ring_new v many in
+      none2 (is_queue c n) (not ((c.status == 15) && not c.suspended && (vring_of c n).enabled)) _ _ (still_there v)
       (subst (λ (z : Vring). not ((c.status == 15) && not c.suspended && z.enabled) ≡ false) (sym got)
       (subst (λ (z : BusState). not ((z.status == 15) && not z.suspended && true) ≡ false) (sym serving_is)
-      (rw at (rw runs refl))))
+      (rw at_15 (rw runs refl))))
+
+-- a queue of a bus at FEATURES_OK may be given its number of places, and then its address
+module _ (plan : Plan) (b : BusState) (brought : IsBrought plan b) (n : ℕ) (there : is_queue b n ≡ true) where
+  pub no_num_fault : rings.is_lawful_size plan.packed plan.size ≡ true → num_fault b (record { index = n; num = plan.size }) ≡ None
+  no_num_fault lawful = none3 (is_queue b n) (is_driver_ok b) (is_lawful_size b.packed plan.size && nat_le plan.size b.size_max) _ _ _ there
+      (subst (λ (c : BusState). is_driver_ok c ≡ false) (sym brought) refl)
+      (subst (λ (c : BusState). (is_lawful_size c.packed plan.size && nat_le plan.size c.size_max) ≡ true) (sym brought)
+      (rw (sym (same_size plan.packed plan.size) ∙ lawful) (le-leb plan.size plan.size (omega arith))))
+
+  pub no_addr_fault : (c : BusState) → c ≡ after_num b (record { index = n; num = plan.size }) → still_fault c n ≡ None
+  no_addr_fault c is = subst (λ (z : BusState). still_fault z n ≡ None) (sym is)
+      (none2 (is_queue b n) (is_running b) _ _ there (subst (λ (z : BusState). is_running z ≡ false) (sym brought) refl))
 
 -- ---- all queues
 
@@ -153,6 +160,10 @@ each_put P vs d q n v within old new k below = elim (cases_eq k q) [
 pub own : (plan : Plan) (st : ℕ) (sus : Bool) (vs : List Vring) (ms : List Mapping) (b : BusState) → b ≡ set_up plan st sus vs ms
     → b ≡ set_up plan st sus b.vrings ms
 own plan st sus vs ms b e = e ∙ ap (λ (xs : List Vring). set_up plan st sus xs ms) (sym (ap (λ (c : BusState). c.vrings) e))
+
+pub own_all : (plan : Plan) (st : ℕ) (sus : Bool) (vs : List Vring) (ms : List Mapping) (b : BusState) → b ≡ set_up plan st sus vs ms
+    → b ≡ set_up plan b.status b.suspended b.vrings b.map
+own_all plan st sus vs ms b e = subst (λ (c : BusState). c ≡ set_up plan c.status c.suspended c.vrings c.map) (sym e) refl
 
 -- a bus whose rings or map alone were set stands as before
 pub stands_of : (plan : Plan) (st : ℕ) (sus : Bool) (vs : List Vring) (ms : List Mapping) (b : BusState) → b ≡ set_up plan st sus vs ms

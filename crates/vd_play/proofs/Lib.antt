@@ -24,8 +24,10 @@ pub mod Passed
 pub mod Rooms
 pub mod Renewals
 pub mod Modes
+pub mod Places
 pub mod Buses
 pub mod RingsSet
+pub mod ControlRings
 pub mod Maps
 pub mod Mapped
 pub mod Setups

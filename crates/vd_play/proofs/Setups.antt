@@ -13,7 +13,7 @@ use Rattle.vd_model.specs.declared.map.Mapping.{Mapping}
 use Rattle.vd_layout.specs.Device.{DeviceModel}
 use Rattle.vd_layout.specs.Layout.{LayoutModel}
 use Rattle.vd_bus.specs.declared.bus.vring.Vring.{Vring}
-use Rattle.vd_bus.specs.Bus.{BusState, fresh_vring, vring_of}
+use Rattle.vd_bus.specs.Bus.{BusState, control_queue, fresh_vring, vring_of}
 use Rattle.vd_bus.specs.Orders.{Terms}
 use Rattle.vd_bus.specs.BusRings.{enable_fault, order_fault, ring_at, terms}
 use Rattle.vd_bus.specs.BusStatus.{is_ready, status_fault, after_status, features_accepted}
@@ -27,12 +27,16 @@ use Rattle.vd_play.specs.Journal.{map_in, ring_in, guest_frame, queue_chains}
 use Rattle.vd_play.specs.Before.{begun_at}
 use Rattle.vd_play.specs.Epochs.{renewed_at}
 use Rattle.vd_play.specs.Orders.{pass_order, shadow_order}
+use Rattle.vd_play.specs.ControlRing.{control_order}
+use Rattle.vd_play.specs.Places.{HasControl, control_place, control_ring}
 use Rattle.vd_play.specs.Prepared.{IsOfLayout}
 use Rattle.vd_play.specs.Progress.{AllStopped, IsStopped, StoppedWith}
 use Rattle.vd_play.specs.Setting.{Setting, IsLawful}
-use Rattle.vd_play.specs.Setup.{set_up, on, serving, with_vrings, with_map, IsBrought, IsBefore, CanSetUp, IsRing, HasRings, HasSizes, vring_at, base_in, AllServe, HasBase, HasBases, IsReady}
+use Rattle.vd_play.specs.Setup.{set_up, on, serving, with_vrings, with_map, IsBrought, IsBefore, CanSetUp, IsRing, HasRings, HasSizes, IsUp, vring_at, base_in, AllServe, HasBase, HasBases, HasControlBase, IsReady}
 use Rattle.vd_play.proofs.Bounds.{at_index}
-use Rattle.vd_play.proofs.Buses.{ring_got, ring_new, serving_is, no_enable_fault, no_order_fault, offer_back, each_put, own}
+use Rattle.vd_play.proofs.Buses.{ring_got, ring_new, serving_is, no_enable_fault, no_order_fault, offer_back, own, own_all}
+use Rattle.vd_play.proofs.Places.{IsAt, data_at, control_at, each_place}
+use Rattle.vd_play.proofs.RingsSet.{rings_kept, enabled_keeps, enabled_base}
 use Rattle.vd_play.proofs.Each.{get_set}
 use Rattle.vd_play.proofs.Keep.{base_of}
 use Rattle.vd_play.proofs.Lists.{some_same}
@@ -44,15 +48,23 @@ ready_all : (vs : List Vring) (d : Vring) → ((k : ℕ) → k < length vs → i
 ready_all [] d h = refl
 ready_all (v ∷ vs) d h = rw (h 0 (omega arith)) (ready_all vs d (λ k below. h (suc k) (omega (arith, below))))
 
+ring_ready : (plan : Plan) (ring n : ℕ) (v : Vring) → 2 ≤ plan.size → IsRing plan ring n v → is_ready v ≡ true
+ring_ready plan ring n v sized at = rw at.num (rw at.addr (rw (ne_eqb plan.size 0 (λ e. omega (arith, e, sized))) refl))
+
 pub rings_ready : (plan : Plan) (m : Mode) (k : ℕ) (b : BusState) → 2 ≤ plan.size → HasRings plan m k b
     → list_all is_ready b.vrings ≡ true
 rings_ready plan m k b sized r = ready_all b.vrings (fresh_vring plan.packed) (λ j below.
-    let at = r.each j (omega (arith, below, r.many)) in
-    rw at.num (rw at.addr (rw (ne_eqb plan.size 0 (λ e. omega (arith, e, sized))) refl)))
+    each_place plan (λ p. is_ready (vring_at plan b p) ≡ true)
+    (λ q low. ring_ready plan (ring_in m k q) q (vring_at plan b q) sized (r.each q low))
+    (λ has. ring_ready plan (control_ring k) control_queue (vring_at plan b (control_place plan)) sized (r.control has))
+    j (subst (λ (z : ℕ). j < z) r.many below))
 
 -- the rings are sized
 pub rings_sized : (plan : Plan) (m : Mode) (k : ℕ) (b : BusState) → HasRings plan m k b → HasSizes plan b
-rings_sized plan m k b r = record { many = r.many; each = λ q low. (r.each q low).num }
+rings_sized plan m k b r = record {
+  many = r.many;
+  each = each_place plan (λ p. (vring_at plan b p).num ≡ plan.size) (λ q low. (r.each q low).num) (λ has. (r.control has).num);
+}
 
 -- before the first epoch
 pub begun_is : (plan : Plan) (ms : List Mapping) (a b c : BusState) → IsBrought plan a → b ≡ with_map a ms → c ≡ with_vrings b c.vrings
@@ -67,11 +79,12 @@ driver_ok plan ms b is ready = subst (λ (c : BusState). status_fault c 15 ≡ N
 
 pub ready_first : {L D E : Type 0} (e : DeviceModel E) (base : ℕ) (plan : Plan) (m : Mode) (k : ℕ) (lanes : List (Lane L D E))
     (b c : BusState) → b ≡ set_up plan 11 false b.vrings (map_in plan m) → HasRings plan m k b → HasBases e base plan m lanes b
-    → c ≡ after_status b 15 → IsReady e base plan m k lanes c
-ready_first e base plan m k lanes b c is rings bases set = subst (λ (z : BusState). IsReady e base plan m k lanes z) (sym set) (record {
+    → HasControlBase base plan b → c ≡ after_status b 15 → IsReady e base plan m k lanes c
+ready_first e base plan m k lanes b c is rings bases control set = subst (λ (z : BusState). IsReady e base plan m k lanes z) (sym set) (record {
   up = ap (λ (z : BusState). after_status z 15) is;
-  rings = record { many = rings.many; each = rings.each };
+  rings = record { many = rings.many; each = rings.each; control = rings.control };
   bases = bases;
+  control = control;
 })
 
 -- ---- a renewal
@@ -121,85 +134,118 @@ next_base e base Pass still n none h still' = let is = none refl in absurd (cc (
 next_base e base Shadow still n none h still' = h
 
 module _ {L D E : Type 0} (e : DeviceModel E) (base : ℕ) (plan : Plan) (m : Mode) (k : ℕ) (lanes : List (Lane L D E)) (b : BusState)
-    (r : IsReady e base plan m k lanes b) (q : ℕ) (low : q < length plan.queues) where
-  -- the ring of the queue, once it is enabled
-  served : vring_of (serving b q) q ≡ record (vring_at plan b q) { enabled = true }
-  served = ring_new plan 15 false b.vrings (map_in plan m) b r.up q low (record (vring_of b q) { enabled = true }) r.rings.many
-      ∙ ap (λ (z : Vring). record z { enabled = true }) (ring_got plan 15 false b.vrings (map_in plan m) b r.up q low)
+    (r : IsReady e base plan m k lanes b) where
+  -- ---- any queue of the bus
+  module _ (n p : ℕ) (at : IsAt plan n p) where
+    -- the ring of the queue, once it is enabled
+    served : vring_of (serving b n) n ≡ record (vring_at plan b p) { enabled = true }
+    served = ring_new plan 15 false b.vrings (map_in plan m) b r.up n p at (record (vring_of b n) { enabled = true }) r.rings.many
+        ∙ ap (λ (z : Vring). record z { enabled = true }) (ring_got plan 15 false b.vrings (map_in plan m) b r.up n p at)
 
-  now : serving b q ≡ set_up plan 15 false (slice_set b.vrings q (record (vring_of b q) { enabled = true })) (map_in plan m)
-  now = serving_is plan 15 false b.vrings (map_in plan m) b r.up q low
+    now : serving b n ≡ set_up plan 15 false (slice_set b.vrings p (record (vring_of b n) { enabled = true })) (map_in plan m)
+    now = serving_is plan 15 false b.vrings (map_in plan m) b r.up n p at
 
-  pub can_enable : enable_fault b (on q) ≡ None
-  can_enable = no_enable_fault plan 15 false b.vrings (map_in plan m) b r.up q low refl
+    enables : enable_fault b (on n) ≡ None
+    enables = no_enable_fault plan 15 false b.vrings (map_in plan m) b r.up n p at refl
 
-  pub can_order : order_fault (serving b q) q ≡ None
-  can_order = no_order_fault plan 15 false b.vrings (map_in plan m) b r.up q low refl refl r.rings.many
+    orders : order_fault (serving b n) n ≡ None
+    orders = no_order_fault plan 15 false b.vrings (map_in plan m) b r.up n p at refl refl r.rings.many
 
-  base_same : (vring_at plan (serving b q) q).base ≡ (vring_at plan b q).base
-  base_same = ap (λ (c : BusState). (vring_at plan c q).base) now
-      ∙ ap (λ (v : Vring). v.base) (get_or-set_same b.vrings q _ (fresh_vring plan.packed) (omega (arith, r.rings.many, low)))
-      ∙ ap (λ (v : Vring). v.base) (ring_got plan 15 false b.vrings (map_in plan m) b r.up q low)
+    served_base : (vring_of (serving b n) n).base ≡ (vring_at plan b p).base
+    served_base = ap (λ (z : Vring). z.base) served
 
-  -- in an epoch of the mode pass the ring is served from where the lane's end rests
-  pub base_kept : m ≡ Pass → (lane : Lane L D E) → slice_get lanes q ≡ Some lane → HasBase e lane.still (vring_of (serving b q) q)
-  base_kept is_pass lane at end is = ap (λ (z : Vring). z.base) served ∙ r.bases q (e.base end) lane at
-      (ap (λ (z : Mode). base_in e base z lane.still) is_pass ∙ ap (option_map e.base) is)
+    order_is : (ring : ℕ) → IsRing plan ring n (vring_at plan b p) → (count z : ℕ) → (vring_of (serving b n) n).base ≡ z
+        → terms (serving b n) n count ≡ order_of n count ring (record { 0 = z }) plan.size plan.features (map_in plan m)
+    order_is ring is_ring count z is =
+        same_order n count _ ring _ (record { 0 = z }) _ plan.size _ plan.features _ (map_in plan m)
+        (ap (λ (x : Vring). ring_at x.addr) served ∙ ap ring_at is_ring.addr ∙ numbered ring)
+        (ap (λ (x : ℕ). let there : Base = record { 0 = x } in there) is)
+        (ap (λ (x : Vring). x.num) served ∙ is_ring.num)
+        (ap features_accepted now ∙ offer_back plan.packed plan.features)
+        (ap (λ (x : BusState). x.map) now)
 
-  -- in a shadow epoch from the base of a fresh ring
-  pub base_fresh : m ≡ Shadow → (lane : Lane L D E) → slice_get lanes q ≡ Some lane → (vring_of (serving b q) q).base ≡ base
-  base_fresh is_shadow lane at = ap (λ (z : Vring). z.base) served ∙ r.bases q base lane at
-      (ap (λ (z : Mode). base_in e base z lane.still) is_shadow)
+    up_on : IsUp plan m (serving b n)
+    up_on = own plan 15 false _ (map_in plan m) (serving b n) now
 
-  terms_are : (count n : ℕ) → (vring_of (serving b q) q).base ≡ n → terms (serving b q) q count
-      ≡ order_of q count (ring_in m k q) (record { 0 = n }) plan.size plan.features (map_in plan m)
-  terms_are count n is =
-      let ring = r.rings.each q low in
-      same_order q count _ (ring_in m k q) _ (record { 0 = n }) _ plan.size _ plan.features _ (map_in plan m)
-      (ap (λ (z : Vring). ring_at z.addr) served ∙ ap ring_at ring.addr ∙ numbered (ring_in m k q))
-      (ap (λ (z : ℕ). let there : Base = record { 0 = z } in there) is)
-      (ap (λ (z : Vring). z.num) served ∙ ring.num)
-      (ap features_accepted now ∙ offer_back plan.packed plan.features)
-      (ap (λ (z : BusState). z.map) now)
+    rings_on : HasRings plan m k (serving b n)
+    rings_on = rings_kept plan m k b (serving b n) (enabled_keeps plan b (own_all plan 15 false b.vrings (map_in plan m) b r.up)
+        r.rings.many n p at) r.rings
 
-  -- the order is the one that the machine orders
-  pub ordered_is : m ≡ Pass → (count : ℕ) (lane : Lane L D E) (end : E) → slice_get lanes q ≡ Some lane → lane.still ≡ Some end
-      → terms (serving b q) q count ≡ pass_order e plan q count end
-  ordered_is is_pass count lane end at is = terms_are count (e.base end) (base_kept is_pass lane at end is)
-      ∙ ap (λ (z : Mode). order_of q count (ring_in z k q) (record { 0 = e.base end }) plan.size plan.features (map_in plan z)) is_pass
+    base_on : (i : ℕ) → (vring_at plan (serving b n) i).base ≡ (vring_at plan b i).base
+    base_on = enabled_base plan b (own_all plan 15 false b.vrings (map_in plan m) b r.up) r.rings.many n p at
 
-  pub ordered_shadow : (l : LayoutModel) → base ≡ l.fresh_base → m ≡ Shadow → (count : ℕ) (lane : Lane L D E)
-      → slice_get lanes q ≡ Some lane → terms (serving b q) q count ≡ shadow_order l plan k q count
-  ordered_shadow l fresh is_shadow count lane at = terms_are count l.fresh_base (base_fresh is_shadow lane at ∙ fresh)
-      ∙ ap (λ (z : Mode). order_of q count (ring_in z k q) (record { 0 = l.fresh_base }) plan.size plan.features (map_in plan z)) is_shadow
+  -- ---- a data queue
+  module _ (q : ℕ) (low : q < length plan.queues) where
+    pub can_enable : enable_fault b (on q) ≡ None
+    can_enable = enables q q (data_at plan q low)
 
-  -- and the bus is ready for the queues after it
-  pub ready_next : (lane : Lane L D E) → (m ≡ Pass → lane.still ≡ None) → IsReady e base plan m k (set lanes q lane) (serving b q)
-  ready_next lane none =
-      let v : Vring = record (vring_of b q) { enabled = true } in
-      let got = ring_got plan 15 false b.vrings (map_in plan m) b r.up q low in
-      let set_is = ap (λ (z : BusState). z.vrings) now in
-      let new : IsRing plan (ring_in m k q) q v = record {
-        num = ap (λ (z : Vring). z.num) got ∙ (r.rings.each q low).num;
-        addr = ap (λ (z : Vring). z.addr) got ∙ (r.rings.each q low).addr;
-      } in
-      record {
-        up = own plan 15 false _ (map_in plan m) (serving b q) now;
-        rings = record {
-          many = ap length set_is ∙ length-set b.vrings q v ∙ r.rings.many;
-          each = λ j below. subst (λ (c : BusState). IsRing plan (ring_in m k j) j (vring_at plan c j)) (sym now)
-              (each_put (λ i w. IsRing plan (ring_in m k i) i w) b.vrings (fresh_vring plan.packed) q (length plan.queues) v
-              (omega (arith, r.rings.many, low)) (λ i under other. r.rings.each i under) new j below);
-        };
-        bases = λ j n z at is. get_set lanes q j lane z at
-            (λ here same.
-            let old = at_index lanes q (omega (arith, slice_get_within (set lanes q lane) j z at, length-set lanes q lane, here)) in
-            let mine = next_base e base m lane.still n none
-            (subst (λ (w : Lane L D E). base_in e base m w.still ≡ Some n) (sym same) is) old.0.still in
-            subst (λ (i : ℕ). (vring_at plan (serving b q) i).base ≡ n) (sym here) (base_same ∙ r.bases q n old.0 old.1 mine))
-            (λ other old. ap (λ (c : BusState). (vring_at plan c j).base) now
-            ∙ ap (λ (w : Vring). w.base) (get_or-set_other b.vrings q j v (fresh_vring plan.packed) other) ∙ r.bases j n z old is);
-      }
+    pub can_order : order_fault (serving b q) q ≡ None
+    can_order = orders q q (data_at plan q low)
+
+    -- in an epoch of the mode pass the ring is served from where the lane's end rests
+    pub base_kept : m ≡ Pass → (lane : Lane L D E) → slice_get lanes q ≡ Some lane → HasBase e lane.still (vring_of (serving b q) q)
+    base_kept is_pass lane at end is = served_base q q (data_at plan q low) ∙ r.bases q (e.base end) lane at
+        (ap (λ (z : Mode). base_in e base z lane.still) is_pass ∙ ap (option_map e.base) is)
+
+    -- in a shadow epoch from the base of a fresh ring
+    pub base_fresh : m ≡ Shadow → (lane : Lane L D E) → slice_get lanes q ≡ Some lane → (vring_of (serving b q) q).base ≡ base
+    base_fresh is_shadow lane at = served_base q q (data_at plan q low) ∙ r.bases q base lane at
+        (ap (λ (z : Mode). base_in e base z lane.still) is_shadow)
+
+    terms_are : (count n : ℕ) → (vring_of (serving b q) q).base ≡ n → terms (serving b q) q count
+        ≡ order_of q count (ring_in m k q) (record { 0 = n }) plan.size plan.features (map_in plan m)
+    terms_are count n is = order_is q q (data_at plan q low) (ring_in m k q) (r.rings.each q low) count n is
+
+    -- the order is the one that the machine orders
+    pub ordered_is : m ≡ Pass → (count : ℕ) (lane : Lane L D E) (end : E) → slice_get lanes q ≡ Some lane → lane.still ≡ Some end
+        → terms (serving b q) q count ≡ pass_order e plan q count end
+    ordered_is is_pass count lane end at is = terms_are count (e.base end) (base_kept is_pass lane at end is)
+        ∙ ap (λ (z : Mode). order_of q count (ring_in z k q) (record { 0 = e.base end }) plan.size plan.features (map_in plan z)) is_pass
+
+    pub ordered_shadow : (l : LayoutModel) → base ≡ l.fresh_base → m ≡ Shadow → (count : ℕ) (lane : Lane L D E)
+        → slice_get lanes q ≡ Some lane → terms (serving b q) q count ≡ shadow_order l plan k q count
+    ordered_shadow l fresh is_shadow count lane at = terms_are count l.fresh_base (base_fresh is_shadow lane at ∙ fresh)
+        ∙ ap (λ (z : Mode). order_of q count (ring_in z k q) (record { 0 = l.fresh_base }) plan.size plan.features (map_in plan z)) is_shadow
+
+    -- and the bus is ready for the queues after it
+    pub ready_next : (lane : Lane L D E) → (m ≡ Pass → lane.still ≡ None) → IsReady e base plan m k (set lanes q lane) (serving b q)
+    ready_next lane none =
+        record {
+          up = up_on q q (data_at plan q low);
+          rings = rings_on q q (data_at plan q low);
+          bases = λ j n z at is. base_on q q (data_at plan q low) j ∙ get_set lanes q j lane z at
+              (λ here same.
+              let old = at_index lanes q (omega (arith, slice_get_within (set lanes q lane) j z at, length-set lanes q lane, here)) in
+              let mine = next_base e base m lane.still n none
+              (subst (λ (w : Lane L D E). base_in e base m w.still ≡ Some n) (sym same) is) old.0.still in
+              subst (λ (i : ℕ). (vring_at plan b i).base ≡ n) (sym here) (r.bases q n old.0 old.1 mine))
+              (λ other old. r.bases j n z old is);
+          control = λ has. base_on q q (data_at plan q low) (control_place plan) ∙ r.control has;
+        }
+
+  -- ---- the control queue
+  module _ (few : length plan.queues ≤ control_queue) (has : HasControl plan) where
+    pub can_enable_control : enable_fault b (on control_queue) ≡ None
+    can_enable_control = enables control_queue (control_place plan) (control_at plan few has)
+
+    pub can_order_control : order_fault (serving b control_queue) control_queue ≡ None
+    can_order_control = orders control_queue (control_place plan) (control_at plan few has)
+
+    -- the order is the one that the machine orders
+    pub ordered_control : (l : LayoutModel) → base ≡ l.fresh_base → (count : ℕ)
+        → terms (serving b control_queue) control_queue count ≡ control_order l plan m k count
+    ordered_control l fresh count = order_is control_queue (control_place plan) (control_at plan few has) (control_ring k)
+        (r.rings.control has) count l.fresh_base
+        (served_base control_queue (control_place plan) (control_at plan few has) ∙ r.control has ∙ fresh)
+
+    -- and the bus is ready for the data queues
+    pub ready_data : IsReady e base plan m k lanes (serving b control_queue)
+    ready_data = record {
+      up = up_on control_queue (control_place plan) (control_at plan few has);
+      rings = rings_on control_queue (control_place plan) (control_at plan few has);
+      bases = λ j n z at is. base_on control_queue (control_place plan) (control_at plan few has) j ∙ r.bases j n z at is;
+      control = λ yes. base_on control_queue (control_place plan) (control_at plan few has) (control_place plan) ∙ r.control yes;
+    }
 
 -- ---- the lanes
 

@@ -20,7 +20,9 @@ pub mod Prepared
 pub mod Rounds
 pub mod Alone
 pub mod Tree
+pub mod Places
 pub mod Setup
+pub mod ControlRing
 pub mod Attaching
 pub mod Switching
 pub mod Renewing

@@ -1,5 +1,5 @@
 -- How the bus of a machine stands.
-use Rattle.std.specs.Prelude.{◌≡◌, ℕ, ◌+◌, ◌-◌, ◌*◌, ◌/◌, ◌^◌, ◌<◌, Bool, true, false, if◌then◌else◌, List, [], length, slice_get, slice_index_or, Option, Some, option_map}
+use Rattle.std.specs.Prelude.{◌≡◌, ℕ, ◌+◌, ◌-◌, ◌*◌, ◌/◌, ◌^◌, ◌<◌, Bool, true, false, if◌then◌else◌, List, [], length, slice_get, slice_index_or, Option, Some, option_map, is_some}
 use Rattle.vd_model.specs.declared.base.Mode.{Mode}
 use Rattle.vd_model.specs.declared.map.Mapping.{Mapping}
 use Rattle.vd_uapi.specs.declared.vring_addr.VringAddr.{VringAddr}
@@ -7,13 +7,14 @@ use Rattle.vd_uapi.specs.declared.vring_state.VringState.{VringState}
 use Rattle.vd_uapi.specs.declared.message.Msg.{Msg}
 use Rattle.vd_layout.specs.Device.{DeviceModel, IsStill}
 use Rattle.vd_bus.specs.declared.bus.vring.Vring.{Vring}
-use Rattle.vd_bus.specs.Bus.{BusState, new_bus, fresh_vring, is_lawful_base}
+use Rattle.vd_bus.specs.Bus.{BusState, control_queue, new_bus, fresh_vring, is_lawful_base}
 use Rattle.vd_bus.specs.BusRings.{after_enable}
 use Rattle.vd_bus.specs.BusStatus.{feature_bits, is_running}
 use Rattle.vd_machine.specs.File.{Plan}
 use Rattle.vd_play.specs.declared.floor.Lane.{Lane}
 use Rattle.vd_play.specs.Epochs.{mode_at, renewed_at}
 use Rattle.vd_play.specs.Journal.{by_mode, map_in, ring_in}
+use Rattle.vd_play.specs.Places.{HasControl, queue_total, control_place, control_ring}
 
 -- ---- where a ring lies
 
@@ -46,7 +47,7 @@ set_up plan status suspended vrings map = record {
   size_max = plan.size;
   offered = plan.features;
   queues = length plan.queues;
-  control = false;
+  control = is_some plan.control;
   first = 0;
   last = last_iova;
   status = status;
@@ -69,7 +70,7 @@ pub record Stands (plan : Plan) (b : BusState) : Type 0 where
 
 -- as it is made, at status 0
 abbrev pub fresh_bus : Plan → BusState
-fresh_bus plan = new_bus plan.packed plan.size plan.features (length plan.queues) false 0 last_iova
+fresh_bus plan = new_bus plan.packed plan.size plan.features (length plan.queues) (is_some plan.control) 0 last_iova
 
 -- at FEATURES_OK, before the messages
 abbrev pub IsBrought : Plan → BusState → Type 0
@@ -79,13 +80,14 @@ IsBrought plan b = b ≡ set_up plan 11 false b.vrings []
 abbrev pub IsUp : Plan → Mode → BusState → Type 0
 IsUp plan m b = b ≡ set_up plan 15 false b.vrings (map_in plan m)
 
+-- the ring of the queue at this place
 abbrev pub vring_at : Plan → BusState → ℕ → Vring
-vring_at plan b q = slice_index_or b.vrings q (fresh_vring plan.packed)
+vring_at plan b p = slice_index_or b.vrings p (fresh_vring plan.packed)
 
 -- each queue has a ring with the machine's number of places
 pub record HasSizes (plan : Plan) (b : BusState) : Type 0 where
-  pub many : length b.vrings ≡ length plan.queues
-  pub each : (q : ℕ) → q < length plan.queues → (vring_at plan b q).num ≡ plan.size
+  pub many : length b.vrings ≡ queue_total plan
+  pub each : (p : ℕ) → p < queue_total plan → (vring_at plan b p).num ≡ plan.size
 
 -- queue q has the ring of this number
 pub record IsRing (plan : Plan) (ring q : ℕ) (v : Vring) : Type 0 where
@@ -94,14 +96,15 @@ pub record IsRing (plan : Plan) (ring q : ℕ) (v : Vring) : Type 0 where
 
 -- each queue has its ring of epoch k, which is of this mode
 pub record HasRings (plan : Plan) (m : Mode) (k : ℕ) (b : BusState) : Type 0 where
-  pub many : length b.vrings ≡ length plan.queues
+  pub many : length b.vrings ≡ queue_total plan
   pub each : (q : ℕ) → q < length plan.queues → IsRing plan (ring_in m k q) q (vring_at plan b q)
+  pub control : HasControl plan → IsRing plan (control_ring k) control_queue (vring_at plan b (control_place plan))
 
 -- each ring has the number and the address that it had
 pub record KeepsRings (plan : Plan) (b c : BusState) : Type 0 where
   pub many : length c.vrings ≡ length b.vrings
-  pub num : (q : ℕ) → q < length plan.queues → (vring_at plan c q).num ≡ (vring_at plan b q).num
-  pub addr : (q : ℕ) → q < length plan.queues → (vring_at plan c q).addr ≡ (vring_at plan b q).addr
+  pub num : (p : ℕ) → p < queue_total plan → (vring_at plan c p).num ≡ (vring_at plan b p).num
+  pub addr : (p : ℕ) → p < queue_total plan → (vring_at plan c p).addr ≡ (vring_at plan b p).addr
 
 -- the bus as it is before epoch k
 pub record IsBefore (plan : Plan) (k : ℕ) (b : BusState) : Type 0 where
@@ -149,9 +152,14 @@ abbrev pub HasBases : {L D E : Type 0} → DeviceModel E → ℕ → Plan → Mo
 HasBases e base plan m lanes b = (q n : ℕ) (lane : Lane _ _ _) → slice_get lanes q ≡ Some lane → base_in e base m lane.still ≡ Some n
     → (vring_at plan b q).base ≡ n
 
+-- the control queue's ring is served from the base of a fresh ring, in every epoch
+abbrev pub HasControlBase : ℕ → Plan → BusState → Type 0
+HasControlBase base plan b = HasControl plan → (vring_at plan b (control_place plan)).base ≡ base
+
 -- the bus as it is set up for epoch k, which is of this mode
 pub record IsReady {L D E : Type 0} (e : DeviceModel E) (base : ℕ) (plan : Plan) (m : Mode) (k : ℕ) (lanes : List (Lane L D E))
     (b : BusState) : Type 0 where
   pub up : IsUp plan m b
   pub rings : HasRings plan m k b
   pub bases : HasBases e base plan m lanes b
+  pub control : HasControlBase base plan b

@@ -4,6 +4,7 @@
 mod alone;
 mod bench;
 mod calls;
+mod control_ring;
 mod epoch;
 mod floor;
 mod lane;

@@ -4,11 +4,13 @@ ghost use Rattle.std.specs.Option.{option_map};
 ghost use Rattle.vd_layout.specs.Device.{IsStill};
 ghost use Rattle.vd_machine.specs.File.{view};
 ghost use Rattle.vd_play.specs.Epochs.{mode_at};
+ghost use Rattle.vd_play.specs.Places.{queue_total};
 ghost use Rattle.vd_play.specs.Prepared.{IsOfLayout};
-ghost use Rattle.vd_play.specs.Setup.{with_vrings, base_in, Stands, fresh_bus, IsBrought, IsUp, HasSizes, HasRings, KeepsRings, CanSetUp, AllServe, HasBases, IsReady};
+ghost use Rattle.vd_play.specs.Setup.{with_vrings, base_in, Stands, fresh_bus, IsBrought, IsUp, HasSizes, HasRings, KeepsRings, CanSetUp, AllServe, HasBases, HasControlBase, IsReady};
 ghost use Rattle.vd_play.specs.Tree.{IsTreeOf};
 
-use crate::calls::{resume, set_addr, set_base, set_features, set_num, set_status, suspend};
+use crate::calls::{resume, set_addr, set_base, set_features, set_status, suspend};
+use crate::control_ring::{bring_control, bring_ring, set_control_addr, set_control_base};
 use crate::floor::Lane;
 use crate::messages::{map_regions, unmap_regions};
 use crate::order::{is_renewed, mode_of};
@@ -23,19 +25,27 @@ use vd_uapi::VringState;
 /// The last iova: a region that lies outside the machine's own range of iovas is passed too.
 const LAST: u64 = (1 << 63) - 1;
 
-/// The machine's bus at status 0.
+/// The machine's bus at status 0, which has a control queue where the machine has one.
 pub(crate) fn new_bus(m: &Machine) -> Bus
     ensures { result ≡ fresh_bus (view m.now) }
 {
     let queues = m.queues.len() as u32;
-    Bus::new(m.packed, m.size, m.features, queues, false, 0, LAST)
+    Bus::new(
+        m.packed,
+        m.size,
+        m.features,
+        queues,
+        m.control.is_some(),
+        0,
+        LAST,
+    )
 }
 
 /// From status 0 to FEATURES_OK, with all features accepted.
 fn accept_features(m: &Machine, bus: &mut Bus)
     requires fresh { bus.old ≡ fresh_bus (view m.now) }
     ensures brought { IsBrought (view m.now) bus.new }
-    ensures many { length bus.new.vrings ≡ length m.now.queues }
+    ensures many { length bus.new.vrings ≡ queue_total (view m.now) }
 {
     set_status(bus, 1);
     set_status(bus, 3);
@@ -53,14 +63,10 @@ fn bring_up(m: &Machine, mode: Mode, epoch: usize, bus: &mut Bus)
 {
     accept_features(m, bus);
     for q in 0..m.queues.len() as u32 {
-        let v = VringState {
-            index: q,
-            num: m.size,
-        };
-        set_num(bus, &v);
         let ring = ring_in(mode, epoch as u32, q);
-        set_addr(bus, &ring_addr(m.packed, m.size, q, ring));
+        bring_ring(m, q, ring, bus);
     }
+    bring_control(m, epoch, bus);
 }
 
 /// Sets up the bus for an epoch: the first one and a renewal bring it up, and before another one the device is suspended.
@@ -150,6 +156,7 @@ fn set_addrs(m: &Machine, mode: Mode, epoch: usize, bus: &mut Bus)
         let ring = ring_in(mode, epoch as u32, q);
         set_addr(bus, &ring_addr(m.packed, m.size, q, ring));
     }
+    set_control_addr(m, epoch, bus);
 }
 
 /// From where a lane's ring is served in an epoch of this mode: where its end rests, or from the base of a fresh ring.
@@ -166,7 +173,7 @@ fn base_in<L: Layout>(mode: Mode, lane: &Lane<L>) -> Option<Base>
     }
 }
 
-/// Sets the base of each queue to that from which its ring is served.
+/// Sets the base of each queue to that from which its ring is served; the control queue's is always a fresh one.
 fn set_bases<L: Layout>(m: &Machine, mode: Mode, bus: &mut Bus, lanes: &[Lane<L>])
     requires layout { IsOfLayout L.layout (view m.now) }
     requires stands { Stands (view m.now) bus.old }
@@ -176,6 +183,7 @@ fn set_bases<L: Layout>(m: &Machine, mode: Mode, bus: &mut Bus, lanes: &[Lane<L>
     ensures same { bus.new ≡ with_vrings bus.old bus.new.vrings }
     ensures keeps { KeepsRings (view m.now) bus.old bus.new }
     ensures bases { HasBases L.Device.device L.layout.fresh_base (view m.now) mode lanes.now bus.new }
+    ensures control { HasControlBase L.layout.fresh_base (view m.now) bus.new }
 {
     for q in 0..m.queues.len() {
         if let Some(base) = base_in::<L>(mode, &lanes[q]) {
@@ -186,4 +194,5 @@ fn set_bases<L: Layout>(m: &Machine, mode: Mode, bus: &mut Bus, lanes: &[Lane<L>
             set_base(bus, &v);
         }
     }
+    set_control_base::<L>(m, bus);
 }

@@ -40,4 +40,4 @@ returns g c =
     ready_first g.L.Device.DeviceEnd.device g.L.Layout.layout.fresh_base plan m k c.args.lanes.now c.set_bases.new.bus
     c.set_status.new.bus
     (begun_is plan ms c.bring_up.new.bus c.map_regions.new.bus c.set_bases.new.bus c.bring_up.ensures.brought c.map_regions.ensures
-    c.set_bases.ensures.same) kept c.set_bases.ensures.bases c.set_status.ensures
+    c.set_bases.ensures.same) kept c.set_bases.ensures.bases c.set_bases.ensures.control c.set_status.ensures

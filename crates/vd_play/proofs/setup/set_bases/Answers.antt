@@ -12,6 +12,8 @@ use Rattle.vd_play.specs.declared.floor.Lane.{Lane}
 use Rattle.vd_play.specs.Setup.{Stands, HasSizes, KeepsRings, with_vrings, vring_at, base_in}
 use Rattle.vd_play.proofs.Buses.{stands_vrings, same_put}
 use Rattle.vd_play.proofs.Lists.{some_same, found_by}
+use Rattle.vd_play.proofs.ControlRings.{control_based_is, control_based_keeps, control_based_other, control_based_here}
+use Rattle.vd_play.proofs.Places.{data_at}
 use Rattle.vd_play.proofs.RingsSet.{if_some, keeps_through, sizes_kept, base_lawful, no_fault_of_base, based_is, based_keeps, based_here, based_other}
 use Rattle.vd_play.proofs.setup.set_bases.Goals as goal
 use Rattle.vd_play.proofs.setup.set_bases.Goals.{in-Some, in_default}
@@ -46,7 +48,9 @@ set_base-requires g c =
     c.in-Some.base.0 (c.base_in.ensures ∙ ap (option_map (λ (z : Base). z.0)) c.in-Some.is)
     (sym (c.requires.layout.based fresh) ∙ g.met.L.Layout.lawful.fresh_based plan.size c.requires.layout.lawful)
     (λ end is. (c.requires.ends q c.index-lanes-q.result end at is).lawful) in
-    no_fault_of_base plan b s (sizes_kept plan c.args.bus.now b v.keeps c.requires.sizes) q low c.in-Some.base.0 lawful
+    let sizes = sizes_kept plan c.args.bus.now b v.keeps c.requires.sizes in
+    let there = data_at plan q low in
+    no_fault_of_base plan b s.is sizes.many q q there c.in-Some.base.0 s.still (sizes.each q there.within) lawful
 
 pub loop-q-preserved : goal.loop-q-preserved
 loop-q-preserved g c =
@@ -72,13 +76,13 @@ loop-q-preserved g c =
           let base : ℕ = w.in-Some.base.0 in
           let made : n ≡ after_base b (record { index = q; num = base }) = w.bus-is ∙ w.set_base.ensures in
           record {
-            same = same_put c.args.bus.now b n _ v.same (based_is plan b s sizes q low base n made);
-            keeps = keeps_through plan c.args.bus.now b n v.keeps (based_keeps plan b s sizes q low base n made);
+            same = same_put c.args.bus.now b n _ v.same (based_is plan b s.is sizes.many q q (data_at plan q low) base n made);
+            keeps = keeps_through plan c.args.bus.now b n v.keeps (based_keeps plan b s.is sizes.many q q (data_at plan q low) base n made);
             bases = λ k z lane less there is. elim (cases_eq k q) [
-              | inl e ↦ subst (λ (j : ℕ). (vring_at plan n j).base ≡ z) (sym e) (based_here plan b s sizes q low base n made
+              | inl e ↦ subst (λ (j : ℕ). (vring_at plan n j).base ≡ z) (sym e) (based_here plan b s.is sizes.many q q (data_at plan q low) base n made
                   ∙ some_same base z (Some base) refl
                   (sym (ap (option_map (λ (y : Base). y.0)) w.in-Some.is) ∙ mine k z lane e there is))
-              | inr other ↦ based_other plan b s sizes q low base n made k other
+              | inr other ↦ based_other plan b s.is sizes.many q q (data_at plan q low) base n made k other
                   ∙ v.bases k z lane (omega (arith, less, other)) there is
             ];
           }
@@ -100,7 +104,61 @@ loop-q-preserved g c =
       })
     ]
 
+-- ---- the control queue
+
+pub set_control_base-requires-clause-stands : goal.set_control_base-requires-clause-stands
+set_control_base-requires-clause-stands g c =
+    stands_vrings (view c.args.m.now) c.args.bus.now c.loop-q.bus c.loop-q.bus.vrings c.loop-q.invariant.same c.requires.stands
+
+pub set_control_base-requires-clause-sizes : goal.set_control_base-requires-clause-sizes
+set_control_base-requires-clause-sizes g c =
+    sizes_kept (view c.args.m.now) c.args.bus.now c.loop-q.bus c.loop-q.invariant.keeps c.requires.sizes
+
+pub returns-clause-same : goal.returns-clause-same
+returns-clause-same g c =
+    let plan : Plan = view c.args.m.now in
+    let b : BusState = c.loop-q.bus in
+    let n : BusState = c.set_control_base.new.bus in
+    let fresh : ℕ = g.L.Layout.layout.fresh_base in
+    let few = few_queues c.args.m.now.queues c.args.m.now.counted in
+    let s : Stands plan b = stands_vrings plan c.args.bus.now b b.vrings c.loop-q.invariant.same c.requires.stands in
+    let sizes : HasSizes plan b = sizes_kept plan c.args.bus.now b c.loop-q.invariant.keeps c.requires.sizes in
+    same_put c.args.bus.now b n _ c.loop-q.invariant.same
+    (control_based_is plan (omega (arith, few)) c.args.mode 0 b n fresh s sizes c.set_control_base.ensures)
+
+pub returns-clause-keeps : goal.returns-clause-keeps
+returns-clause-keeps g c =
+    let plan : Plan = view c.args.m.now in
+    let b : BusState = c.loop-q.bus in
+    let n : BusState = c.set_control_base.new.bus in
+    let fresh : ℕ = g.L.Layout.layout.fresh_base in
+    let few = few_queues c.args.m.now.queues c.args.m.now.counted in
+    let s : Stands plan b = stands_vrings plan c.args.bus.now b b.vrings c.loop-q.invariant.same c.requires.stands in
+    let sizes : HasSizes plan b = sizes_kept plan c.args.bus.now b c.loop-q.invariant.keeps c.requires.sizes in
+    keeps_through plan c.args.bus.now b n c.loop-q.invariant.keeps
+    (control_based_keeps plan (omega (arith, few)) c.args.mode 0 b n fresh s sizes c.set_control_base.ensures)
+
 pub returns-clause-bases : goal.returns-clause-bases
-returns-clause-bases g c = λ q n lane at is.
-    c.loop-q.invariant.bases q n lane
-    (omega (arith, slice_get_within c.args.lanes.now q lane at, c.requires.many, c.loop-q-test.false, c.len-q-end.ensures)) at is
+returns-clause-bases g c =
+    let plan : Plan = view c.args.m.now in
+    let b : BusState = c.loop-q.bus in
+    let n : BusState = c.set_control_base.new.bus in
+    let fresh : ℕ = g.L.Layout.layout.fresh_base in
+    let few = few_queues c.args.m.now.queues c.args.m.now.counted in
+    let s : Stands plan b = stands_vrings plan c.args.bus.now b b.vrings c.loop-q.invariant.same c.requires.stands in
+    let sizes : HasSizes plan b = sizes_kept plan c.args.bus.now b c.loop-q.invariant.keeps c.requires.sizes in
+    λ q z lane at is.
+    let low : q < length c.args.m.now.queues = omega (arith, slice_get_within c.args.lanes.now q lane at, c.requires.many) in
+    control_based_other plan (omega (arith, few)) c.args.mode 0 b n fresh s sizes c.set_control_base.ensures q low
+    ∙ c.loop-q.invariant.bases q z lane (omega (arith, low, c.loop-q-test.false, c.len-q-end.ensures)) at is
+
+pub returns-clause-control : goal.returns-clause-control
+returns-clause-control g c =
+    let plan : Plan = view c.args.m.now in
+    let b : BusState = c.loop-q.bus in
+    let n : BusState = c.set_control_base.new.bus in
+    let fresh : ℕ = g.L.Layout.layout.fresh_base in
+    let few = few_queues c.args.m.now.queues c.args.m.now.counted in
+    let s : Stands plan b = stands_vrings plan c.args.bus.now b b.vrings c.loop-q.invariant.same c.requires.stands in
+    let sizes : HasSizes plan b = sizes_kept plan c.args.bus.now b c.loop-q.invariant.keeps c.requires.sizes in
+    control_based_here plan (omega (arith, few)) c.args.mode 0 b n fresh s sizes c.set_control_base.ensures

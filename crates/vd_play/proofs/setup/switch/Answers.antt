@@ -32,4 +32,4 @@ returns g c =
     ready_later g.L.Device.DeviceEnd.device g.L.Layout.layout.fresh_base plan c.args.before m c.args.epoch c.args.lanes.now
     c.args.bus.now c.suspend.new.bus c.set_addrs.new.bus c.unmap_regions.new.bus c.map_regions.new.bus c.set_bases.new.bus
     c.resume.new.bus c.requires.up c.suspend.ensures c.set_addrs.ensures.same c.unmap_regions.ensures c.map_regions.ensures
-    c.set_bases.ensures.same kept c.set_bases.ensures.bases c.resume.ensures
+    c.set_bases.ensures.same kept c.set_bases.ensures.bases c.set_bases.ensures.control c.resume.ensures
