@@ -1,4 +1,4 @@
-use Rattle.std.proofs.Common.{◌≡◌, ◌-◌, Some, None, false, length, slice_get, sym, refl, ap, subst, arith, ◌∙◌}
+use Rattle.std.proofs.Common.{◌≡◌, ◌-◌, Some, None, Bool, false, length, slice_get, sym, refl, ap, subst, arith, ◌∙◌}
 use Rattle.std.specs.Option.{option_copied}
 use Rattle.std.proofs.lemmas.Bool.{false≢true}
 use Rattle.vd_control.specs.Settings.{HasPairs}
@@ -36,8 +36,10 @@ to_shadow-requires-clause-kit g c =
     let same = some_same c.requires.shadow.ring c.in-Some-pop.ring (slice_get kits (length kits - 1)) c.requires.shadow.next last in (
       t.size,
       t.features,
-      subst (λ (r : ShadowRing _ _ _). IsKit d e l t.size t.features false r.kit.driver r.kit.device r.kit.table) same
-          c.requires.shadow.kit,
+      subst (λ (b : Bool). IsKit d e l t.size t.features b c.in-Some-pop.ring.kit.driver c.in-Some-pop.ring.kit.device
+          c.in-Some-pop.ring.kit.table) (sym c.new.ensures.control)
+          (subst (λ (r : ShadowRing _ _ _). IsKit d e l t.size t.features false r.kit.driver r.kit.device r.kit.table) same
+          c.requires.shadow.kit),
       λ w stands. c.requires.shadow.framed c.in-Some.end w (sym c.take.ensures.value ∙ c.in-Some.is)
           (subst (λ z. e.stands z w) c.new.ensures.end stands),
     )
@@ -87,6 +89,6 @@ returns-in-Ok-clause-ok g c =
         plain = (made.0 c.new.ensures.control).0;
         attached = subst (λ (z : Terms). IsAttach e g.V.Device.party z (option_copied c.args.control) kit.device c.args.device.now
             c.to_shadow.new.device) ordered
-            made.3;
+            made.4;
       },
     )

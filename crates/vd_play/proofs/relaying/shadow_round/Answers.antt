@@ -64,7 +64,7 @@ relay_turn-by_relay-requires-clause-on g c =
 pub relay_turn-by_relay-requires-clause-plain : goal.relay_turn-by_relay-requires-clause-plain
 relay_turn-by_relay-requires-clause-plain g c =
     let at = (goal.at.relay_turn-by_relay-requires-clause-plain g c).In-Some in
-    is_plain c.requires.lane.6 (by_guest g at)
+    is_plain (lawful g) c.requires.lane.6 c.requires.lane.5 (by_guest g at)
 
 pub overflow_add-lane : goal.overflow_add-lane
 overflow_add-lane g c =
