@@ -1,0 +1,6 @@
+pub mod Sent
+pub mod Returned
+pub mod Macs
+pub mod Spelled
+pub mod GuestTurns
+pub mod DeviceTurns

@@ -1,0 +1,5 @@
+//! The lane of the control queue as its guest sees it: what it has sent, and what came back, by its script.
+#![tactic(auto)]
+
+pub mod laws;
+pub mod turn_laws;
