@@ -4,3 +4,4 @@ pub mod Macs
 pub mod Spelled
 pub mod GuestTurns
 pub mod DeviceTurns
+pub mod Sleeping

@@ -2,4 +2,5 @@
 #![tactic(auto)]
 
 pub mod laws;
+pub mod sleeping_laws;
 pub mod turn_laws;
