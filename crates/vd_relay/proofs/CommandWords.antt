@@ -29,6 +29,7 @@ use Rattle.vd_relay.specs.Controls.{OnGuestWord, OnShadowWord}
 use Rattle.vd_relay.specs.Commanding.{Takeover}
 use Rattle.vd_relay.specs.Underway.{Commanding, due, owed}
 use Rattle.vd_relay.specs.CommandSteps.{CommandHolds, OnGuestCommand, OnShadowCommand}
+use Rattle.vd_relay.proofs.ShadowActs.{shadow_word_acts}
 use Rattle.vd_relay.proofs.Steps.{Noted, paces}
 use Rattle.vd_relay.proofs.CommandTold.{still_due}
 use Rattle.vd_relay.proofs.CommandPlain.{pace_part}
@@ -150,6 +151,7 @@ module _ {P E D : Type 0} (port : PortModel P) (l : LayoutModel) (e : DeviceMode
             hears_shadow = λ i idle. h.hears_shadow i still.1;
             leaves = h.leaves;
           };
+          acts = shadow_word_acts d law v o.access o.got o.was_next;
           grown = omega (
             arith,
             ap shadow_handled moves,

@@ -26,6 +26,7 @@ pub mod Offerings
 pub mod GuestKeeping
 pub mod ShadowGoing
 pub mod Origins
+pub mod ShadowActs
 pub mod ShadowTurns
 pub mod Tellings
 pub mod ShadowFree
@@ -73,6 +74,7 @@ pub mod CommandBegins
 pub mod CommandWinds
 pub mod Modes
 pub mod ModeReplays
+pub mod ModeOver
 pub mod ModeLeaves
 pub mod ModeCarries
 pub mod ModeEnds

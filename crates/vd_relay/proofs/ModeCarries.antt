@@ -20,7 +20,7 @@ use Rattle.vd_relay.specs.Leaving.{leave_owes}
 use Rattle.vd_relay.specs.Replays.{replay_owes}
 use Rattle.vd_relay.specs.CommandSteps.{CommandHolds, OnGuestCommand, OnShadowCommand, IsCommandStep}
 use Rattle.vd_relay.specs.Modes.{Opening, ControlHolds, Does, carries_from}
-use Rattle.vd_relay.specs.ModeSteps.{OnGuestControl, OnShadowControl, IsControlStep, Becomes}
+use Rattle.vd_relay.specs.ModeSteps.{OnGuestControl, OnShadowControl, IsControlStep, Becomes, GoesOver}
 use Rattle.vd_relay.proofs.Steps.{pace_less}
 
 abbrev pub with_commander : Control → Commander → Control
@@ -78,6 +78,7 @@ module _ {P Q E D : Type 0} (port : PortModel P) (other : PortModel Q) (l : Layo
     was_next = t.0.was_next;
     moved = t.0.moved;
     holds = carried_on s' w (d.side.after v t.0.op t.0.access t.0.got) h at t.1;
+    acts = t.0.acts;
     replays = λ by. absurd (cc by);
     grown = t.0.grown;
     looked = t.0.looked;
@@ -92,15 +93,16 @@ module _ {P Q E D : Type 0} (port : PortModel P) (other : PortModel Q) (l : Layo
   }
 
   pub carried_step : (old : Control) → ControlHolds l e d z r k s c w v → k.mode ≡ Carrying → Becomes old.mode k.mode
-      → (r.winding ≡ false → k.mode ≡ old.mode) → k.replay.next ≡ old.replay.next
+      → (r.winding ≡ false → k.mode ≡ old.mode) → k.replay.next ≡ old.replay.next → GoesOver z r.winding old.mode k v
       → IsCommandStep port other l e d (carries_from z k.replay.next) p p' q q' w v r r' k.commander x' s s' c c' said
       → IsControlStep port other l e d z p p' q q' w v r r' old (with_commander k x') s s' c c' said
-  carried_step old h at becomes same next t = record {
+  carried_step old h at becomes same next over t = record {
     by = Carrying;
     begins = subst (λ (m : Mode). Becomes old.mode m) at becomes;
     ends = at;
     same = λ off. sym at ∙ same off;
     far = λ n. (at, next);
+    over = over;
     made = elim t.made [
       | inl y ↦ inl (
         y.0,

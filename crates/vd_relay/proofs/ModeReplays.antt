@@ -91,6 +91,7 @@ module _ {Q E D : Type 0} (port : PortModel Q) (l : LayoutModel) (e : DeviceMode
         was_next = m.was_next;
         moved = m.moved;
         holds = goes v' (stepped h n same m);
+        acts = m.acts;
         replays = λ by. subst (λ (y : Replay). ReplayHolds l d y x' v') (sym now) m.holds;
         grown = omega (arith, m.grown, m.handled);
         looked = both (looked_is said t false is) m.slept;

@@ -34,6 +34,7 @@ use Rattle.vd_relay.specs.declared.replay.ReplayStage.TheVariants.{First, Second
 use Rattle.vd_relay.specs.Pace.{shadow_handled, shadow_owes}
 use Rattle.vd_relay.specs.Stages.{ShadowIs, ShadowArmed, ShadowShown}
 use Rattle.vd_relay.specs.Replays.{as_stage, replay_owes, after_ack, control_chain, IsShadowRing, IsFreshShadow, HasNext, AreCarried, AreAcked, IsBetween, IsAt, OffersIt, Replays, ReplayHolds, ReplayTurn}
+use Rattle.vd_relay.proofs.ShadowActs.{shadow_word_acts}
 use Rattle.vd_relay.proofs.Ops.{shadow_idle}
 use Rattle.vd_relay.proofs.ReplayStages.{next_by}
 use Rattle.vd_relay.proofs.ReplayChains.{stored_here, stored_other, acked_loaded, carried_stored, between_stored, carried_loaded, between_loaded}
@@ -128,6 +129,7 @@ module _ {Q D E : Type 0} (port : PortModel Q) (l : LayoutModel) (d : DriverMode
       hears = λ hears z. deaf hears;
       leaves = λ on at z. calm at;
     });
+    acts = shadow_word_acts d lay.driver_end v a got next;
     handled = ap shadow_handled (sym (lay.driver_end.control_moves v a got next));
     awake = λ z. absurd (cc z);
     grown = omega (

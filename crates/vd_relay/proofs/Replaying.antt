@@ -36,6 +36,7 @@ use Rattle.vd_relay.specs.declared.replay.ReplayStage.TheVariants.{Offering, Col
 use Rattle.vd_relay.specs.Pace.{counted, handled, woke, shadow_handled, shadow_owes, collect_owes, collecting_owes}
 use Rattle.vd_relay.specs.Stages.{ShadowIs, ShadowArmed, ShadowHears, ShadowShown}
 use Rattle.vd_relay.specs.Replays.{is_control, as_stage, replay_owes, IsShadowRing, IsAt, OffersIt, Replays, ReplayHolds, ReplayTurn}
+use Rattle.vd_relay.proofs.ShadowActs.{says_acts}
 use Rattle.vd_relay.proofs.ShadowGoing.{went, collect_most}
 use Rattle.vd_relay.proofs.ShadowTurns.{not_woken}
 use Rattle.vd_relay.proofs.Hearings.{shadow_heard, shadow_goes_on}
@@ -103,6 +104,7 @@ module _ {Q D : Type 0} (port : PortModel Q) (l : LayoutModel) (d : DriverModel 
       was_next = s.was_next;
       moved = s.moved;
       holds = holds;
+      acts = says_acts answer (d.begun y) (d.begun b) v.frame v.done (d.side.after v s.op s.access s.got).done s.says;
       handled = counts ∙ ap shadow_handled s.is_answer;
       awake = awake;
       grown = grown;

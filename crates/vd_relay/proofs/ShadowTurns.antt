@@ -29,6 +29,7 @@ use Rattle.vd_relay.specs.Pace.{counted, handled, woke, shadow_handled, guest_ow
 use Rattle.vd_relay.specs.Stages.{is_rested, is_shadow}
 use Rattle.vd_relay.specs.Tie.{Course, IsTied}
 use Rattle.vd_relay.specs.Relay.{Stands, ShadowTurn, HearsNone, IsGlance, owes, IsFinished}
+use Rattle.vd_relay.proofs.ShadowActs.{says_acts}
 use Rattle.vd_relay.proofs.Calm.{at_stage}
 use Rattle.vd_relay.proofs.Growth.{shadow_grown}
 
@@ -111,6 +112,7 @@ module _ {P E D : Type 0} (port : PortModel P) (e : DeviceModel E) (d : DriverMo
       same = λ none.
           none_done v.frame v.done (d.side.after v s.op s.access s.got).done answer (d.begun r.shadow) (d.begun b) s.says
           (sym none ∙ handles);
+      acts = says_acts answer (d.begun r.shadow) (d.begun b) v.frame v.done (d.side.after v s.op s.access s.got).done s.says;
       live = live;
       grown =
           subst (λ x. length (offers v.done) + length (collects v.done) + shadow_handled x

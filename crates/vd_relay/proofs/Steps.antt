@@ -116,6 +116,7 @@ module _ {P E D : Type 0} (port : PortModel P) (e : DeviceModel E) (d : DriverMo
         λ x. h.again.1 (x.0, k.0 ∙ x.1, λ f. x.2 ((same_finished k).0 f)),
       );
       same = h.same;
+      acts = h.acts;
       live = h.live;
       grown = h.grown;
       hears = h.hears;
@@ -367,6 +368,7 @@ module _ {P E D : Type 0} (port : PortModel P) (e : DeviceModel E) (d : DriverMo
         hears_shadow = h.hears;
         leaves = leaves_on e d z r r' c w v holds t (λ i. (shadow_looks law holds h i).live) kept.0 h.leaves;
       };
+      acts = h.acts;
       grown = h.grown;
       looked = both (looked_is said t b is) h.slept;
       look = λ i. shadow_looks law holds h ((looked_is said t b is).0 i);

@@ -17,6 +17,7 @@ use Rattle.vd_layout.specs.Layout.{LayoutModel}
 use Rattle.vd_layout.specs.declared.moves.Move.{Move}
 use Rattle.vd_layout.specs.declared.moves.Move.TheVariants as move
 use Rattle.vd_control.specs.declared.settings.Settings.{Settings}
+use Rattle.vd_control.specs.Settings.{replay}
 use Rattle.vd_relay.specs.declared.control.Control.{Control}
 use Rattle.vd_relay.specs.declared.control.Mode.{Mode}
 use Rattle.vd_relay.specs.declared.control.Mode.TheVariants.{Replaying, Carrying, Leaving}
@@ -31,13 +32,18 @@ use Rattle.vd_relay.specs.Tie.{returned}
 use Rattle.vd_relay.specs.Relay.{AreCounted, GivesOne, IsFinished, IsKept, IsLook, IsQuiet, unless}
 use Rattle.vd_relay.specs.Commanding.{carries}
 use Rattle.vd_relay.specs.Replays.{ReplayHolds}
-use Rattle.vd_relay.specs.Modes.{Opening, ControlHolds, carries_from}
+use Rattle.vd_relay.specs.Modes.{Opening, ControlHolds, again, carries_from}
 
 -- what it does changes only from the replay on
 abbrev pub Becomes : Mode → Mode → Type 0
 Becomes Replaying m = Unit {0}
 Becomes Carrying m = m ≡ Carrying
 Becomes Leaving m = m ≡ Leaving
+
+-- where it goes over from its replay to carrying, all of the list is replayed, or a wind-up leaves the rest out: no more was offered before
+abbrev pub GoesOver : Opening → Bool → Mode → Control → DriverView → Type 0
+GoesOver z winding m k' v = m ≡ Replaying → k'.mode ≡ Carrying
+    → (k'.replay.next ≡ length (replay (again z))) ⊎ ((winding ≡ true) × (length (offers v.done) ≤ k'.replay.next))
 
 -- a sleeper's look at the shadow ring's bell: a replay hears no other
 abbrev pub LooksOn : {E D : Type 0} → Mode → DeviceModel E → DriverModel D → State E D → State E D → Control → Type 0
@@ -75,6 +81,7 @@ pub record OnShadowControl {P E D : Type 0} (port : PortModel P) (l : LayoutMode
   pub was_next : d.side.next v op access
   pub moved : port.moves p op access got q
   pub holds : ControlHolds l e d z r' k' s' c' w (d.side.after v op access got)
+  pub acts : AddsOneAct v.done (d.side.after v op access got).done
   -- the replay's last access leaves it so, too
   pub replays : by ≡ Replaying → ReplayHolds l d k'.replay r'.shadow (d.side.after v op access got)
   pub grown : length (offers v.done) + length (collects v.done) + shadow_handled (d.act v op access got)
@@ -97,6 +104,7 @@ pub record IsControlStep {P Q E D : Type 0} (p : PortModel P) (q : PortModel Q) 
   pub ends : Becomes by k'.mode
   pub same : r.winding ≡ false → by ≡ k.mode
   pub far : (by ≡ Replaying → ⊥) → (k'.mode ≡ by) × (k'.replay.next ≡ k.replay.next)
+  pub over : GoesOver z r.winding k.mode k' v
   pub made : ((b' ≡ b) × (s' ≡ s) × (by ≡ Replaying → ⊥) × OnGuestControl p l e d z a a' r r' k' s' c c' w v said)
       ⊎ ((a' ≡ a) × (by ≡ Leaving → ⊥) × OnShadowControl q l e d z b b' by r r' k' s' c c' w v said)
   pub kept : IsKept r r'

@@ -1,6 +1,6 @@
 -- What a relay of a control queue does, and what holds then: it replays, it carries the guest's commands, or it leaves the guest's end, of
 -- which it took nothing.
-use Rattle.std.specs.Prelude.{◌≡◌, ◌↔◌, ℕ, Bool, true, false, IsTrue, Option, Some, None, List, [], ◌∷◌, length, replicate, if◌then◌else◌}
+use Rattle.std.specs.Prelude.{◌≡◌, ◌⊎◌, ◌↔◌, ℕ, Bool, true, false, IsTrue, Option, Some, None, List, [], ◌∷◌, length, replicate, if◌then◌else◌}
 use Rattle.vd_model.specs.declared.chain.Piece.{Piece}
 use Rattle.vd_ring.specs.declared.frame.Used.{Used}
 use Rattle.vd_ring.specs.declared.driver.DriverView.{DriverView}
@@ -25,7 +25,8 @@ use Rattle.vd_relay.specs.Stages.{is_rested}
 use Rattle.vd_relay.specs.Commanding.{Takeover}
 use Rattle.vd_relay.specs.CommandSteps.{CommandHolds}
 use Rattle.vd_relay.specs.Leaving.{IsFree, IsLeft, leave_owes}
-use Rattle.vd_relay.specs.Replays.{Replays, ReplayHolds, is_done, is_over, replay_owes}
+use Rattle.vd_relay.specs.declared.replay.Replay.{Replay}
+use Rattle.vd_relay.specs.Replays.{Replays, ReplayHolds, IsBetween, is_done, is_over, replay_owes}
 
 -- where it takes over: what stood on the guest's ring, the settings, and whether it replays them
 pub record Opening : Type 0 where
@@ -49,6 +50,10 @@ carries_from z n = record { takes = z.takes; gives = z.gives; replayed = n; sett
 pub record IsUntouched (z : Opening) (w : DeviceView) : Type 0 where
   pub takes : Rattle.vd_ring.specs.History.takes w.done ≡ z.takes
   pub gives : Rattle.vd_ring.specs.History.gives w.done ≡ z.gives
+
+-- a replay that is over: all of its list is replayed, or a wind-up has left the rest out, with no command on the shadow ring
+abbrev pub IsOver : Opening → Replay → DriverView → Type 0
+IsOver z y v = (y.next ≡ length (replay (again z))) ⊎ ((y.winding ≡ true) × IsBetween v.done y.next)
 
 -- ---- what holds by what it does
 

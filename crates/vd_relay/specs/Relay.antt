@@ -166,6 +166,7 @@ pub record ShadowTurn {P E D : Type 0} (port : PortModel P) (e : DeviceModel E) 
   pub again : (t ≡ Again) ↔ ((d.act v op access got ≡ driver_act.Nothing) × (r.winding ≡ true) × (IsFinished r w v → ⊥))
   -- where no chain was offered or collected, nothing was
   pub same : Rattle.vd_relay.specs.Pace.handled t ≡ 0 → (d.side.after v op access got).done ≡ v.done
+  pub acts : AddsOneAct v.done (d.side.after v op access got).done
   pub live : is_rested r'.stage ≡ false
   pub grown : length (offers v.done) + length (collects v.done) + shadow_handled (d.act v op access got)
       ≤ length (offers (d.side.after v op access got).done) + length (collects (d.side.after v op access got).done)
@@ -236,6 +237,7 @@ pub record OnShadow {P E D : Type 0} (port : PortModel P) (e : DeviceModel E) (d
   pub was_next : d.side.next v op access
   pub moved : port.moves p op access got q
   pub holds : Holds e d z r' c' w (d.side.after v op access got)
+  pub acts : AddsOneAct v.done (d.side.after v op access got).done
   pub grown : length (offers v.done) + length (collects v.done) + shadow_handled (d.act v op access got)
       ≤ length (offers (d.side.after v op access got).done) + length (collects (d.side.after v op access got).done)
   pub looked : (said ≡ move.Looked) ↔ (d.act v op access got ≡ driver_act.Asleep)

@@ -22,6 +22,7 @@ use Rattle.vd_control.specs.Commands.{spelled}
 use Rattle.vd_control.specs.Settings.{HasPairs, replay}
 use Rattle.vd_commands.specs.Words.{command_word}
 use Rattle.vd_commands.specs.Loads.{ack_load}
+use Rattle.vd_relay.specs.Acts.{AddsOneAct}
 use Rattle.vd_relay.specs.declared.counts.Turn.{Turn}
 use Rattle.vd_relay.specs.declared.counts.Turn.TheVariants.{Slept, Woke, Worked, Again}
 use Rattle.vd_relay.specs.declared.stage.Stage.{Stage}
@@ -237,6 +238,7 @@ pub record ReplayTurn {Q D : Type 0} (port : PortModel Q) (l : LayoutModel) (d :
   pub was_next : d.side.next v op access
   pub moved : port.moves p op access got q
   pub holds : ReplayHolds l d r' x' (d.side.after v op access got)
+  pub acts : AddsOneAct v.done (d.side.after v op access got).done
   pub grown : length (offers (d.side.after v op access got).done) + length (collects (d.side.after v op access got).done)
       ≡ length (offers v.done) + length (collects v.done) + Rattle.vd_relay.specs.Pace.handled t
   pub slept : (t ≡ Slept) ↔ (d.act v op access got ≡ act.Asleep)

@@ -5,13 +5,13 @@ ghost use Rattle.vd_ring.specs.declared.driver.DriverView.{DriverView};
 ghost use Rattle.vd_layout.specs.Begun.{DriverOp};
 ghost use Rattle.vd_control.specs.declared.settings.Settings.{Settings};
 ghost use Rattle.vd_control.specs.Settings.{HasPairs};
-ghost use Rattle.vd_relay.specs.declared.control.Mode.TheVariants.{Replaying};
+ghost use Rattle.vd_relay.specs.declared.control.Mode.TheVariants.{Replaying, Carrying};
 ghost use Rattle.vd_relay.specs.declared.carry.Carry.TheVariants as carry;
 ghost use Rattle.vd_relay.specs.declared.counts.Counts.{Counts};
 ghost use Rattle.vd_relay.specs.declared.replay.ReplayStage.TheVariants.{Second, Arming};
-ghost use Rattle.vd_relay.specs.Replays.{IsFreshShadow, ReplayHolds, is_over, replay_owes};
-ghost use Rattle.vd_relay.specs.Modes.{Opening, IsReplaying, ControlHolds, replays_for, again};
-ghost use Rattle.vd_relay.specs.ModeSteps.{Becomes};
+ghost use Rattle.vd_relay.specs.Replays.{IsFreshShadow, Replays, ReplayHolds, is_over, replay_owes};
+ghost use Rattle.vd_relay.specs.Modes.{Opening, IsOver, IsReplaying, ControlHolds, replays_for, again};
+ghost use Rattle.vd_relay.specs.ModeSteps.{Becomes, GoesOver};
 
 use crate::carry::Carry;
 use crate::commander::Commander;
@@ -77,6 +77,9 @@ impl Control {
             → IsReplaying L.layout L.Device.device L.Driver.driver z state.now self.old s c w v
             → ControlHolds L.layout L.Device.device L.Driver.driver z state.now self.new s c w v }
         ensures on { is_over self.old.replay.stage ≡ false → self.new.mode ≡ Replaying }
+        ensures over { (z : Opening) (v : DriverView) → self.old.replay.settings ≡ again z
+            → Replays L.layout L.Driver.driver self.old.replay state.now.shadow v → self.new.mode ≡ Carrying
+            → IsOver z self.old.replay v }
         ensures replay { self.new.replay ≡ self.old.replay }
         ensures commander { self.new.commander ≡ self.old.commander }
     {
@@ -100,6 +103,9 @@ impl Control {
         ensures becomes { Becomes self.old.mode self.new.mode }
         ensures same { state.now.winding ≡ false → self.new.mode ≡ self.old.mode }
         ensures next { self.new.replay.next ≡ self.old.replay.next }
+        ensures over { (z : Opening) (s : Settings) (c : Counts) (w : DeviceView) (v : DriverView)
+            → ControlHolds L.layout L.Device.device L.Driver.driver z state.now self.old s c w v
+            → GoesOver z state.now.winding self.old.mode self.new v }
         ensures commander { self.new.commander ≡ self.old.commander }
         ensures arms { self.new.mode ≡ Replaying → self.new.replay.winding ≡ true → self.new.replay.stage ≡ Arming
             → ¬ (L.Driver.driver.begun state.now.shadow ≡ DriverOp.idle) }

@@ -11,7 +11,7 @@ ghost use Rattle.vd_relay.specs.declared.replay.ReplayStage.TheVariants.{Second,
 ghost use Rattle.vd_relay.specs.Stages.{is_rested};
 ghost use Rattle.vd_relay.specs.Relay.{IsKept, IsQuiet};
 ghost use Rattle.vd_relay.specs.Modes.{Opening, ControlHolds};
-ghost use Rattle.vd_relay.specs.ModeSteps.{CanControl, IsControlStep, OnGuestControl, OnShadowControl};
+ghost use Rattle.vd_relay.specs.ModeSteps.{CanControl, GoesOver, IsControlStep, OnGuestControl, OnShadowControl};
 
 use crate::command_step::command_step;
 use crate::control::{Control, Mode};
@@ -43,6 +43,9 @@ fn replay_step<L: Layout, Q: Port>(
         → IsOwn Q.port L.Driver.driver.side port.old v
         → OnShadowControl Q.port L.layout L.Device.device L.Driver.driver z port.old port.new Replaying state.old state.new control.new
         settings.now counts.old counts.new w v result }
+    ensures over { (z : Opening) (w : DeviceView) (v : DriverView)
+        → ControlHolds L.layout L.Device.device L.Driver.driver z state.old control.old settings.now counts.old w v
+        → IsOwn Q.port L.Driver.driver.side port.old v → GoesOver z state.old.winding Replaying control.new v }
     ensures kept { IsKept state.old state.new }
     ensures quiet { IsQuiet L.Driver.driver state.old state.new }
     ensures live { is_rested state.new.stage ≡ false }

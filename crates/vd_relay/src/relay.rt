@@ -8,6 +8,7 @@ ghost use Rattle.vd_layout.specs.Begun.{DeviceOp, DriverOp};
 ghost use Rattle.vd_control.specs.Settings.{HasPairs, replay};
 ghost use Rattle.vd_commands.specs.Loads.{ack_load};
 ghost use Rattle.vd_relay.specs.declared.control.Control.{Control};
+ghost use Rattle.vd_relay.specs.declared.control.Mode.TheVariants.{Carrying};
 ghost use Rattle.vd_relay.specs.declared.stage.Stage.TheVariants.{Taking};
 ghost use Rattle.vd_relay.specs.Stages.{is_rested};
 ghost use Rattle.vd_relay.specs.Tie.{Start};
@@ -69,10 +70,13 @@ fn first_control<L: Layout>(
     requires idle { L.Device.device.begun state.now.guest ≡ DeviceOp.idle }
     requires awake { L.Device.device.resting state.now.guest ≡ false }
     requires unarmed { L.Device.device.armed state.now.guest ≡ false }
-    ensures { (w : DeviceView) (v : DriverView)
+    ensures holds { (w : DeviceView) (v : DriverView)
         → IsControlOpen L.layout L.Device.device L.Driver.driver state.now.guest state.now.shadow state.now.table commands w v
         → ControlHolds L.layout L.Device.device L.Driver.driver (opening settings replay w) state.now result settings
         (record { accesses = 0; handled = 0; heard = 0 }) w v }
+    ensures over { (w : DeviceView) (v : DriverView)
+        → IsControlOpen L.layout L.Device.device L.Driver.driver state.now.guest state.now.shadow state.now.table commands w v
+        → result.mode ≡ Carrying → result.replay.next ≡ length (Rattle.vd_control.specs.Settings.replay result.replay.settings) }
 {
     let mut control = Control::new::<L>(&state.shadow, commands, settings, replay);
     control.go_on::<L>(state);
@@ -127,6 +131,10 @@ impl<L: Layout> Relay<L> {
             → IsControlOpen L.layout L.Device.device L.Driver.driver guest shadow table.origins table.commands w v
             → ControlHolds L.layout L.Device.device L.Driver.driver (opening settings replay w) result.state k result.settings result.counts
             w v) }
+        ensures over { control ≡ true → IsSomeAnd result.control (λ k. (w : DeviceView) (v : DriverView)
+            → IsControlOpen L.layout L.Device.device L.Driver.driver guest shadow table.origins table.commands w v
+            → k.mode ≡ Carrying → k.replay.next
+            ≡ length (Rattle.vd_control.specs.Settings.replay k.replay.settings)) }
         ensures live { is_rested result.state.stage ≡ false }
         ensures winding { result.state.winding ≡ false }
         ensures counts { result.counts ≡ record { accesses = 0; handled = 0; heard = 0 } }
@@ -234,6 +242,8 @@ impl<L: Layout> Relay<L> {
             (v : DriverView)
             → ControlHolds L.layout L.Device.device L.Driver.driver z self.old.state k self.old.settings self.old.counts w v
             → ControlHolds L.layout L.Device.device L.Driver.driver z self.new.state k' self.new.settings self.new.counts w v) }
+        ensures as_far { (k : Control) → self.old.control ≡ Some k → IsSomeAnd self.new.control (λ k'. (k'.mode ≡ k.mode)
+            × (k'.replay.next ≡ k.replay.next)) }
         ensures live { is_rested self.new.state.stage ≡ false }
         ensures winding { self.new.state.winding ≡ true }
         ensures target { self.new.state.target ≡ given }

@@ -54,6 +54,7 @@ pub(crate) fn wind_up_control<L: Layout>(
     ensures winding { state.new.winding ≡ true }
     ensures target { state.new.target ≡ given }
     ensures mode { control.new.mode ≡ control.old.mode }
+    ensures next { control.new.replay.next ≡ control.old.replay.next }
 {
     match control.mode {
         Mode::Replaying => {

@@ -56,6 +56,7 @@ module _ {P : Type 0} (port : PortModel P) (at : P → RingWords)
     was_next = s.was_next;
     moved = moved_on p q ws us s.op s.access s.got from to s.moved;
     holds = s.holds;
+    acts = s.acts;
     grown = s.grown;
     looked = s.looked;
     look = s.look;

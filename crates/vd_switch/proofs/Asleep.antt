@@ -14,11 +14,11 @@ use Rattle.vd_layout.specs.Device.{DeviceModel, IsLawfulDevice}
 use Rattle.vd_relay.specs.declared.stage.Stage.{Stage}
 use Rattle.vd_relay.specs.declared.stage.Stage.TheVariants as stage
 use Rattle.vd_relay.specs.declared.state.State.{State}
-use Rattle.vd_relay.specs.Moving.{Stands}
+use Rattle.vd_relay.specs.Relay.{Stands}
 use Rattle.vd_relay.specs.Stages.{IsSome, is_hearing, BeforeRest, InHand, BackIs, GuestArmed, ShadowArmed}
-use Rattle.vd_relay.specs.Tie.{Start, moves}
+use Rattle.vd_relay.specs.Tie.{Course}
 use Rattle.vd_relay.proofs.Ties.{taken_count, given_count}
-use Rattle.vd_switch.specs.Sleeping.{Sleeps}
+use Rattle.vd_switch.specs.Sleeping.{SleepsOn}
 
 -- what a hearing goes with, where no operation is in progress
 record Hears (st : Stage) (hand : List (List Piece)) (acts done : List DeviceDone) (d : DeviceNow) (armed : Option ℕ)
@@ -55,10 +55,10 @@ hears stage.DisarmingShadow hand acts done d armed c shadow_armed is none same g
 hears stage.Resting hand acts done d armed c shadow_armed is none same guest shadow = absurd (cc is)
 hears stage.Rested hand acts done d armed c shadow_armed is none same guest shadow = absurd (cc is)
 
-module _ {E D : Type 0} (e : DeviceModel E) (d : DriverModel D) (law : IsLawfulDevice e) (ldr : IsLawfulDriver d) (z : Start)
+module _ {E D : Type 0} (e : DeviceModel E) (d : DriverModel D) (law : IsLawfulDevice e) (ldr : IsLawfulDriver d) (z : Course)
     (r : State E D) (w : DeviceView) (v : DriverView) (h : Stands e d z r w v) where
   pub sleeps : r.winding ≡ false → is_hearing r.stage ≡ true → e.begun r.guest ≡ DeviceOp.idle
-      → d.begun r.shadow ≡ DriverOp.idle → Sleeps z w v
+      → d.begun r.shadow ≡ DriverOp.idle → SleepsOn z w v
   sleeps live hearing guest_idle shadow_idle =
       let back : h.back ≡ [] = subst (λ (a : DeviceOp). BackIs a h.back) guest_idle h.to_give in
       let heard = hears r.stage h.hand h.acts w.done w.doing w.armed v.doing v.armed hearing
@@ -71,13 +71,13 @@ module _ {E D : Type 0} (e : DeviceModel E) (d : DriverModel D) (law : IsLawfulD
         shadow_armed = heard.shadow;
         offered = omega (
           arith,
-          taken_count (moves z) r.table h.acts v.frame v.done h.hand h.back h.tied,
+          taken_count z r.table h.acts v.frame v.done h.hand h.back h.tied,
           ap (λ (s : List DeviceDone). length (takes s)) heard.same,
           ap (λ (cs : List (List Piece)). length cs) heard.none,
         );
         given = omega (
           arith,
-          given_count (moves z) r.table h.acts v.frame v.done h.hand h.back h.tied,
+          given_count z r.table h.acts v.frame v.done h.hand h.back h.tied,
           ap (λ (s : List DeviceDone). length (gives s)) heard.same,
           ap (λ (us : List Used). length us) back,
         );

@@ -34,7 +34,7 @@ use Rattle.vd_relay.specs.Replays as replays
 use Rattle.vd_relay.specs.Tie.{returned}
 use Rattle.vd_switch.specs.CommandLanes.{CommandParts, AreAnsweredTo, before, with_bytes, lane_commands}
 use Rattle.vd_switch.specs.Controlling.{ControlStart, IsControlling, replay_list, start_after, start_of, replayed_by}
-use Rattle.vd_switch.specs.ControllingSteps.{GoesOver, RelayControlled}
+use Rattle.vd_switch.specs.ControllingSteps.{RelayControlled}
 use Rattle.vd_switch.specs.LaneBag.{MayEndOne}
 use Rattle.vd_switch.specs.ShadowingLanes.{IsWinding}
 use Rattle.vd_switch.proofs.CommandGuest.{acks_stay}
@@ -73,7 +73,7 @@ module _ {P Q E D : Type 0} (p : PortModel P) (q : PortModel Q) (plaw : IsLawful
     (k k' : Control) (s s' : Settings) (c c' : Counts) (begun : List Begun) (now : Settings) (words shadow_words : List ℕ) (v : DriverView)
     (w : DeviceView) (sv : DriverView) (sw : DeviceView) (said : Move)
     (h : IsControlling l e d x r k s c begun now words shadow_words v w sv sw)
-    (step : IsControlStep p q l e d x.opening a a' b b' w sv r r' k k' s s' c c' said) (goes : GoesOver x.opening r' k k' sv) where
+    (step : IsControlStep p q l e d x.opening a a' b b' w sv r r' k k' s s' c c' said) where
   abbrev all : ℕ
   all = length (replay_list x)
 
@@ -172,13 +172,12 @@ module _ {P Q E D : Type 0} (p : PortModel P) (q : PortModel Q) (plaw : IsLawful
         | inl whole ↦ inl (same ∙ whole)
         | inr cut ↦ inr (step.kept.0 ∙ cut.0, omega (arith, same, cut.1))
       ]
-      by_way (comes was is low) = elim (goes was is) [
+      by_way (comes was is low) = elim (step.over was is) [
         | inl whole ↦ inl whole
-        | inr (wound, inl few) ↦ (
+        | inr cut ↦ (
             let lists : Lists sv.frame sv.done sw.done = law.lists shadow_words sv sw h.parts.shadow_ring in
-            inr (wound, omega (arith, few, lists.some))
+            inr (step.kept.0 ∙ cut.0, omega (arith, cut.1, lists.some))
             )
-        | inr (wound, inr few) ↦ (let z = winds wound in inr (wound, omega (arith, few, z.target, z.even)))
       ]
       by_way (not_yet was is) = absurd (is on)
 
@@ -318,8 +317,8 @@ module _ {P Q E D : Type 0} (p : PortModel P) (q : PortModel Q) (plaw : IsLawful
         lane = on_guest t plain;
         account = account;
         gave = gave t plain;
-        answers = answers t plain;
-        acks = λ acts old. old;
+        answers = answers t plain t.acts;
+        acks = λ old. old;
       }
       by_made (inr (stay, leaves, t)) = record {
         words = words;
@@ -333,6 +332,6 @@ module _ {P Q E D : Type 0} (p : PortModel P) (q : PortModel Q) (plaw : IsLawful
         lane = on_shadow t leaves shadow_plain;
         account = account;
         gave = inl refl;
-        answers = λ acts old. old;
-        acks = acks_kept e d l law (start_of x k) begun now words shadow_words v w sv sw h.parts (shadow_view t leaves shadow_plain).done;
+        answers = λ old. old;
+        acks = acks_kept e d l law (start_of x k) begun now words shadow_words v w sv sw h.parts (shadow_view t leaves shadow_plain).done t.acts;
       }

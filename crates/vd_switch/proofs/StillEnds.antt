@@ -14,7 +14,8 @@ still_of e end is = one_of (e.resting end) (e.fresh end) is
 pub still_rests : {E : Type 0} (e : DeviceModel E) (end : E) → e.resting end ≡ true → is_still e end ≡ true
 still_rests e end is = rw is refl
 
--- what follows of a value follows of the one that an option has
-pub some_of : {A : Type 0} {P Q : A → Type 0} (o : Option A) → IsSomeAnd o P → ((x : A) → P x → Q x) → IsSomeAnd o Q
-some_of None p f = absurd p
-some_of (Some x) p f = f x p
+-- what follows of a value by two facts follows of the one that an option has
+pub both_of : {A : Type 0} {P Q R : A → Type 0} (o : Option A) → IsSomeAnd o P → IsSomeAnd o Q → ((x : A) → P x → Q x → R x)
+    → IsSomeAnd o R
+both_of None p q f = absurd p
+both_of (Some x) p q f = f x p q

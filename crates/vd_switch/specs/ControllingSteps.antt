@@ -9,7 +9,6 @@ use Rattle.vd_layout.specs.declared.moves.Move.{Move}
 use Rattle.vd_layout.specs.Driver.{DriverModel}
 use Rattle.vd_layout.specs.Device.{DeviceModel}
 use Rattle.vd_layout.specs.Layout.{LayoutModel}
-use Rattle.vd_bus.specs.Acts.{IsOneActMore}
 use Rattle.vd_control.specs.declared.settings.Settings.{Settings}
 use Rattle.vd_control.specs.Settings.{replay}
 use Rattle.vd_relay.specs.declared.control.Control.{Control}
@@ -24,12 +23,6 @@ use Rattle.vd_switch.specs.CommandSettling.{AcksCount}
 use Rattle.vd_switch.specs.Controlling.{ControlStart, IsControlling, start_of}
 use Rattle.vd_switch.specs.LaneBag.{MayEndOne}
 
--- where a relay goes over from its replay to carry, the list is over, or a wind-up leaves the rest out: no chain of it was offered before
--- this access, or as many were replayed as the device gave
-abbrev pub GoesOver : {E D : Type 0} → Opening → State E D → Control → Control → DriverView → Type 0
-GoesOver z r' k k' sv = k.mode ≡ Replaying → k'.mode ≡ Carrying → (k'.replay.next ≡ length (replay (again z)))
-    ⊎ ((r'.winding ≡ true) × ((length (offers sv.done) ≤ k'.replay.next) ⊎ (r'.target ≤ k'.replay.next)))
-
 -- the access of the relay, and the views after it
 abbrev pub IsSeen : {P Q E D : Type 0} → PortModel P → PortModel Q → LayoutModel → DeviceModel E → DriverModel D → Opening → P → P → Q → Q
     → Mode → State E D → State E D → Control → Settings → Counts → Counts → DeviceView → DriverView → Move → DeviceView → DriverView
@@ -40,8 +33,7 @@ IsSeen p q l e d z a a' b b' by r r' k' s' c c' w sv said view shadow_view =
     × (shadow_view ≡ d.side.after sv t.op t.access t.got))
 
 -- the lane after one access of its relay: the ports are the same, onto the words after it; of the lane's bag it is no step, or the end of
--- one chain, and the commands begun are the same. What was answered before is so still, if no more than one act was added on the guest's
--- ring
+-- one chain, and the commands begun are the same. What was answered before is so still
 pub record RelayControlled {P Q E D : Type 0} (p : PortModel P) (q : PortModel Q) (l : LayoutModel) (e : DeviceModel E) (d : DriverModel D)
     (x : ControlStart) (a a' : P) (b b' : Q) (by : Mode) (r r' : State E D) (k k' : Control) (s' : Settings) (c c' : Counts)
     (begun : List Begun) (now : Settings) (v : DriverView) (w : DeviceView) (sv : DriverView) (sw : DeviceView) (said : Move)
@@ -56,6 +48,6 @@ pub record RelayControlled {P Q E D : Type 0} (p : PortModel P) (q : PortModel Q
   pub lane : IsControlling l e d x r' k' s' c' begun now words shadow_words v view shadow_view sw
   pub account : lane_commands (start_of x k') begun ≡ lane_commands (start_of x k) begun
   pub gave : MayEndOne (length (offers v.done)) (length (lane_commands (start_of x k') begun)) (gives w.done) (gives view.done)
-  pub answers : IsOneActMore w.done view.done → AreAnsweredTo (length x.opening.gives) v w → AreAnsweredTo (length x.opening.gives) v view
-  -- and the acks that were loaded count still, if no more than one act was added on the shadow ring
-  pub acks : IsOneActMore sv.done shadow_view.done → AcksCount sv.done → AcksCount shadow_view.done
+  pub answers : AreAnsweredTo (length x.opening.gives) v w → AreAnsweredTo (length x.opening.gives) v view
+  -- and the acks that were loaded count still
+  pub acks : AcksCount sv.done → AcksCount shadow_view.done

@@ -1,5 +1,5 @@
 -- The end that a still lane owns.
-use Rattle.std.specs.Prelude.{◌≡◌, ◌||◌, Bool, false, List, [], Option}
+use Rattle.std.specs.Prelude.{◌≡◌, ◌||◌, Bool, false, List, [], length, Option}
 use Rattle.vd_model.specs.declared.map.Mapping.{Mapping}
 use Rattle.vd_ring.specs.declared.driver.DriverView.{DriverView}
 use Rattle.vd_ring.specs.declared.device.DeviceView.{DeviceView}
@@ -10,6 +10,7 @@ use Rattle.vd_control.specs.declared.settings.Settings.{Settings}
 use Rattle.vd_table.specs.declared.Origin.{Origin}
 use Rattle.vd_table.specs.declared.ShadowTable.{ShadowTable}
 use Rattle.vd_relay.specs.declared.control.Control.{Control}
+use Rattle.vd_relay.specs.declared.control.Mode.TheVariants.{Carrying}
 use Rattle.vd_relay.specs.declared.counts.Counts.{Counts}
 use Rattle.vd_relay.specs.declared.state.State.{State}
 use Rattle.vd_relay.specs.ModeEnds.{opening}
@@ -28,11 +29,13 @@ abbrev pub Shadows : {E D : Type 0} → DeviceModel E → DriverModel D → E �
 Shadows e d end shadow table r c = (ms : List Mapping) (w : DeviceView) (v : DriverView) → e.stands end w → d.stands shadow v
     → ArePaired ms w.frame v.frame → v.done ≡ [] → Holds e d (start ms w) r c w v
 
--- a relay of a control queue was made of them and of the lane's settings, which it replays, or not: from there on it holds both rings
+-- a relay of a control queue was made of them and of the lane's settings, which it replays, or not: from there on it holds both rings. One
+-- that carries at once has nothing to replay
 abbrev pub Replays : {E D : Type 0} → LayoutModel → DeviceModel E → DriverModel D → Bool → Settings → E → D → ShadowTable → State E D
     → Control → Counts → Type 0
 Replays l e d replay s end shadow table r k c = (w : DeviceView) (v : DriverView) → e.stands end w → d.stands shadow v
     → IsShadowRing l v.frame → AreControls w.frame v.frame → v.done ≡ [] → ControlHolds l e d (opening s replay w) r k s c w v
+    × (k.mode ≡ Carrying → k.replay.next ≡ length (Rattle.vd_control.specs.Settings.replay k.replay.settings))
 
 -- a new relay has made no step, winds nothing up, and its end doesn't rest
 pub record IsNew {E D : Type 0} (r : State E D) (c : Counts) : Type 0 where

@@ -15,7 +15,7 @@ ghost use Rattle.vd_relay.specs.declared.state.State.{State};
 ghost use Rattle.vd_relay.specs.ModeSteps.{IsControlStep};
 ghost use Rattle.vd_switch.specs.CommandLaneSteps.{DeviceCommanded, GuestCommanded};
 ghost use Rattle.vd_switch.specs.Controlling.{ControlStart, IsControlling, start_of};
-ghost use Rattle.vd_switch.specs.ControllingSteps.{GoesOver, RelayControlled};
+ghost use Rattle.vd_switch.specs.ControllingSteps.{RelayControlled};
 
 use vd_bus::{Device, Guest};
 use vd_layout::Layout;
@@ -30,7 +30,6 @@ pub fn control_relay_law<L: Layout, P: Port, Q: Port>()
         → IsControlling L.layout L.Device.device L.Driver.driver x r k s c begun now words shadow_words v w sv sw → P.port.plain a words
         → Q.port.plain b shadow_words
         → (t : IsControlStep P.port Q.port L.layout L.Device.device L.Driver.driver x.opening a a2 b b2 w sv r r2 k k2 s s2 c c2 said)
-        → GoesOver x.opening r2 k k2 sv
         → RelayControlled P.port Q.port L.layout L.Device.device L.Driver.driver x a a2 b b2 t.by r r2 k k2 s2 c c2 begun now v w sv sw
         said }
 {}

@@ -6,6 +6,7 @@ pub mod command_laws;
 pub mod command_step_laws;
 pub mod control_laws;
 pub mod control_settling_laws;
+pub mod control_sleeping_laws;
 pub mod control_step_laws;
 mod fault;
 mod kit;

@@ -97,6 +97,8 @@ impl<L: Layout> Shadowing<L> {
             → ControlHolds L.layout L.Device.device L.Driver.driver z self.old.relay.state k self.old.relay.settings self.old.relay.counts
             w v → ControlHolds L.layout L.Device.device L.Driver.driver z self.new.relay.state k' self.new.relay.settings
             self.new.relay.counts w v) }
+        ensures as_far { (k : Control) → self.old.relay.control ≡ Some k → IsSomeAnd self.new.relay.control (λ k'. (k'.mode ≡ k.mode)
+            × (k'.replay.next ≡ k.replay.next)) }
         ensures live { is_rested self.new.relay.state.stage ≡ false }
         ensures winding { self.new.relay.state.winding ≡ true }
         ensures target { (sw : DeviceView) → V.party.holds device.old sw → self.new.relay.state.target ≡ length (gives sw.done) }

@@ -19,6 +19,7 @@ returns-in-Replaying-clause-step g c = λ z w v h own other.
       ends = tt;
       same = λ off. sym at ∙ c.turn.ensures.same off;
       far = λ n. absurd (n refl);
+      over = λ was on. t.over z w v m other refl on;
       made = inr (refl, (λ x. cc x), o);
       kept = t.kept;
       quiet = t.quiet;
@@ -41,7 +42,7 @@ returns-in-Carrying-clause-step g c = λ z w v h own other.
     carried_step g.P.Port.port g.Q.Port.port l e d z c.args.guest_port.now c.command_step.new.guest_port c.args.shadow_port.now
     c.command_step.new.shadow_port r c.command_step.new.state k c.command_step.new.commander s c.command_step.new.settings n
     c.command_step.new.counts w v c.command_step.result c.args.control.now m at c.turn.ensures.becomes c.turn.ensures.same
-    c.turn.ensures.next
+    c.turn.ensures.next (c.turn.ensures.over z s n w v h)
     (c.command_step.ensures.step (carries_from z k.replay.next) w v (carrying_of l e d z r k s n w v m at) own other)
 
 pub returns-in-Leaving-clause-step : goal.returns-in-Leaving-clause-step
@@ -56,6 +57,7 @@ returns-in-Leaving-clause-step g c = λ z w v h own other.
       ends = at;
       same = λ off. sym at ∙ c.turn.ensures.same off;
       far = λ n. (at, c.turn.ensures.next);
+      over = λ was on. absurd (cc (sym at ∙ on));
       made = inl (refl, refl, (λ x. cc x), o);
       kept = t.kept;
       quiet = λ on x is. sym (ap g.L.Driver.DriverEnd.driver.begun t.shadow) ∙ is;

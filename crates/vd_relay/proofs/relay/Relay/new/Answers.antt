@@ -23,6 +23,16 @@ returns-then-control-clause-commands g c = λ on w v o.
     let s = c.args.settings in
     let table = c.args.table in
     subst (λ (n : Counts). ControlHolds l e d (opening s c.args.replay w) r k s n w v) (sym c.new.ensures)
-    (c.first_control-first.ensures w v
+    (c.first_control-first.ensures.holds w v
     (subst (λ (x : State g.row.L-Device.Denot g.row.L-Driver.Denot). IsControlOpen l e d x.guest x.shadow x.table table.commands w v)
     (sym c.first_state-state.ensures) o))
+
+pub returns-then-control-clause-over : goal.returns-then-control-clause-over
+returns-then-control-clause-over g c = λ on w v o.
+    let l = g.L.Layout.layout in
+    let e = g.L.Device.DeviceEnd.device in
+    let d = g.L.Driver.DriverEnd.driver in
+    let table = c.args.table in
+    c.first_control-first.ensures.over w v
+    (subst (λ (x : State g.row.L-Device.Denot g.row.L-Driver.Denot). IsControlOpen l e d x.guest x.shadow x.table table.commands w v)
+    (sym c.first_state-state.ensures) o)

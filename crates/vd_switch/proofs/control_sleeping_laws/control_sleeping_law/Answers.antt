@@ -1,0 +1,10 @@
+use Rattle.vd_relay.specs.Commanding.{carries}
+use Rattle.vd_switch.proofs.Asleep.{sleeps}
+use Rattle.vd_switch.proofs.control_sleeping_laws.control_sleeping_law.Goals as goal
+
+pub returns : goal.returns
+returns g c = λ y r w v h live hearing guest_idle shadow_idle. (
+  sleeps g.L.Device.DeviceEnd.device g.L.Driver.DriverEnd.driver g.met.L.Layout.lawful.device_end g.met.L.Layout.lawful.driver_end
+      (carries y) r w v h live hearing guest_idle shadow_idle,
+  h.tied.follows,
+)
