@@ -51,14 +51,15 @@ pub record Runs (f : Frame) (s : List DeviceDone) : Type 0 where
   pub apart : (k : ℕ) → Contains (running s) k → HasOwnHead s k
 
 -- a device's end: what its side may do, what its steps answer, whether a word that a look loads shows a further chain, for which views
--- it stands, the operation that it has begun, whether it is armed, a bound of the steps that this still takes, what it was made with,
--- whether it rests or is fresh, where its layout keeps commands and acks, and its base
+-- it stands, the operation that it has begun, the pieces that it has loaded, whether it is armed, a bound of the steps that this still
+-- takes, what it was made with, whether it rests or is fresh, where its layout keeps commands and acks, and its base
 pub record DeviceModel (E : Type 0) : Type 1 where
   pub side : SideModel DeviceView
   pub act : DeviceView → Op → Access → ℕ → DeviceAct
   pub shows : DeviceView → ℕ → Bool
   pub stands : E → DeviceView → Type 0
   pub begun : E → DeviceOp
+  pub loaded : E → List Piece
   pub armed : E → Bool
   pub left : E → ℕ
   pub size : E → ℕ

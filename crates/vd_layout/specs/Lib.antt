@@ -3,6 +3,7 @@ pub mod Control
 pub mod Pairs
 pub mod Driver
 pub mod Device
+pub mod Telling
 pub mod Layout
 pub mod Plain
 pub mod Run

@@ -1,14 +1,16 @@
 //! The device's end of a ring.
-ghost use Rattle.std.specs.Prelude.{◌≡◌, ◌<◌, ◌≤◌, ◌-◌, ◌↔◌, IsTrue, IsOk, OnOk, IfErr, length, true, false};
+ghost use Rattle.std.specs.Prelude.{ℕ, ◌≡◌, ◌<◌, ◌≤◌, ◌-◌, ◌↔◌, IsTrue, IsOk, OnOk, IfErr, length, true, false};
 ghost use Rattle.std.specs.List.{Contains};
+ghost use Rattle.vd_model.specs.Chains.{IsChain};
 ghost use Rattle.vd_ring.specs.declared.device.DeviceView.{DeviceView};
 ghost use Rattle.vd_ring.specs.History.{takes, gives, running, IsWhole};
 ghost use Rattle.vd_words.specs.Own.{IsOwn};
 ghost use Rattle.vd_layout.specs.Begun.{DeviceOp};
 ghost use Rattle.vd_layout.specs.Device.{DeviceModel, MayGive, IsStill, IsDeviceStep, IsLawfulDevice};
+ghost use Rattle.vd_layout.specs.Telling.{act_of};
 
 use thiserror::Error;
-use vd_model::{Base, Features};
+use vd_model::{Base, Chain, Features};
 use vd_ring::DeviceAct;
 use vd_words::Port;
 
@@ -20,6 +22,19 @@ pub struct BadBase {
     pub kept: Base,
     /// The base that was given.
     pub given: Base,
+}
+
+/// What one step told. A `DeviceAct` without the chain of a take, for which a holder then needn't keep room.
+#[derive(Copy, Clone)]
+pub enum Told {
+    Moved,
+    Taken(u32),
+    Given(u32),
+    Nothing,
+    Armed,
+    Awake,
+    Asleep,
+    Rested,
 }
 
 /// The device's end of a ring. It is idle, or in the middle of one operation. A `begin_` call starts an operation and
@@ -124,12 +139,39 @@ pub trait DeviceEnd: Drop {
         ensures stands { (w : DeviceView) → device.stands self.old w → device.stands self.new w }
         ensures left { device.left self.new ≤ 2 };
 
-    /// Makes one access of the operation in progress, on the end's own ring.
+    /// Makes one access of the operation in progress, on the end's own ring, and tells what it did. A chain that it took is
+    /// `chain`'s until the next take.
+    fn advance<P: Port>(&mut self, port: &mut P) -> Told
+        requires busy { ¬ (device.begun self.old ≡ DeviceOp.idle) }
+        requires own { (w : DeviceView) × device.stands self.old w × IsOwn P.port device.side port.old w }
+        ensures did { (w : DeviceView) → device.stands self.old w → IsOwn P.port device.side port.old w
+            → IsDeviceStep P.port device port.old port.new w self.old self.new (act_of result (device.loaded self.new)) }
+        ensures chain { (k : ℕ) → result ≡ Told.Taken k → IsChain (device.loaded self.new) };
+
+    /// The chain taken last.
+    fn chain(&self) -> Chain
+        requires { IsChain (device.loaded self.now) }
+        ensures { result ≡ device.loaded self.now };
+
+    /// Makes one access of the operation in progress, on the end's own ring, and answers with the chain that it took.
+    #[inline(always)]
     fn step<P: Port>(&mut self, port: &mut P) -> DeviceAct
         requires busy { ¬ (device.begun self.old ≡ DeviceOp.idle) }
         requires own { (w : DeviceView) × device.stands self.old w × IsOwn P.port device.side port.old w }
         ensures { (w : DeviceView) → device.stands self.old w → IsOwn P.port device.side port.old w
-            → IsDeviceStep P.port device port.old port.new w self.old self.new result };
+            → IsDeviceStep P.port device port.old port.new w self.old self.new result }
+    {
+        match self.advance(port) {
+            Told::Moved => DeviceAct::Moved,
+            Told::Taken(number) => DeviceAct::Taken(number, self.chain()),
+            Told::Given(number) => DeviceAct::Given(number),
+            Told::Nothing => DeviceAct::Nothing,
+            Told::Armed => DeviceAct::Armed,
+            Told::Awake => DeviceAct::Awake,
+            Told::Asleep => DeviceAct::Asleep,
+            Told::Rested => DeviceAct::Rested,
+        }
+    }
 
     /// Where the ring stands, in the form of its layout.
     fn base(&self) -> Base

@@ -12,7 +12,7 @@ mod plain;
 mod ring;
 mod steps;
 
-pub use device::{BadBase, DeviceEnd};
+pub use device::{BadBase, DeviceEnd, Told};
 pub use driver::DriverEnd;
 pub use finish::{finish_device, finish_driver};
 pub use layout::Layout;

@@ -12,7 +12,7 @@ use crate::window::{Held, drop_next, next, note};
 use circular_buffer::HeapCircularBuffer;
 use vd_bus::{Attached, Entries};
 use vd_control::Settings;
-use vd_layout::{DeviceAct, DeviceEnd, Layout};
+use vd_layout::{DeviceEnd, Layout, Told};
 use vd_model::Begun;
 use vd_words::Port;
 
@@ -182,25 +182,25 @@ pub(crate) fn serve<L: Layout, P: Port>(
     let all = session.by.at as usize + session.by.count as usize;
     let in_order = session.end.features().in_order;
     begin_next::<L>(session, begun.len() < all);
-    match session.end.step(port) {
-        DeviceAct::Taken(number, chain) => {
-            note(number, chain, &mut session.held, begun);
+    match session.end.advance(port) {
+        Told::Taken(number) => {
+            note(number, session.end.chain(), &mut session.held, begun);
             session.stage = after_take(session.held.is_full() | (begun.len() == all));
         }
-        DeviceAct::Given(_) => {
+        Told::Given(_) => {
             drop_next(&mut session.held, in_order);
             session.stage = after_give(session.held.is_empty());
         }
-        DeviceAct::Nothing => session.stage = after_nothing(session.held.is_empty()),
-        DeviceAct::Armed => session.stage = Stage::Hearing,
-        DeviceAct::Awake => {
+        Told::Nothing => session.stage = after_nothing(session.held.is_empty()),
+        Told::Armed => session.stage = Stage::Hearing,
+        Told::Awake => {
             let turn = waking(session.stage);
             session.stage = after_waking(session.end.armed());
             return turn;
         }
-        DeviceAct::Asleep => return Turn::Slept,
-        DeviceAct::Rested => session.stage = Stage::Done,
-        DeviceAct::Moved => {}
+        Told::Asleep => return Turn::Slept,
+        Told::Rested => session.stage = Stage::Done,
+        Told::Moved => {}
     }
     Turn::Worked
 }

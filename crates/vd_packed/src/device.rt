@@ -70,16 +70,3 @@ pub struct PackedDevice {
     pub(crate) at: RingPosition,
     pub(crate) doing: DeviceStep,
 }
-
-/// What a step did. The chain of a take is in the pieces that it has loaded.
-#[derive(Copy, Clone)]
-pub enum Told {
-    Moved,
-    Taken(u32),
-    Given(u32),
-    Nothing,
-    Armed,
-    Awake,
-    Asleep,
-    Rested,
-}

@@ -227,6 +227,7 @@ split_device = record {
   shows = device_shows;
   stands = DeviceStands;
   begun = λ e. device_begun e.doing;
+  loaded = λ e. e.pieces.items;
   armed = λ e. e.armed;
   left = λ e. device_left e.doing (length e.pieces.items);
   size = λ e. e.size;

@@ -1,8 +1,4 @@
 -- What a step of an end answers.
-use Rattle.std.specs.Prelude.{List}
-use Rattle.vd_model.specs.declared.chain.Piece.{Piece}
-use Rattle.vd_ring.specs.declared.act.DeviceAct.{DeviceAct}
-use Rattle.vd_ring.specs.declared.act.DeviceAct.TheVariants as act
 use Rattle.vd_ring.specs.declared.act.DriverAct.{DriverAct}
 use Rattle.vd_ring.specs.declared.act.DriverAct.TheVariants as driver_act
 use Rattle.vd_split.specs.declared.device.DeviceStep.{DeviceStep}
@@ -12,19 +8,6 @@ use Rattle.vd_split.specs.declared.driver.DriverStep.TheVariants as driver
 use Rattle.vd_split.specs.declared.driver.Collected.{Collected}
 use Rattle.vd_split.specs.declared.driver.DriverTold.{DriverTold}
 use Rattle.vd_split.specs.declared.driver.DriverTold.TheVariants as driver_told
-use Rattle.vd_split.specs.declared.device.Told.{Told}
-use Rattle.vd_split.specs.declared.device.Told.TheVariants as told
-
--- the answer of a step that told this, where it has loaded these pieces
-abbrev pub act_of : Told → List Piece → DeviceAct
-act_of told.Moved ps = act.Moved
-act_of (told.Taken k) ps = act.Taken k ps
-act_of (told.Given k) ps = act.Given k
-act_of told.Nothing ps = act.Nothing
-act_of told.Armed ps = act.Armed
-act_of told.Awake ps = act.Awake
-act_of told.Asleep ps = act.Asleep
-act_of told.Rested ps = act.Rested
 
 -- the answer of a step of the driver's end that told this, where it keeps this chain
 abbrev pub driver_act_of : DriverTold → Collected → DriverAct

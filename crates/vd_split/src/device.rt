@@ -2,7 +2,7 @@
 use crate::pieces::Pieces;
 use vd_model::Features;
 
-mod advance;
+mod doze;
 mod end;
 mod give;
 mod make;
@@ -68,17 +68,4 @@ pub struct SplitDevice {
     pub(crate) pieces: Pieces,
     pub(crate) addr: u64,
     pub(crate) doing: DeviceStep,
-}
-
-/// What a step did. The chain of a take is in the pieces that it has loaded.
-#[derive(Copy, Clone)]
-pub enum Told {
-    Moved,
-    Taken(u32),
-    Given(u32),
-    Nothing,
-    Armed,
-    Awake,
-    Asleep,
-    Rested,
 }

@@ -15,9 +15,9 @@ use Rattle.vd_layout.specs.Begun.{DeviceOp, IsDeviceOp}
 use Rattle.vd_layout.specs.Device.{DeviceSays}
 use Rattle.vd_packed.specs.declared.device.PackedDevice.{PackedDevice}
 use Rattle.vd_packed.specs.declared.device.DeviceStep.TheVariants as step
-use Rattle.vd_packed.specs.declared.device.Told.{Told}
-use Rattle.vd_packed.specs.declared.device.Told.TheVariants as told
-use Rattle.vd_packed.specs.Telling.{act_of}
+use Rattle.vd_layout.specs.declared.device.Told.{Told}
+use Rattle.vd_layout.specs.declared.device.Told.TheVariants as told
+use Rattle.vd_layout.specs.Telling.{act_of}
 use Rattle.vd_packed.specs.DriverEnd.{packed_words}
 use Rattle.vd_packed.specs.DeviceEnd.{DeviceStands, DeviceStepStands, device_begun, device_left}
 use Rattle.vd_packed.specs.laws.DeviceEnd.{not_armed}

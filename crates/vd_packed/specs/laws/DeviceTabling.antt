@@ -22,10 +22,10 @@ use Rattle.vd_layout.specs.Begun.{DeviceOp, IsDeviceOp}
 use Rattle.vd_layout.specs.Device.{DeviceSays}
 use Rattle.vd_packed.specs.declared.device.PackedDevice.{PackedDevice}
 use Rattle.vd_packed.specs.declared.device.DeviceStep.TheVariants as step
-use Rattle.vd_packed.specs.declared.device.Told.{Told}
+use Rattle.vd_layout.specs.declared.device.Told.{Told}
 use Rattle.vd_packed.specs.declared.ring_position.RingPosition.{RingPosition}
-use Rattle.vd_packed.specs.declared.device.Told.TheVariants as told
-use Rattle.vd_packed.specs.Telling.{act_of}
+use Rattle.vd_layout.specs.declared.device.Told.TheVariants as told
+use Rattle.vd_layout.specs.Telling.{act_of}
 use Rattle.vd_packed.specs.DriverEnd.{packed_words}
 use Rattle.vd_packed.specs.DeviceEnd.{IsTaking, IsTabling, DeviceStands, device_begun, device_left}
 use Rattle.vd_packed.specs.laws.DeviceGiving.{Goes, at_step}

@@ -1,22 +1,20 @@
 //! What the device's end offers its holder.
 ghost use Rattle.std.specs.Prelude.{◌≡◌, ◌↔◌, IsTrue, ◌≤◌, ℕ, Option, Some};
-ghost use Rattle.vd_model.specs.Chains.{IsChain};
 ghost use Rattle.vd_words.specs.Own.{IsOwn};
 ghost use Rattle.vd_ring.specs.declared.device.DeviceView.{DeviceView};
 ghost use Rattle.vd_packed_ring.specs.PackedDevice.{device_side};
-ghost use Rattle.vd_layout.specs.Begun.{DeviceOp};
 ghost use Rattle.vd_layout.specs.Device.{IsDeviceStep};
 ghost use Rattle.vd_packed.specs.DeviceEnd.{DeviceStands, IsSignal, packed_device, number_at};
-ghost use Rattle.vd_packed.specs.Telling.{act_of, TakesNone};
+ghost use Rattle.vd_layout.specs.Telling.{act_of};
+ghost use Rattle.vd_packed.specs.Telling.{TakesNone};
 ghost use Rattle.vd_packed.specs.laws.DeviceLaws.{device_laws};
 
 use super::running::{find_head, guess, none_below};
-use super::{DeviceStep, PackedDevice, Told};
+use super::{DeviceStep, PackedDevice};
 use crate::ring_position::base_word;
 use arrayvec::ArrayVec;
-use vd_layout::{BadBase, DeviceEnd};
-use vd_model::{Base, Chain, Features, Piece};
-use vd_ring::DeviceAct;
+use vd_layout::{BadBase, DeviceEnd, Told};
+use vd_model::{Base, Chain, Features};
 use vd_words::{Op, Port};
 
 impl DeviceEnd for PackedDevice {
@@ -87,44 +85,8 @@ impl DeviceEnd for PackedDevice {
         self.doing = DeviceStep::Rest;
     }
 
-    #[inline(always)]
-    fn step<P: Port>(&mut self, port: &mut P) -> DeviceAct {
-        match self.advance(port) {
-            Told::Moved => DeviceAct::Moved,
-            Told::Taken(number) => DeviceAct::Taken(number, chain_of(self.pieces.as_slice())),
-            Told::Given(number) => DeviceAct::Given(number),
-            Told::Nothing => DeviceAct::Nothing,
-            Told::Armed => DeviceAct::Armed,
-            Told::Awake => DeviceAct::Awake,
-            Told::Asleep => DeviceAct::Asleep,
-            Told::Rested => DeviceAct::Rested,
-        }
-    }
-
-    fn base(&self) -> Base {
-        Base(base_word(self.next))
-    }
-
-    fn resume(&mut self, b: Base) -> Result<(), BadBase> {
-        let kept = Base(base_word(self.next));
-        if b.0 != kept.0 {
-            return Err(BadBase { kept, given: b });
-        }
-        self.doing = DeviceStep::Idle;
-        Ok(())
-    }
-}
-
-impl PackedDevice {
-    /// Makes one access of the operation in progress.
     #[inline(never)]
-    fn advance<P: Port>(&mut self, port: &mut P) -> Told
-        requires busy { ¬ (packed_device.begun self.old ≡ DeviceOp.idle) }
-        requires own { (v : DeviceView) × DeviceStands self.old v × IsOwn P.port device_side port.old v }
-        ensures did { (v : DeviceView) → DeviceStands self.old v → IsOwn P.port device_side port.old v
-            → IsDeviceStep P.port packed_device port.old port.new v self.old self.new (act_of result self.new.pieces.items) }
-        ensures chain { (k : ℕ) → result ≡ Told.Taken k → IsChain self.new.pieces.items }
-    {
+    fn advance<P: Port>(&mut self, port: &mut P) -> Told {
         match self.doing {
             DeviceStep::Idle | DeviceStep::Resting => unreachable!(),
             DeviceStep::Look => self.look(port),
@@ -146,6 +108,31 @@ impl PackedDevice {
         }
     }
 
+    #[inline]
+    fn chain(&self) -> Chain {
+        let mut copy = ArrayVec::new();
+        match copy.try_extend_from_slice(self.pieces.as_slice()) {
+            Ok(()) => {}
+            Err(_) => unreachable!(),
+        }
+        Chain::of(copy)
+    }
+
+    fn base(&self) -> Base {
+        Base(base_word(self.next))
+    }
+
+    fn resume(&mut self, b: Base) -> Result<(), BadBase> {
+        let kept = Base(base_word(self.next));
+        if b.0 != kept.0 {
+            return Err(BadBase { kept, given: b });
+        }
+        self.doing = DeviceStep::Idle;
+        Ok(())
+    }
+}
+
+impl PackedDevice {
     /// Makes one access of a check, a bell, an arming, a hearing, a disarming or a rest.
     #[inline(always)]
     fn signal<P: Port>(&mut self, port: &mut P) -> Told
@@ -176,18 +163,4 @@ impl PackedDevice {
             DeviceStep::RestLook => self.rest(port),
         }
     }
-}
-
-/// The chain of these pieces.
-#[inline]
-fn chain_of(pieces: &[Piece]) -> Chain
-    requires { IsChain pieces.now }
-    ensures { result ≡ pieces.now }
-{
-    let mut copy = ArrayVec::new();
-    match copy.try_extend_from_slice(pieces) {
-        Ok(()) => {}
-        Err(_) => unreachable!(),
-    }
-    Chain::of(copy)
 }

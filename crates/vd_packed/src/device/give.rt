@@ -5,11 +5,13 @@ ghost use Rattle.vd_ring.specs.declared.device.DeviceView.{DeviceView};
 ghost use Rattle.vd_packed_ring.specs.PackedDevice.{device_side};
 ghost use Rattle.vd_layout.specs.Device.{IsDeviceStep};
 ghost use Rattle.vd_packed.specs.DeviceEnd.{DeviceStands, packed_device};
-ghost use Rattle.vd_packed.specs.Telling.{act_of, TakesNone};
+ghost use Rattle.vd_layout.specs.Telling.{act_of};
+ghost use Rattle.vd_packed.specs.Telling.{TakesNone};
 
-use super::{DeviceStep, PackedDevice, Told};
+use super::{DeviceStep, PackedDevice};
 use crate::ring_position::forward;
 use crate::words::used_word;
+use vd_layout::Told;
 use vd_words::{Access, Op, Port};
 
 impl PackedDevice {

@@ -8,12 +8,13 @@ ghost use Rattle.vd_packed.specs.Seconds.{shows_available};
 ghost use Rattle.vd_packed.specs.Telling.{TakesNone};
 
 use super::running::remember;
-use super::{DeviceStep, PackedDevice, Told};
+use super::{DeviceStep, PackedDevice};
 use crate::ring_position::forward;
 use crate::tables::{is_indirect, places_of};
 use crate::words::{has_next, piece_from, shows_available};
 use arrayvec::ArrayVec;
 use vd_bits::lane16;
+use vd_layout::Told;
 use vd_model::Piece;
 
 /// Leaves no pieces. A single one is taken out, which costs less than a clear.

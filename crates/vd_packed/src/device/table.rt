@@ -8,11 +8,13 @@ ghost use Rattle.vd_packed_ring.specs.PackedWords.{id_of};
 ghost use Rattle.vd_layout.specs.Device.{IsDeviceStep};
 ghost use Rattle.vd_packed.specs.DeviceEnd.{DeviceStands, packed_device};
 ghost use Rattle.vd_packed.specs.Tabled.{table_place};
-ghost use Rattle.vd_packed.specs.Telling.{act_of, TakesNone};
+ghost use Rattle.vd_layout.specs.Telling.{act_of};
+ghost use Rattle.vd_packed.specs.Telling.{TakesNone};
 
-use super::{DeviceStep, PackedDevice, Told};
+use super::{DeviceStep, PackedDevice};
 use crate::tables::table_place;
 use vd_bits::lane16;
+use vd_layout::Told;
 use vd_words::{Access, Op, Port};
 
 impl PackedDevice {

@@ -3,12 +3,11 @@ ghost use Rattle.std.specs.Prelude.{◌≡◌, ◌↔◌, IsTrue, ◌≤◌, ℕ
 ghost use Rattle.vd_split.specs.DeviceEnd.{split_device, number_at};
 ghost use Rattle.vd_split.specs.laws.DeviceLaws.{device_laws};
 
-use super::advance::chain_of;
 use super::running::{find_head, none_below};
-use super::{DeviceStep, SplitDevice, Told};
-use vd_layout::{BadBase, DeviceEnd};
-use vd_model::{Base, Features};
-use vd_ring::DeviceAct;
+use super::{DeviceStep, SplitDevice};
+use arrayvec::ArrayVec;
+use vd_layout::{BadBase, DeviceEnd, Told};
+use vd_model::{Base, Chain, Features};
 use vd_words::Port;
 
 impl DeviceEnd for SplitDevice {
@@ -79,18 +78,37 @@ impl DeviceEnd for SplitDevice {
         self.doing = DeviceStep::Rest;
     }
 
-    #[inline(always)]
-    fn step<P: Port>(&mut self, port: &mut P) -> DeviceAct {
-        match self.advance(port) {
-            Told::Moved => DeviceAct::Moved,
-            Told::Taken(number) => DeviceAct::Taken(number, chain_of(self.pieces.as_slice())),
-            Told::Given(number) => DeviceAct::Given(number),
-            Told::Nothing => DeviceAct::Nothing,
-            Told::Armed => DeviceAct::Armed,
-            Told::Awake => DeviceAct::Awake,
-            Told::Asleep => DeviceAct::Asleep,
-            Told::Rested => DeviceAct::Rested,
+    #[inline(never)]
+    fn advance<P: Port>(&mut self, port: &mut P) -> Told {
+        match self.doing {
+            DeviceStep::Idle | DeviceStep::Resting => unreachable!(),
+            DeviceStep::Look => self.look(port),
+            DeviceStep::Entry(word) => self.entry(port, word),
+            DeviceStep::Address(word, head, place) => self.address(port, word, head, place),
+            DeviceStep::Second(word, head, place) => self.second(port, word, head, place),
+            DeviceStep::TableAddress(word, head, count) => {
+                self.table_address(port, word, head, count)
+            }
+            DeviceStep::TableSecond(word, head, count) => {
+                self.table_second(port, word, head, count)
+            }
+            DeviceStep::StoreId(number, head, len) => self.store_id(port, number, head, len),
+            DeviceStep::StoreLen(number, head, len) => self.store_len(port, number, head, len),
+            DeviceStep::StoreIndex(number, head, len) => self.store_index(port, number, head, len),
+            DeviceStep::Check(old, new) => self.check(port, old, new),
+            DeviceStep::Ring(old, new) => self.ring(port, old, new),
+            _ => self.doze(port),
         }
+    }
+
+    #[inline]
+    fn chain(&self) -> Chain {
+        let mut copy = ArrayVec::new();
+        match copy.try_extend_from_slice(self.pieces.as_slice()) {
+            Ok(()) => {}
+            Err(_) => unreachable!(),
+        }
+        Chain::of(copy)
     }
 
     fn base(&self) -> Base {

@@ -5,12 +5,13 @@ ghost use Rattle.vd_ring.specs.declared.device.DeviceView.{DeviceView};
 ghost use Rattle.vd_split_ring.specs.SplitDevice.{device_side};
 ghost use Rattle.vd_layout.specs.Device.{IsDeviceStep};
 ghost use Rattle.vd_split.specs.DeviceEnd.{DeviceStands, split_device};
-ghost use Rattle.vd_split.specs.Telling.{act_of};
+ghost use Rattle.vd_layout.specs.Telling.{act_of};
 
 use super::running::clear;
-use super::{DeviceStep, SplitDevice, Told};
+use super::{DeviceStep, SplitDevice};
 use crate::descriptors::{next_place, used_area};
 use vd_bits::{set_lane16, set_lane32};
+use vd_layout::Told;
 use vd_words::{Access, Op, Port};
 
 impl SplitDevice {

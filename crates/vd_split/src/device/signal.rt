@@ -5,11 +5,12 @@ ghost use Rattle.vd_ring.specs.declared.device.DeviceView.{DeviceView};
 ghost use Rattle.vd_split_ring.specs.SplitDevice.{device_side};
 ghost use Rattle.vd_layout.specs.Device.{IsDeviceStep};
 ghost use Rattle.vd_split.specs.DeviceEnd.{DeviceStands, split_device};
-ghost use Rattle.vd_split.specs.Telling.{act_of};
+ghost use Rattle.vd_layout.specs.Telling.{act_of};
 
-use super::{DeviceStep, SplitDevice, Told};
+use super::{DeviceStep, SplitDevice};
 use crate::driver::{own_lane, wanted};
 use crate::lanes::lane_at;
+use vd_layout::Told;
 use vd_words::{Access, Op, Port};
 
 impl SplitDevice {

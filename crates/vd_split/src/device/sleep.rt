@@ -6,13 +6,14 @@ ghost use Rattle.vd_ring.specs.declared.device.DeviceView.{DeviceView};
 ghost use Rattle.vd_split_ring.specs.SplitDevice.{device_side};
 ghost use Rattle.vd_layout.specs.Device.{IsDeviceStep};
 ghost use Rattle.vd_split.specs.DeviceEnd.{DeviceStands, Wakes, split_device};
-ghost use Rattle.vd_split.specs.Telling.{act_of};
+ghost use Rattle.vd_layout.specs.Telling.{act_of};
 ghost use Rattle.vd_split.specs.Parts.{event_offset, event_lane};
 
-use super::{DeviceStep, SplitDevice, Told};
+use super::{DeviceStep, SplitDevice};
 use crate::descriptors::{shows_count, used_area};
 use crate::driver::own_value;
 use vd_bits::set_lane16;
+use vd_layout::Told;
 use vd_words::{Access, Op, Port};
 
 /// How far behind the device area's first word the own event word stands.

@@ -7,11 +7,12 @@ ghost use Rattle.vd_split_ring.specs.SplitDevice.{device_side};
 ghost use Rattle.vd_split_ring.specs.SplitWords.{piece_of, goes_on, next_of, names_table};
 ghost use Rattle.vd_layout.specs.Device.{IsDeviceStep};
 ghost use Rattle.vd_split.specs.DeviceEnd.{DeviceStands, split_device};
-ghost use Rattle.vd_split.specs.Telling.{act_of};
+ghost use Rattle.vd_layout.specs.Telling.{act_of};
 
-use super::{DeviceStep, SplitDevice, Told};
+use super::{DeviceStep, SplitDevice};
 use crate::descriptors::{next_place, shows_count};
 use crate::lanes::lane_at;
+use vd_layout::Told;
 use vd_model::Piece;
 use vd_words::{Access, Op, Port};
 

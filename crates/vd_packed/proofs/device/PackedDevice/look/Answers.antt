@@ -2,7 +2,7 @@ use Rattle.std.proofs.Common.{ℕ, ◌+◌, ◌*◌}
 use Rattle.vd_words.specs.declared.access.Access.TheVariants.{Load}
 use Rattle.vd_words.specs.declared.access.Op.TheVariants as op
 use Rattle.vd_packed.specs.declared.device.PackedDevice.{PackedDevice}
-use Rattle.vd_packed.specs.Telling.{act_of}
+use Rattle.vd_layout.specs.Telling.{act_of}
 use Rattle.vd_packed.specs.laws.DeviceGiving.{made}
 use Rattle.vd_packed.specs.laws.DeviceLooking.{look_next, saw_goes}
 use Rattle.vd_packed.proofs.device.PackedDevice.look.Goals as goal

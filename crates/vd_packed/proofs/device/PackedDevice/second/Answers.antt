@@ -3,7 +3,7 @@ use Rattle.vd_words.specs.declared.access.Access.TheVariants.{Load}
 use Rattle.vd_words.specs.declared.access.Op.TheVariants as op
 use Rattle.vd_ring.specs.declared.act.DeviceAct.TheVariants as act
 use Rattle.vd_packed.specs.declared.device.PackedDevice.{PackedDevice}
-use Rattle.vd_packed.specs.Telling.{act_of}
+use Rattle.vd_layout.specs.Telling.{act_of}
 use Rattle.vd_packed.specs.laws.DeviceGiving.{Goes, made}
 use Rattle.vd_packed.specs.laws.DeviceTaking.{second_goes}
 use Rattle.vd_packed.proofs.device.PackedDevice.second.Goals as goal

@@ -7,7 +7,7 @@ use Rattle.vd_ring.specs.declared.device.DeviceView.{DeviceView}
 use Rattle.vd_packed_ring.specs.PackedDevice.{device_side, DeviceNext}
 use Rattle.vd_packed.specs.declared.device.DeviceStep.TheVariants as step
 use Rattle.vd_packed.specs.declared.device.PackedDevice.{PackedDevice}
-use Rattle.vd_packed.specs.Telling.{act_of}
+use Rattle.vd_layout.specs.Telling.{act_of}
 use Rattle.vd_packed.specs.DeviceEnd.{DeviceStands}
 use Rattle.vd_packed.specs.laws.DeviceGiving.{Goes, made}
 use Rattle.vd_packed.specs.laws.DeviceTabling.{addr_place, second_at, Tabled, tabled_of, table_second_goes, tabled_chain, may_take_tabled}
