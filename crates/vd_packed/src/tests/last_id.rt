@@ -1,10 +1,10 @@
 //! Takes over words in which only the last descriptor of a chain has its id, as other drivers write them (VIRTIO 1.2, 2.8).
-use crate::device::running::find_head;
 use crate::device::PackedDevice;
-use vd_layout::Told;
+use crate::device::running::find_head;
 use crate::words::used_word;
 use std::test::*;
 use vd_bits::lane16;
+use vd_layout::Told;
 use vd_model::Features;
 
 const PLAIN: Features = Features {
