@@ -8,6 +8,7 @@ pub mod Pace
 pub mod Keep
 pub mod Going
 pub mod Held
+pub mod GuestsAlone
 pub mod Begin
 pub mod Benches
 pub mod Returns

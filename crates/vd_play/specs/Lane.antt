@@ -10,7 +10,7 @@ use Rattle.vd_ring.specs.declared.device.DeviceView.{DeviceView}
 use Rattle.vd_ring.specs.declared.frame.Used.{Used}
 use Rattle.vd_ring.specs.Frames.{Fits}
 use Rattle.vd_ring.specs.History.{takes, gives}
-use Rattle.vd_layout.specs.Device.{DeviceModel, IsStill}
+use Rattle.vd_layout.specs.Device.{IsStill}
 use Rattle.vd_layout.specs.Layout.{LayoutModel, CanMake}
 use Rattle.vd_bus.specs.declared.device.Attached.{Attached}
 use Rattle.vd_bus.specs.Device.{IsBegun, chains_of, lens_of}

@@ -19,6 +19,7 @@ pub mod AllWork
 pub mod Prepared
 pub mod Rounds
 pub mod Alone
+pub mod GuestsAlone
 pub mod Tree
 pub mod Places
 pub mod Setup

@@ -1,24 +1,22 @@
 -- What holds of a lane in an epoch of the mode shadow: a relay stands between the guest's ring and the epoch's shadow ring.
-use Rattle.std.specs.Prelude.{◌≡◌, ◌⊎◌, ℕ, ◌+◌, ◌*◌, ◌<◌, ◌≤◌, true, false, List, [], ◌∷◌, ◌++◌, length, map, take, Some, None}
+use Rattle.std.specs.Prelude.{◌≡◌, ℕ, ◌+◌, ◌*◌, ◌<◌, List, [], ◌∷◌, ◌++◌, length, map, take, Some, None}
 use Rattle.vd_model.specs.declared.base.Mode.TheVariants.{Shadow}
 use Rattle.vd_model.specs.declared.chain.Piece.{Piece}
 use Rattle.vd_words.specs.Plain.{RingWords}
 use Rattle.vd_ring.specs.declared.driver.DriverView.{DriverView}
 use Rattle.vd_ring.specs.declared.device.DeviceView.{DeviceView}
-use Rattle.vd_ring.specs.History.{takes, gives}
 use Rattle.vd_bus.specs.declared.device.Attached.{Attached}
 use Rattle.vd_bus.specs.Device.{lens_of}
 use Rattle.vd_bus.specs.Orders.{IsData}
 use Rattle.vd_relay.specs.declared.counts.Counts.{Counts}
 use Rattle.vd_relay.specs.declared.state.State.{State}
 use Rattle.vd_relay.specs.Moving.{Holds}
-use Rattle.vd_relay.specs.Stages.{is_rested}
 use Rattle.vd_relay.specs.Tie.{Start, since}
 use Rattle.vd_switch.specs.ShadowingLanes as switch
 use Rattle.vd_machine.specs.File.{Plan}
 use Rattle.vd_play.specs.Before.{events_before, begun_at, resets}
-use Rattle.vd_play.specs.Epochs.{Epoch, mode_at}
-use Rattle.vd_play.specs.Journal.{queue_epochs, tree_map, shadow_map, shadow_frame}
+use Rattle.vd_play.specs.Epochs.{mode_at}
+use Rattle.vd_play.specs.Journal.{queue_epochs, tree_map, shadow_frame}
 use Rattle.vd_play.specs.Lane.{IsDriven, Account, IsReserved, HasRoom}
 use Rattle.vd_play.specs.Orders.{shadow_attach}
 use Rattle.vd_play.specs.Setting.{Setting}

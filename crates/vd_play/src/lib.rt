@@ -7,6 +7,7 @@ mod calls;
 mod control_ring;
 mod epoch;
 mod floor;
+mod guests_alone;
 mod lane;
 mod messages;
 mod order;
