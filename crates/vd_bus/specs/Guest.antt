@@ -78,6 +78,9 @@ pub record IsLawfulGuestParty {D X : Type 0} (d : DriverModel D) (m : GuestParty
       → m.is_done x ↔ HasSentAll s v (m.returned x)
   pub sleeps : (x : X) (v : DriverView) (s : Script) (at : ℕ) → m.holds x v → m.script x ≡ Some s → HasCommands s → v.armed ≡ Some at
       → CannotSend d.words s v.frame v.done
+  -- and each entry that it collected is in the list
+  pub listed : (x : X) (v : DriverView) (s : Script) (at : ℕ) → m.holds x v → m.script x ≡ Some s → HasCommands s → v.armed ≡ Some at
+      → length (m.returned x) ≡ length (Rattle.vd_ring.specs.History.collects v.done)
   pub pace : (x : X) → KeepsPace (m.accesses x) (m.heard x) (m.offered x + length (m.returned x) + m.heard x + 1)
 
 -- it holds no end

@@ -4,7 +4,7 @@ ghost use Rattle.std.specs.Prelude.{◌≡◌, Option, None, true, false};
 ghost use Rattle.vd_models.specs.Unused.{IsUnloaded};
 ghost use Rattle.vd_models.specs.GuestStages.{first_stage};
 ghost use Rattle.vd_models.specs.Driving.{GuestHolds, IsLoaded, IsFresh, Paces, loaded_of, script_of, offered_of, returned_of, is_done_of};
-ghost use Rattle.vd_models.specs.laws.GuestLaws.{unloaded_law, held_law, offered_law, offers_law, returned_law, done_law, finishes_law, armed_law, sent_law, acked_law, sent_all_law, sleeps_law, pace_law};
+ghost use Rattle.vd_models.specs.laws.GuestLaws.{unloaded_law, held_law, offered_law, offers_law, returned_law, done_law, finishes_law, armed_law, sent_law, acked_law, sent_all_law, sleeps_law, listed_law, pace_law};
 
 use crate::counts::{Counts, move_of};
 use crate::cursor::{Cursor, settle};
@@ -97,6 +97,7 @@ impl<L: Layout> Guest<L> for ModelGuest<L> {
       acked = λ x v s h is d. acked_law L.Driver.driver L.layout x.phase x.counts v s h is d;
       sent_all = λ x v s h is d. sent_all_law L.Driver.driver L.layout L.Driver.driver_lawful x.phase x.counts v s h is d;
       sleeps = λ x v s t h is d a. sleeps_law L.Driver.driver L.layout x.phase x.counts v s t h is d a;
+      listed = λ x v s t h is d a. listed_law L.Driver.driver L.layout x.phase x.counts v s t h is d a;
       pace = λ x. pace_law (loaded_of x.phase) x.counts x.paced;
     } };
 

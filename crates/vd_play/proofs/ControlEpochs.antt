@@ -127,7 +127,7 @@ replayed_few plan ep =
     let s : Settings = settings_at plan ep.number in
     few_if ep.renewed (map spelled (replay s)) (omega (arith, length-map (replay s) spelled, replay_few s))
 
-own_length : (plan : Plan) (k : ℕ) (b : IsBounded plan k) → length (own_commands plan b.epoch) + sent_at plan k ≡ sent_at plan (k + 1)
+pub own_length : (plan : Plan) (k : ℕ) (b : IsBounded plan k) → length (own_commands plan b.epoch) + sent_at plan k ≡ sent_at plan (k + 1)
 own_length plan k b =
     let cs : List (List ℕ) = control_commands plan in
     let d : ℕ = b.epoch.end - b.epoch.first in
@@ -156,22 +156,29 @@ journalled_more plan k b before =
       own_length plan k b,
     )
 
-pub journalled_is : (plan : Plan) → IsSwitched plan → (k : ℕ) → k ≤ length (control_epochs plan) → IsJournalledAt plan k
-journalled_is plan s zero low = refl
-journalled_is plan s (suc k) low =
-    let b : IsBounded plan k = bounded (length (control_commands plan)) (control_epochs plan) k (control_chained plan s)
-    (omega (arith, low)) in
-    subst (IsJournalledAt plan) (add-one k) (journalled_more plan k b (journalled_is plan s k (omega (arith, low))))
+pub journalled_chained : (plan : Plan) → AreChained (length (control_commands plan)) (control_epochs plan) → (k : ℕ)
+    → k ≤ length (control_epochs plan) → IsJournalledAt plan k
+journalled_chained plan c zero low = refl
+journalled_chained plan c (suc k) low =
+    let b : IsBounded plan k = bounded (length (control_commands plan)) (control_epochs plan) k c (omega (arith, low)) in
+    subst (IsJournalledAt plan) (add-one k) (journalled_more plan k b (journalled_chained plan c k (omega (arith, low))))
 
 -- in all the device begins the guest's commands and those of each replay
-pub journal_many : (plan : Plan) → IsSwitched plan → length (journal_commands plan) ≡ command_work plan
-journal_many plan s =
+pub journal_chained : (plan : Plan) → AreChained (length (control_commands plan)) (control_epochs plan)
+    → length (journal_commands plan) ≡ command_work plan
+journal_chained plan c =
     let es : List Epoch = control_epochs plan in
     let every : take (length es) es ≡ es = take_all (length es) es (omega arith) in
     omega (
       arith,
-      journalled_is plan s (length es) (omega arith),
+      journalled_chained plan c (length es) (omega arith),
       ap (λ zs. length (flat_map (epoch_commands plan) zs)) every,
       ap (λ zs. length (flat_map (replayed_commands plan) zs)) every,
-      (control_chained plan s).whole,
+      c.whole,
     )
+
+pub journalled_is : (plan : Plan) → IsSwitched plan → (k : ℕ) → k ≤ length (control_epochs plan) → IsJournalledAt plan k
+journalled_is plan s k low = journalled_chained plan (control_chained plan s) k low
+
+pub journal_many : (plan : Plan) → IsSwitched plan → length (journal_commands plan) ≡ command_work plan
+journal_many plan s = journal_chained plan (control_chained plan s)

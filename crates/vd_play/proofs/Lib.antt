@@ -36,6 +36,9 @@ pub mod Rings
 pub mod Chained
 pub mod ControlSettings
 pub mod ControlEpochs
+pub mod ControlQueues
+pub mod ControlKits
+pub mod CommandCounts
 pub mod NoCommands
 pub mod ControlRooms
 pub mod Laying
@@ -56,3 +59,15 @@ pub mod ShadowStops
 pub mod ShadowEnds
 pub mod ShadowLanes
 pub mod ShadowTurns
+pub mod CommandKeep
+pub mod CommandBounds
+pub mod CommandPace
+pub mod CommandPaces
+pub mod CommandReplays
+pub mod CommandQuiet
+pub mod CommandGuests
+pub mod CommandEvents
+pub mod CommandDevices
+pub mod CommandEnds
+pub mod CommandLanes
+pub mod CommandTurns

@@ -26,7 +26,7 @@ use Rattle.vd_play.proofs.Bounds.{at_index}
 use Rattle.vd_play.proofs.Lists.{length_le}
 
 -- a ring on which no chain is open has room for each chain that fits it
-empty_room : (f : Frame) (o : List DriverDone) (c : List Piece) (ks : List ℕ) → open_at o ≡ ks → length ks ≡ 0
+pub empty_room : (f : Frame) (o : List DriverDone) (c : List Piece) (ks : List ℕ) → open_at o ≡ ks → length ks ≡ 0
     → needs f.features c ≤ f.size → HasRoom f o c
 empty_room f o c [] is none fits = subst (λ (js : List ℕ). sum_by (λ k. needs f.features (chain o k)) js + needs f.features c ≤ f.size)
     (sym is) (omega arith)

@@ -35,7 +35,7 @@ use Rattle.vd_play.proofs.ShadowCut.{given_shadowing, shadow_within}
 use Rattle.vd_play.proofs.ShadowPace.{bounds_of}
 use Rattle.vd_play.proofs.ShadowRounds.{turned, winding_works}
 
-taken_first : (b : Bool) (x y : ℕ) → b ≡ true → (if b then x else y) ≡ x
+pub taken_first : (b : Bool) (x y : ℕ) → b ≡ true → (if b then x else y) ≡ x
 taken_first true x y is = Rattle.std.proofs.Common.refl
 taken_first false x y is = absurd (false≢true is)
 

@@ -33,11 +33,11 @@ use Rattle.vd_play.proofs.Pace.{guest_paced}
 use Rattle.vd_play.proofs.Quiet.{offers_le}
 use Rattle.vd_play.proofs.Rings.{shadows_before_fewer, shadows_few}
 
-one_of : (b : Bool) (x y m : ℕ) → x ≤ m → y ≤ m → (if b then x else y) ≤ m
+pub one_of : (b : Bool) (x y m : ℕ) → x ≤ m → y ≤ m → (if b then x else y) ≤ m
 one_of true x y m low high = low
 one_of false x y m low high = high
 
-both_grow : (b : Bool) (x y x' y' : ℕ) → x ≤ x' → y ≤ y' → (if b then x else y) ≤ (if b then x' else y')
+pub both_grow : (b : Bool) (x y x' y' : ℕ) → x ≤ x' → y ≤ y' → (if b then x else y) ≤ (if b then x' else y')
 both_grow true x y x' y' first second = first
 both_grow false x y x' y' first second = second
 

@@ -39,7 +39,7 @@ use Rattle.vd_play.proofs.Rooms.{room_noted, room_same}
 use Rattle.vd_play.proofs.ShadowChains.{shadow_events, begun_chains}
 use Rattle.vd_play.proofs.ShadowRounds.{all_turned}
 
-chosen : (b : Bool) (x y : ℕ) → b ≡ false → (if b then x else y) ≡ y
+pub chosen : (b : Bool) (x y : ℕ) → b ≡ false → (if b then x else y) ≡ y
 chosen false x y is = Rattle.std.proofs.Common.refl
 chosen true x y is = absurd (false≢true (sym is))
 

@@ -16,6 +16,10 @@ pub mod Progress
 pub mod Played
 pub mod CommandsPlayed
 pub mod AllWork
+pub mod CommandLane
+pub mod CommandShadowed
+pub mod CommandProgress
+pub mod CommandRounds
 pub mod Prepared
 pub mod Rounds
 pub mod Alone

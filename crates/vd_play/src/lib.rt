@@ -4,6 +4,10 @@
 mod alone;
 mod bench;
 mod calls;
+mod command_count;
+mod command_kits;
+mod command_lane;
+mod command_rounds;
 mod control_ring;
 mod epoch;
 mod floor;
@@ -22,6 +26,7 @@ mod shadows;
 mod tree;
 
 pub use bench::Bench;
+pub use command_lane::CommandLane;
 pub use epoch::PlayFault;
 pub use floor::Floor;
 pub use playing::play_machine;

@@ -85,6 +85,7 @@ module _ {P Q E D : Type 0} (port : PortModel P) (other : PortModel Q) (l : Layo
     look = t.0.look;
     free = t.0.free;
     left_out = t.0.left_out;
+    waits = λ by. absurd (cc by);
     uncounted = (
       (λ y. elim (t.0.uncounted.0 y) [ inl a ↦ inl a | inr a ↦ inr (a.0, a.1, λ by. a.2) ]),
       λ y. t.0.uncounted.1 (elim y [ inl a ↦ inl a | inr a ↦ inr (a.0, a.1, a.2 refl) ]),

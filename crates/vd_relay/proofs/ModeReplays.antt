@@ -1,5 +1,5 @@
 -- A step of a relay of a control queue that replays.
-use Rattle.std.proofs.Common.{◌≡◌, ◌≤◌, Bool, false, None, replicate, refl, sym, ◌∙◌, ap, subst, arith, inl, inr}
+use Rattle.std.proofs.Common.{◌≡◌, ◌<◌, ◌≤◌, Bool, false, None, length, replicate, refl, sym, ◌∙◌, ap, subst, arith, inl, inr}
 use Rattle.vd_words.specs.Model.{PortModel}
 use Rattle.vd_ring.specs.declared.frame.Frame.{Frame}
 use Rattle.vd_ring.specs.declared.driver.DriverView.{DriverView}
@@ -10,6 +10,8 @@ use Rattle.vd_layout.specs.Device.{DeviceModel}
 use Rattle.vd_layout.specs.Layout.{LayoutModel}
 use Rattle.vd_layout.specs.declared.moves.Move.{Move}
 use Rattle.vd_control.specs.declared.settings.Settings.{Settings}
+use Rattle.vd_control.specs.Settings.{replay}
+use Rattle.vd_ring.specs.History.{collects}
 use Rattle.vd_relay.specs.declared.carry.Carry.TheVariants as carry
 use Rattle.vd_relay.specs.declared.control.Control.{Control}
 use Rattle.vd_relay.specs.declared.control.Mode.TheVariants.{Replaying}
@@ -110,6 +112,7 @@ module _ {Q E D : Type 0} (port : PortModel Q) (l : LayoutModel) (e : DeviceMode
             | inr a ↦ inr (m.again.1 (a.0, sym h.winding ∙ a.1))
           ]),
         );
+        waits = λ by i on. subst (λ (y : Settings). length (collects v.done) < length (replay y)) holds.again (m.waits (m.again.1 (i, sym h.winding ∙ on)));
         counts = record {
           accesses = n.accesses ∙ ap (λ i. raised i c.accesses) (left_counts t);
           handled = n.handled ∙ ap (λ i. raised i c.handled) m.handled;

@@ -140,6 +140,7 @@ module _ {Q D E : Type 0} (port : PortModel Q) (l : LayoutModel) (d : DriverMode
       collected,
     );
     slept = ((λ z. absurd (cc z)), λ z. absurd (cc ((lay.driver_end.looks.asleep v op.Control a got next).0 z).0));
+    waits = λ z. absurd (cc z);
     again = (
       (λ z. absurd (cc z)),
       λ z. absurd (cc ((lay.driver_end.looks.nothing v op.Control a got next).0 z.0).0),

@@ -56,7 +56,7 @@ module _ {Q D : Type 0} (port : PortModel Q) (l : LayoutModel) (d : DriverModel 
         (settled port l d ldr p q r x y v b h less act.Armed s Hearing v.done s.says.2 (at, h.carried, h.acked) s.says.1 tt (armed_at s arms)
         (λ z. absurd (cc z)) (λ z. off) (λ z. cc z)) (λ z. absurd (cc z)) refl
         (same_grown v.done v'.done s.says.2) (worked_only act.Armed (λ z. cc z)) (once port l d ldr p q r x y v b h less act.Armed Worked
-        (λ z. cc z) (λ z. cc z)) (not_woken s.op act.Armed (λ z. cc z))
+        (λ z. cc z) (λ z. cc z)) (λ z. absurd (cc z)) (not_woken s.op act.Armed (λ z. cc z))
         (omega (
           arith,
           s.left,
@@ -81,7 +81,7 @@ module _ {Q D : Type 0} (port : PortModel Q) (l : LayoutModel) (d : DriverModel 
         (settled port l d ldr p q r x y v b h less act.Armed s Disarming v.done s.says.2 (at, h.carried, h.acked) s.says.1 tt
         (armed_at s arms) (λ z. on) (λ z. absurd (cc z)) (λ z. cc z)) (λ z. absurd (cc z)) refl
         (same_grown v.done v'.done s.says.2) (worked_only act.Armed (λ z. cc z))
-        (once port l d ldr p q r x y v b h less act.Armed Worked (λ z. cc z) (λ z. cc z)) (not_woken s.op act.Armed (λ z. cc z))
+        (once port l d ldr p q r x y v b h less act.Armed Worked (λ z. cc z) (λ z. cc z)) (λ z. absurd (cc z)) (not_woken s.op act.Armed (λ z. cc z))
         (omega (
           arith,
           s.left,
@@ -122,7 +122,7 @@ module _ {Q D : Type 0} (port : PortModel Q) (l : LayoutModel) (d : DriverModel 
         (settled port l d ldr p q r x y v b h less act.Asleep s Hearing v.done s.says.2 (at, h.carried, h.acked) s.says.1 tt
         (subst (λ (u : DriverView). IsSome u.armed) (sym same) some) (λ z. absurd (cc z)) (λ z. off) (λ z. cc z)) (λ z. (off, refl, s.says.1)) refl
         (same_grown v.done v'.done s.says.2) ((λ z. refl), λ z. refl)
-        (once port l d ldr p q r x y v b h less act.Asleep Slept (λ z. cc z) (λ z. cc z)) (not_woken s.op act.Asleep (λ z. cc z))
+        (once port l d ldr p q r x y v b h less act.Asleep Slept (λ z. cc z) (λ z. cc z)) (λ z. absurd (cc z)) (not_woken s.op act.Asleep (λ z. cc z))
         (omega (
           arith,
           owes_idle port l d ldr p q r x y v b h less Hearing v' refl s.says.1,
@@ -145,7 +145,7 @@ module _ {Q D : Type 0} (port : PortModel Q) (l : LayoutModel) (d : DriverModel 
         (ldr.stays.awake v s.op s.access s.got s.was_next (sym s.is_answer)) (λ z. absurd (cc z)) (λ z. absurd (cc z)) (λ z. cc z))
         (λ z. absurd (ns z)) none
         (omega (arith, same_grown v.done v'.done s.says.2, none)) ((λ z. absurd (ns z)), λ z. absurd (cc z))
-        (once port l d ldr p q r x y v b h less act.Awake t (λ z. cc z) na) wakes
+        (once port l d ldr p q r x y v b h less act.Awake t (λ z. cc z) na) (λ z. absurd (na z)) wakes
         (omega (arith, paid, none, owes_idle port l d ldr p q r x y v b h less Collecting v' refl s.says.1))
 
     shown_at : (s : IsDriverStep port d p q v y b act.Awake) → s.op ≡ op.Arm → ShadowShown DriverOp.arm v.doing v.shown (d.left y)

@@ -93,11 +93,11 @@ module _ {Q D : Type 0} (port : PortModel Q) (l : LayoutModel) (d : DriverModel 
         → length (offers (d.side.after v s.op s.access s.got).done) + length (collects (d.side.after v s.op s.access s.got).done)
         ≡ length (offers v.done) + length (collects v.done) + handled t
         → (t ≡ Slept) ↔ (answer ≡ act.Asleep) → (t ≡ Again) ↔ ((answer ≡ act.Nothing) × (r.winding ≡ true))
-        → woke t ≡ driver_woken s.op answer
+        → (t ≡ Again → length (collects v.done) < length (replay r.settings)) → woke t ≡ driver_woken s.op answer
         → replay_owes d r'.winding r'.stage b (d.side.after v s.op s.access s.got) + counted t ≤ replay_owes d r.winding r.stage y v + 64 *
         (handled t + woke t)
         → ReplayTurn port l d p q r r' x b v t
-    made answer s r' t holds awake counts grown sleeps agains wakes paid = record {
+    made answer s r' t holds awake counts grown sleeps agains waits wakes paid = record {
       op = s.op;
       access = s.access;
       got = s.got;
@@ -110,6 +110,7 @@ module _ {Q D : Type 0} (port : PortModel Q) (l : LayoutModel) (d : DriverModel 
       grown = grown;
       slept = subst (λ z. (t ≡ Slept) ↔ (z ≡ act.Asleep)) s.is_answer sleeps;
       again = subst (λ z. (t ≡ Again) ↔ ((z ≡ act.Nothing) × (r.winding ≡ true))) s.is_answer agains;
+      waits = waits;
       woke = wakes ∙ ap (driver_woken s.op) s.is_answer;
       paid = omega (arith, paid, less);
     }
@@ -212,7 +213,7 @@ module _ {Q D : Type 0} (port : PortModel Q) (l : LayoutModel) (d : DriverModel 
           leaves = λ on at idle. hears_still s at idle;
         }) (λ z. absurd (cc z)) refl (same_grown v.done v'.done done) (worked_only act.Moved (λ z. cc z))
         (once act.Moved Worked (λ z. cc z) (λ z. cc z))
-        (not_woken s.op act.Moved (λ z. cc z))
+        (λ z. absurd (cc z)) (not_woken s.op act.Moved (λ z. cc z))
         (omega (arith, g.paid, owes_at d r.winding r.stage b v' off, owes_at d r.winding r.stage y v off))
 
     -- ---- an offer
@@ -277,7 +278,7 @@ module _ {Q D : Type 0} (port : PortModel Q) (l : LayoutModel) (d : DriverModel 
           leaves = λ on z. absurd (cc z);
         }) (λ z. absurd (cc z)) refl (offer_grown c v.done v'.done s.says.4) (handled_only (act.Offered k) (λ z. cc z))
         (once (act.Offered k) Handled (λ z. cc z)
-        (λ z. cc z)) (not_woken s.op (act.Offered k) (λ z. cc z))
+        (λ z. cc z)) (λ z. absurd (cc z)) (not_woken s.op (act.Offered k) (λ z. cc z))
         (omega (
           arith,
           s.left,
@@ -319,7 +320,7 @@ module _ {Q D : Type 0} (port : PortModel Q) (l : LayoutModel) (d : DriverModel 
         (λ z. absurd (cc z)) refl
         (collect_grown k n v.done v'.done one.done) (handled_only (act.Collected k n m) (λ z. cc z))
         (once (act.Collected k n m) Handled (λ z. cc z) (λ z. cc z))
-        (not_woken s.op (act.Collected k n m) (λ z. cc z)) (omega arith)
+        (λ z. absurd (cc z)) (not_woken s.op (act.Collected k n m) (λ z. cc z)) (omega arith)
 
     -- ---- a collect that shows nothing
 
@@ -351,7 +352,7 @@ module _ {Q D : Type 0} (port : PortModel Q) (l : LayoutModel) (d : DriverModel 
         (ldr.stays_unarmed v s.op s.access s.got (λ z. cc (of, z)) unarmed) (λ z. absurd (cc z)) (λ z. absurd (cc z)) (λ z. cc z))
         (λ z. absurd (cc z)) refl
         (same_grown v.done v'.done s.says.2) (worked_only act.Nothing (λ z. cc z))
-        ((λ z. absurd (cc z)), λ z. absurd (cc (off, z.1))) (not_woken s.op act.Nothing (λ z. cc z))
+        ((λ z. absurd (cc z)), λ z. absurd (cc (off, z.1))) (λ z. absurd (cc z)) (not_woken s.op act.Nothing (λ z. cc z))
         (omega (
           arith,
           owes_idle Arming v' refl s.says.1,
@@ -375,7 +376,7 @@ module _ {Q D : Type 0} (port : PortModel Q) (l : LayoutModel) (d : DriverModel 
         (ldr.stays_unarmed v s.op s.access s.got (λ z. cc (of, z)) unarmed) (λ z. absurd (cc z)) (λ z. absurd (cc z)) (λ z. cc z))
         (λ z. absurd (cc z)) refl
         (same_grown v.done v'.done s.says.2) ((λ z. absurd (cc z)), λ z. absurd (cc z)) ((λ z. (refl, on)), λ z. refl)
-        (not_woken s.op act.Nothing (λ z. cc z))
+        (λ z. omega (arith, at.0, at.1.collected)) (not_woken s.op act.Nothing (λ z. cc z))
         (omega (
           arith,
           owes_idle Collecting v' refl s.says.1,

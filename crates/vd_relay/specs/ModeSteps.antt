@@ -1,5 +1,5 @@
 -- One step of a relay of a control queue.
-use Rattle.std.specs.Prelude.{◌≡◌, ◌⊎◌, ◌↔◌, ℕ, ◌+◌, ◌≤◌, Bool, true, false, IsTrue, length, if◌then◌else◌}
+use Rattle.std.specs.Prelude.{◌<◌, ◌≡◌, ◌⊎◌, ◌↔◌, ℕ, ◌+◌, ◌≤◌, Bool, true, false, IsTrue, length, if◌then◌else◌}
 use Rattle.vd_words.specs.declared.access.Access.{Access}
 use Rattle.vd_words.specs.declared.access.Op.{Op}
 use Rattle.vd_words.specs.Model.{PortModel}
@@ -92,6 +92,9 @@ pub record OnShadowControl {P E D : Type 0} (port : PortModel P) (l : LayoutMode
   pub left_out : Bool
   pub uncounted : IsTrue left_out ↔ ((said ≡ move.Looked)
       ⊎ ((d.act v op access got ≡ driver_act.Nothing) × (r.winding ≡ true) × (by ≡ Carrying → IsFinished r w v → ⊥)))
+  -- in a wind-up a replay that finds nothing has a command on the shadow ring
+  pub waits : by ≡ Replaying → d.act v op access got ≡ driver_act.Nothing → r.winding ≡ true
+      → length (collects v.done) < length (replay (again z))
   pub counts : AreCounted c c' (unless left_out) (shadow_handled (d.act v op access got)) (driver_woken op (d.act v op access got))
 
 -- exactly one access, on one of the two ports. A replay makes none on the guest's, and a relay that leaves none on the shadow's

@@ -247,6 +247,8 @@ pub record ReplayTurn {Q D : Type 0} (port : PortModel Q) (l : LayoutModel) (d :
   pub awake : t ≡ Slept → (r.winding ≡ false) × (r'.stage ≡ Hearing) × (d.begun x' ≡ DriverOp.idle)
   -- a collect of the wind-up that shows nothing is made again, and isn't counted
   pub again : (t ≡ Again) ↔ ((d.act v op access got ≡ act.Nothing) × (r.winding ≡ true))
+  -- a command is on the shadow ring then
+  pub waits : t ≡ Again → length (collects v.done) < length (replay r.settings)
   pub woke : Rattle.vd_relay.specs.Pace.woke t ≡ driver_woken op (d.act v op access got)
   pub paid : replay_owes d r'.winding r'.stage x' (d.side.after v op access got) + counted t
       ≤ replay_owes d r.winding r.stage x v + 64 * (Rattle.vd_relay.specs.Pace.handled t + Rattle.vd_relay.specs.Pace.woke t)

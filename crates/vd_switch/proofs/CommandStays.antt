@@ -1,5 +1,5 @@
 -- What one access of a relay leaves of its control lane: the commands replayed stay, whatever it does, and what was answered is so still.
-use Rattle.std.proofs.Common.{◌≡◌, ◌⊎◌, ℕ, ◌+◌, ◌<◌, ◌≤◌, Some, List, [], ◌∷◌, ◌++◌, length, drop, slice_get, slice_index_or, refl, sym, ◌∙◌, ap, subst, arith, inl, inr}
+use Rattle.std.proofs.Common.{◌≡◌, ◌⊎◌, ℕ, ◌+◌, ◌<◌, ◌≤◌, Some, List, [], ◌∷◌, ◌++◌, length, drop, slice_get, slice_index_or, sym, ◌∙◌, ap, subst, arith, inl, inr}
 use Rattle.std.specs.List.{Contains}
 use Rattle.std.proofs.lemmas.Bool.{cases_lt}
 use Rattle.std.proofs.lemmas.Option.{slice_get-get_or, slice_get_within}
@@ -23,7 +23,6 @@ use Rattle.vd_layout.specs.Device.{DeviceModel}
 use Rattle.vd_layout.specs.Layout.{LayoutModel, IsLawfulLayout}
 use Rattle.vd_bus.specs.Acts.{IsOneActMore}
 use Rattle.vd_bus.specs.DeviceCommands.{IsExecuted}
-use Rattle.vd_control.specs.declared.command.Command.{Command}
 use Rattle.vd_control.specs.declared.settings.Settings.{Settings}
 use Rattle.vd_relay.specs.Commanding.{carries}
 use Rattle.vd_relay.specs.Relay.{GivesOne}

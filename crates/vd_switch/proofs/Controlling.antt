@@ -1,5 +1,5 @@
 -- A control lane, whatever its relay does, is one whose relay replays or one whose relay carries.
-use Rattle.std.proofs.Common.{◌≡◌, ◌⊎◌, ℕ, ◌<◌, ◌≤◌, true, Some, List, length, take, slice_get, slice_index_or, refl, sym, ◌∙◌, ap, subst, arith, inl, inr}
+use Rattle.std.proofs.Common.{◌≡◌, ◌⊎◌, ℕ, ◌<◌, ◌≤◌, Some, List, length, take, slice_get, refl, sym, ◌∙◌, ap, subst, arith, inl, inr}
 use Rattle.std.specs.List.{All}
 use Rattle.std.proofs.lemmas.Option.{slice_get_within, slice_get-get_or, get_or_from_slice_get}
 use Rattle.std.proofs.lemmas.List.{length-take, length-take-le, get_or-take}
@@ -9,7 +9,6 @@ use Rattle.vd_ring.specs.declared.driver.DriverDone.{DriverDone}
 use Rattle.vd_ring.specs.declared.driver.DriverView.{DriverView}
 use Rattle.vd_ring.specs.declared.device.DeviceView.{DeviceView}
 use Rattle.vd_ring.specs.declared.frame.Frame.{Frame}
-use Rattle.vd_ring.specs.History.{offers}
 use Rattle.vd_layout.specs.Driver.{DriverModel}
 use Rattle.vd_layout.specs.Device.{DeviceModel}
 use Rattle.vd_layout.specs.Layout.{LayoutModel}
@@ -22,7 +21,7 @@ use Rattle.vd_relay.specs.declared.control.Mode.TheVariants.{Replaying, Carrying
 use Rattle.vd_relay.specs.declared.counts.Counts.{Counts}
 use Rattle.vd_relay.specs.declared.state.State.{State}
 use Rattle.vd_relay.specs.CommandSteps.{CommandHolds}
-use Rattle.vd_relay.specs.Modes.{IsUntouched, Does, again, carries_from}
+use Rattle.vd_relay.specs.Modes.{IsUntouched, Does, carries_from}
 use Rattle.vd_relay.specs.Replays as replays
 use Rattle.vd_switch.specs.CommandLanes.{CommandParts, IsReplaying, IsCommandLane, IsSpelled}
 use Rattle.vd_switch.specs.Controlling.{ControlStart, IsControlling, replay_list, start_after, start_of, replayed_by}

@@ -1,5 +1,5 @@
 -- One access of the shadow ring's device, or of the guest, keeps a control lane, whatever its relay does.
-use Rattle.std.proofs.Common.{◌≡◌, ◌⊎◌, ℕ, true, false, Some, List, sym, ◌∙◌, inl, inr}
+use Rattle.std.proofs.Common.{◌≡◌, ℕ, false, Some, List, sym, ◌∙◌, inl, inr}
 use Rattle.std.proofs.lemmas.Bool.{false≢true}
 use Rattle.vd_model.specs.declared.record.Begun.{Begun}
 use Rattle.vd_words.specs.Model.{PortModel, IsLawfulPort}
@@ -16,7 +16,7 @@ use Rattle.vd_control.specs.declared.settings.Settings.{Settings}
 use Rattle.vd_relay.specs.declared.control.Control.{Control}
 use Rattle.vd_relay.specs.declared.counts.Counts.{Counts}
 use Rattle.vd_relay.specs.declared.state.State.{State}
-use Rattle.vd_switch.specs.CommandLanes.{CommandStart, CommandParts, IsReplaying, IsCommandLane}
+use Rattle.vd_switch.specs.CommandLanes.{CommandParts}
 use Rattle.vd_switch.specs.CommandLaneSteps.{DeviceCommanded, GuestCommanded}
 use Rattle.vd_switch.specs.Controlling.{ControlStart, IsControlling, start_of}
 use Rattle.vd_switch.proofs.CommandServed.{replay_commanded, lane_commanded}

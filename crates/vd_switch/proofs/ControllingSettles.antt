@@ -1,16 +1,14 @@
 -- The settings that a relay of a control queue hands back are those at its takeover, changed by the guest's commands that it gave back.
-use Rattle.std.proofs.Common.{◌≡◌, ◌⊎◌, ℕ, zero, suc, ◌+◌, ◌-◌, ◌%◌, ◌<◌, ◌≤◌, Bool, true, false, cond, Option, Some, None, List, ◌∷◌, ◌++◌, length, map, take, drop, fold, refl, sym, ◌∙◌, ap, subst, arith, inl, inr}
+use Rattle.std.proofs.Common.{◌≡◌, ℕ, zero, suc, ◌+◌, ◌-◌, ◌%◌, ◌<◌, ◌≤◌, Bool, true, false, cond, Option, Some, None, List, ◌∷◌, ◌++◌, length, map, take, drop, fold, refl, sym, ◌∙◌, ap, subst, arith, inl}
 use Rattle.std.specs.Prelude.{◌==◌, filter}
 use Rattle.std.specs.List.{filter_map, range_with_len}
 use Rattle.std.specs.Option.{is_some}
-use Rattle.std.proofs.lemmas.Bool.{cases_lt}
 use Rattle.std.proofs.lemmas.List.{length-drop, get_or-drop, take_at, take-append-drop, length-take-le, drop-take}
 use Rattle.std.proofs.lemmas.List.Elements.{filter_map-append}
 use Rattle.std.proofs.lemmas.List.Sums.{fold-append}
 use Rattle.std.proofs.lemmas.List.FromFn.{get_or-map-range_with_len, length-map-range_with_len}
 use Rattle.vd_model.specs.declared.record.Begun.{Begun}
 use Rattle.vd_ring.specs.declared.driver.DriverView.{DriverView}
-use Rattle.vd_ring.specs.declared.device.DeviceDone.{DeviceDone}
 use Rattle.vd_ring.specs.declared.device.DeviceView.{DeviceView}
 use Rattle.vd_ring.specs.declared.frame.Used.{Used}
 use Rattle.vd_ring.specs.Control.{AcksAgree, ack_of}
@@ -23,12 +21,12 @@ use Rattle.vd_control.specs.declared.settings.Settings.{Settings}
 use Rattle.vd_control.specs.Commands.{command}
 use Rattle.vd_control.specs.Settings.{applied}
 use Rattle.vd_commands.specs.Loads.{ack_load}
-use Rattle.vd_commands.specs.Words.{ack_for, set_by}
+use Rattle.vd_commands.specs.Words.{set_by}
 use Rattle.vd_commands.proofs.Agreeing.{load_agrees}
 use Rattle.vd_table.specs.declared.Command as kept
 use Rattle.vd_relay.specs.declared.stage.Stage.TheVariants as stage
 use Rattle.vd_relay.specs.declared.state.State.{State}
-use Rattle.vd_relay.specs.Settling.{bytes_of, is_acknowledged, is_ok, chains_from}
+use Rattle.vd_relay.specs.Settling.{bytes_of, is_acknowledged}
 use Rattle.vd_relay.specs.Stages.{is_rested}
 use Rattle.vd_switch.specs.CommandLanes.{CommandStart, IsCommandLane, before, guest_commands}
 use Rattle.vd_switch.specs.CommandSettling.{AcksCount}

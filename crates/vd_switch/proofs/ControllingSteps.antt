@@ -1,5 +1,5 @@
 -- One access of the relay keeps a control lane, whatever the relay does.
-use Rattle.std.proofs.Common.{◌≡◌, ◌⊎◌, ℕ, ◌+◌, ◌≤◌, true, List, [], ◌++◌, length, map, take, drop, refl, sym, ◌∙◌, ap, subst, arith, inl, inr}
+use Rattle.std.proofs.Common.{◌≡◌, ◌⊎◌, ℕ, ◌≤◌, true, List, ◌++◌, length, map, take, drop, refl, sym, ◌∙◌, ap, subst, arith, inl, inr}
 use Rattle.std.proofs.lemmas.List.{length-map, drop_all}
 use Rattle.vd_model.specs.declared.record.Begun.{Begun}
 use Rattle.vd_words.specs.Model.{PortModel, IsLawfulPort}
@@ -27,11 +27,12 @@ use Rattle.vd_relay.specs.declared.replay.ReplayStage.{ReplayStage}
 use Rattle.vd_relay.specs.declared.replay.ReplayStage.TheVariants.{First, Second, Offering, Collecting, Loading, Arming, Hearing, Disarming, Done, Left}
 use Rattle.vd_relay.specs.declared.state.State.{State}
 use Rattle.vd_relay.specs.Commanding.{carries}
-use Rattle.vd_relay.specs.Modes.{ControlHolds, Does, carries_from, again}
+use Rattle.vd_relay.specs.Modes.{carries_from}
 use Rattle.vd_relay.specs.ModeSteps.{Becomes, IsControlStep, OnGuestControl, OnShadowControl}
 use Rattle.vd_relay.specs.Relay.{GivesOne}
 use Rattle.vd_relay.specs.Replays as replays
 use Rattle.vd_relay.specs.Tie.{returned}
+use Rattle.vd_switch.specs.CommandSettling.{AcksCount}
 use Rattle.vd_switch.specs.CommandLanes.{CommandParts, AreAnsweredTo, before, with_bytes, lane_commands}
 use Rattle.vd_switch.specs.Controlling.{ControlStart, IsControlling, replay_list, start_after, start_of, replayed_by}
 use Rattle.vd_switch.specs.ControllingSteps.{RelayControlled}
@@ -181,7 +182,7 @@ module _ {P Q E D : Type 0} (p : PortModel P) (q : PortModel Q) (plaw : IsLawful
       ]
       by_way (not_yet was is) = absurd (is on)
 
-  account : lane_commands (start_of x k') begun ≡ lane_commands (start_of x k) begun
+  pub account : lane_commands (start_of x k') begun ≡ lane_commands (start_of x k) begun
   account = same_commands x n' n begun (by_way way)
     where
       by_way : Way → (n' ≡ n) ⊎ ((length (drop x.by.at begun) ≤ n') × (length (drop x.by.at begun) ≤ n))
@@ -204,7 +205,7 @@ module _ {P Q E D : Type 0} (p : PortModel P) (q : PortModel Q) (plaw : IsLawful
     abbrev view : DeviceView
     view = e.side.after w t.op t.access t.got
 
-    on_guest : IsControlling l e d x r' k' s' c' begun now (written words t.access) shadow_words v view sv sw
+    pub on_guest : IsControlling l e d x r' k' s' c' begun now (written words t.access) shadow_words v view sv sw
     on_guest = record {
       holds = t.holds;
       parts = parts_at l e d x n n' begun now (written words t.access) shadow_words v view sv sw within h.are_spelled (record {
@@ -245,7 +246,7 @@ module _ {P Q E D : Type 0} (p : PortModel P) (q : PortModel Q) (plaw : IsLawful
       | inr off ↦ inl (same_gives off)
     ]
 
-    answers : IsOneActMore w.done view.done → AreAnsweredTo (before (start_of x k')) v w → AreAnsweredTo (before (start_of x k')) v view
+    pub answers : IsOneActMore w.done view.done → AreAnsweredTo (before (start_of x k')) v w → AreAnsweredTo (before (start_of x k')) v view
     answers acts old = elim (is_carrying k'.mode) [
       | inl is ↦ answers_kept e d l law (start_of x k') begun now v w sv view (bag_at is) acts old
       | inr off ↦ λ i low. acks_stay w.done view.done i acts (inl (same_gives off)) ∙ old i low
@@ -285,7 +286,7 @@ module _ {P Q E D : Type 0} (p : PortModel P) (q : PortModel Q) (plaw : IsLawful
         on.commands.stands.tied.follows) (carried_less n n' (replay_list x) sv.frame sv.done fewer h.carried)
     carried_by Leaving by = absurd (leaves by)
 
-    on_shadow : IsControlling l e d x r' k' s' c' begun now words (written shadow_words t.access) v w shadow_view sw
+    pub on_shadow : IsControlling l e d x r' k' s' c' begun now words (written shadow_words t.access) v w shadow_view sw
     on_shadow = record {
       holds = t.holds;
       parts = parts_after;
@@ -295,6 +296,9 @@ module _ {P Q E D : Type 0} (p : PortModel P) (q : PortModel Q) (plaw : IsLawful
       winds = winds;
       over = over;
     }
+
+    pub acks : AcksCount sv.done → AcksCount shadow_view.done
+    acks = acks_kept e d l law (start_of x k) begun now words shadow_words v w sv sw h.parts shadow_view.done t.acts
 
   -- ---- both
 
@@ -333,5 +337,5 @@ module _ {P Q E D : Type 0} (p : PortModel P) (q : PortModel Q) (plaw : IsLawful
         account = account;
         gave = inl refl;
         answers = λ old. old;
-        acks = acks_kept e d l law (start_of x k) begun now words shadow_words v w sv sw h.parts (shadow_view t leaves shadow_plain).done t.acts;
+        acks = acks t leaves shadow_plain;
       }

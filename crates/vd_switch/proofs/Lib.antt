@@ -7,6 +7,7 @@ pub mod ShadowingLanes
 pub mod PassingLanes
 pub mod PassingSteps
 pub mod ShadowingSteps
+pub mod WoundCourse
 pub mod Wound
 pub mod CommandLists
 pub mod CommandWords

@@ -1,5 +1,5 @@
 -- One access of a party of a control lane, whatever its relay does.
-use Rattle.std.specs.Prelude.{◌≡◌, ◌⊎◌, ℕ, ◌≤◌, true, List, length}
+use Rattle.std.specs.Prelude.{◌≡◌, ◌⊎◌, ℕ, List, length}
 use Rattle.vd_model.specs.declared.record.Begun.{Begun}
 use Rattle.vd_words.specs.Model.{PortModel}
 use Rattle.vd_ring.specs.declared.driver.DriverView.{DriverView}
@@ -10,13 +10,11 @@ use Rattle.vd_layout.specs.Driver.{DriverModel}
 use Rattle.vd_layout.specs.Device.{DeviceModel}
 use Rattle.vd_layout.specs.Layout.{LayoutModel}
 use Rattle.vd_control.specs.declared.settings.Settings.{Settings}
-use Rattle.vd_control.specs.Settings.{replay}
 use Rattle.vd_relay.specs.declared.control.Control.{Control}
 use Rattle.vd_relay.specs.declared.control.Mode.{Mode}
-use Rattle.vd_relay.specs.declared.control.Mode.TheVariants.{Replaying, Carrying}
 use Rattle.vd_relay.specs.declared.counts.Counts.{Counts}
 use Rattle.vd_relay.specs.declared.state.State.{State}
-use Rattle.vd_relay.specs.Modes.{Opening, again}
+use Rattle.vd_relay.specs.Modes.{Opening}
 use Rattle.vd_relay.specs.ModeSteps.{OnGuestControl, OnShadowControl}
 use Rattle.vd_switch.specs.CommandLanes.{AreAnsweredTo, lane_commands}
 use Rattle.vd_switch.specs.CommandSettling.{AcksCount}

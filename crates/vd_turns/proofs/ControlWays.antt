@@ -14,8 +14,9 @@ use Rattle.vd_relay.specs.declared.control.Mode.{Mode}
 use Rattle.vd_relay.specs.declared.control.Mode.TheVariants.{Replaying, Carrying, Leaving}
 use Rattle.vd_relay.specs.declared.counts.Counts.{Counts}
 use Rattle.vd_relay.specs.declared.state.State.{State}
-use Rattle.vd_relay.specs.Modes.{Opening}
 use Rattle.vd_relay.specs.Stages.{is_rested}
+use Rattle.vd_model.specs.declared.record.Begun.{Begun}
+use Rattle.vd_switch.specs.Controlling.{ControlStart}
 use Rattle.vd_turns.specs.RelayTurns.{did}
 use Rattle.vd_turns.specs.ControlTurns.{IsControlLane, ControlLooked, ControlStepped, ControlRun, ControlWay, ControlTurn}
 use Rattle.vd_turns.proofs.RelayWays.{through}
@@ -39,24 +40,24 @@ some_get (Some x) A has = ((x, refl), has)
 pub some_is : {X : Type 0} (o : Option X) (x : X) (A : X → Type 0) → o ≡ Some x → A x → IsSomeAnd o A
 some_is {X = X} o x A is has = subst (λ (y : Option X). IsSomeAnd y A) (sym is) has
 
-few_more : (a b c made j : ℕ) → b ≤ a + made → c ≤ b + j → j ≤ 1 → c ≤ a + (made + 1)
-few_more a b c made j f g one = omega arith
+-- a step by which it goes on was not its last
+pub not_finished : (m : Move) → m ≡ move.Worked → m ≡ move.Finished → ⊥
+not_finished move.Looked is other = absurd (cc is)
+not_finished move.Worked is other = absurd (cc other)
+not_finished move.Finished is other = absurd (cc is)
 
-few_same : (a b c made j : ℕ) → b ≤ a + made → c ≤ b + j → j ≡ 0 → c ≤ a + made
-few_same a b c made j f g none = omega arith
-
-module _ {E D : Type 0} (l : LayoutModel) (e : DeviceModel E) (d : DriverModel D) (z : Opening) (v : DriverView) (sw : DeviceView) where
+module _ {E D : Type 0} (l : LayoutModel) (e : DeviceModel E) (d : DriverModel D) (x : ControlStart) (begun : List Begun) (now : Settings) (v : DriverView) (sw : DeviceView) where
   -- on other words that are the same
   pub control_same : (ws us ws' us' : List ℕ) (w : DeviceView) (sv : DriverView) (r r' : State E D) (k k' : Control) (s s' : Settings)
-      (c c' : Counts) (answer : Move) → ws' ≡ ws → us' ≡ us → ControlStepped l e d z ws us v w sv sw r r' k k' s s' c c' answer
-      → ControlStepped l e d z ws' us' v w sv sw r r' k k' s s' c c' answer
+      (c c' : Counts) (answer : Move) → ws' ≡ ws → us' ≡ us → ControlStepped l e d x begun now ws us v w sv sw r r' k k' s s' c c' answer
+      → ControlStepped l e d x begun now ws' us' v w sv sw r r' k k' s s' c c' answer
   control_same ws us ws' us' w sv r r' k k' s s' c c' answer a b t = subst
-      (λ (xs : List ℕ). ControlStepped l e d z xs us' v w sv sw r r' k k' s s' c c' answer) (sym a)
-      (subst (λ (xs : List ℕ). ControlStepped l e d z ws xs v w sv sw r r' k k' s s' c c' answer) (sym b) t)
+      (λ (xs : List ℕ). ControlStepped l e d x begun now xs us' v w sv sw r r' k k' s s' c c' answer) (sym a)
+      (subst (λ (xs : List ℕ). ControlStepped l e d x begun now ws xs v w sv sw r r' k k' s s' c c' answer) (sym b) t)
 
   pub control_starts : (ws us : List ℕ) (w : DeviceView) (sv : DriverView) (r : State E D) (k : Control) (s : Settings) (c : Counts)
-      → is_rested r.stage ≡ false → IsControlLane l e d z ws us v w sv sw r k s c
-      → ControlWay l e d z ws us v w sv sw r r k k s s c c 0
+      → is_rested r.stage ≡ false → IsControlLane l e d x begun now ws us v w sv sw r k s c
+      → ControlWay l e d x begun now ws us v w sv sw r r k k s s c c 0
   control_starts ws us w sv r k s c live lane = record {
     run = record {
       view = w;
@@ -65,28 +66,27 @@ module _ {E D : Type 0} (l : LayoutModel) (e : DeviceModel E) (d : DriverModel D
       kept = (refl, refl);
       awake = λ off. live;
       replayed = λ x. x;
-      few = omega arith;
-      accesses = λ off le. omega arith;
+      account = refl;
+      accesses = λ le. omega arith;
       heard = omega arith;
       handled = omega arith;
     };
     start = λ none. (refl, refl, refl, refl, refl);
   }
 
-  module _ (ws us ws' us' : List ℕ) (w : DeviceView) (sv : DriverView) (r y u : State E D) (k m n : Control) (s t x : Settings)
-      (c b a : Counts) (made : ℕ) (answer : Move) (way : ControlWay l e d z ws us v w sv sw r y k m s t c b made)
-      (f : ControlStepped l e d z ws' us' v way.run.view way.run.shadow_view sw y u m n t x b a answer) where
-    runs : (i : ℕ) → a.accesses ≤ c.accesses + i
-        → (r.winding ≡ false → c.accesses + i ≤ last_count → a.accesses ≡ c.accesses + i)
-        → ControlRun l e d z ws' us' v w sv sw r u k n x c a i
-    runs i few accesses = record {
+  module _ (ws us ws' us' : List ℕ) (w : DeviceView) (sv : DriverView) (r y u : State E D) (k m n : Control) (s t o : Settings)
+      (c b a : Counts) (made : ℕ) (answer : Move) (way : ControlWay l e d x begun now ws us v w sv sw r y k m s t c b made)
+      (f : ControlStepped l e d x begun now ws' us' v way.run.view way.run.shadow_view sw y u m n t o b a answer) where
+    runs : (i : ℕ) → (c.accesses + i ≤ last_count → a.accesses ≡ c.accesses + i)
+        → ControlRun l e d x begun now ws' us' v w sv sw r u k n o c a i
+    runs i accesses = record {
       view = f.view;
       shadow_view = f.shadow_view;
       lane = f.lane;
       kept = (f.kept.0 ∙ way.run.kept.0, f.kept.1 ∙ way.run.kept.1);
       awake = λ off. f.awake (way.run.kept.0 ∙ off);
       replayed = λ done. f.replayed (way.run.replayed done);
-      few = few;
+      account = f.account ∙ way.run.account;
       accesses = accesses;
       heard = omega (arith, f.heard, way.run.heard);
       handled = through c.handled b.handled a.handled (did r v w sv) (did y v way.run.view way.run.shadow_view)
@@ -94,30 +94,26 @@ module _ {E D : Type 0} (l : LayoutModel) (e : DeviceModel E) (d : DriverModel D
     }
 
     -- a step that was no look
-    more : (answer ≡ move.Looked → ⊥) → ControlRun l e d z ws' us' v w sv sw r u k n x c a (made + 1)
+    more : (answer ≡ move.Looked → ⊥) → ControlRun l e d x begun now ws' us' v w sv sw r u k n o c a (made + 1)
     more work =
         let one : worked answer ≡ 1 = worked_one answer work in
-        runs (made + 1) (few_more c.accesses b.accesses a.accesses made (worked answer) way.run.few f.few (omega (arith, one)))
-        (λ off le. one_more c.accesses b.accesses a.accesses made (worked answer) (way.run.accesses off)
-        (f.accesses (way.run.kept.0 ∙ off)) one le)
+        runs (made + 1) (λ le. one_more c.accesses b.accesses a.accesses made (worked answer) way.run.accesses f.accesses one le)
 
-    pub control_goes : (answer ≡ move.Looked → ⊥) → ControlWay l e d z ws' us' v w sv sw r u k n s x c a (made + 1)
+    pub control_goes : (answer ≡ move.Looked → ⊥) → ControlWay l e d x begun now ws' us' v w sv sw r u k n s o c a (made + 1)
     control_goes work = record { run = more work; start = λ none. absurd (omega arith) }
 
     -- the step after which it rests
-    pub control_ends : (answer ≡ move.Looked → ⊥) → ControlTurn l e d z ws' us' v w sv sw r u k n s x c a (made + 1)
+    pub control_ends : (answer ≡ move.Looked → ⊥) → ControlTurn l e d x begun now ws' us' v w sv sw r u k n s o c a (made + 1)
     control_ends work = record { run = more work; by = f.by; quiet = λ none. absurd (omega arith) }
 
     -- a look
-    pub control_looks : answer ≡ move.Looked → ControlTurn l e d z ws' us' v w sv sw r u k n s x c a made
+    pub control_looks : answer ≡ move.Looked → ControlTurn l e d x begun now ws' us' v w sv sw r u k n s o c a made
     unfolding runs
     control_looks is =
         let quiet = f.looked is in
         let none : worked answer ≡ 0 = ap worked is in
         record {
-          run = runs made (few_same c.accesses b.accesses a.accesses made (worked answer) way.run.few f.few none)
-              (λ off le. no_more c.accesses b.accesses a.accesses made (worked answer) (way.run.accesses off)
-              (f.accesses (way.run.kept.0 ∙ off)) none le);
+          run = runs made (λ le. no_more c.accesses b.accesses a.accesses made (worked answer) way.run.accesses f.accesses none le);
           by = f.by;
           quiet = λ zero.
               let first = way.start zero in (
@@ -132,7 +128,7 @@ module _ {E D : Type 0} (l : LayoutModel) (e : DeviceModel E) (d : DriverModel D
         }
 
   pub control_spent : (ws us : List ℕ) (w : DeviceView) (sv : DriverView) (r y : State E D) (k m : Control) (s t : Settings)
-      (c b : Counts) (made : ℕ) → ControlWay l e d z ws us v w sv sw r y k m s t c b made → 1 ≤ made
-      → ControlTurn l e d z ws us v w sv sw r y k m s t c b made
+      (c b : Counts) (made : ℕ) → ControlWay l e d x begun now ws us v w sv sw r y k m s t c b made → 1 ≤ made
+      → ControlTurn l e d x begun now ws us v w sv sw r y k m s t c b made
   control_spent ws us w sv r y k m s t c b made way some =
       record { run = way.run; by = Carrying; quiet = λ none. absurd (omega arith) }

@@ -1,11 +1,13 @@
 //! The turn of a relay of a control queue, whatever it does: single accesses of the plain words of its two rings, until it looked, rests,
 //! or has made as many as were drawn.
 ghost use Rattle.std.specs.Prelude.{◌≡◌, ◌≤◌, ℕ, false, List, Some, IsSomeAnd};
+ghost use Rattle.vd_model.specs.declared.record.Begun.{Begun};
+ghost use Rattle.vd_control.specs.declared.settings.Settings.{Settings};
 ghost use Rattle.vd_ring.specs.declared.device.DeviceView.{DeviceView};
 ghost use Rattle.vd_ring.specs.declared.driver.DriverView.{DriverView};
 ghost use Rattle.vd_relay.specs.declared.control.Control.{Control};
-ghost use Rattle.vd_relay.specs.Modes.{Opening};
 ghost use Rattle.vd_relay.specs.Stages.{is_rested};
+ghost use Rattle.vd_switch.specs.Controlling.{ControlStart};
 ghost use Rattle.vd_turns.specs.ControlTurns.{CanControlTurn, IsControlLane, ControlOn, ControlSteps, ControlTurns};
 
 use crate::draws::Draws;
@@ -25,10 +27,10 @@ fn control_access<L: Layout, P: Port, Q: Port>(
         × CanControlTurn L.layout L.Device.device L.Driver.driver ws us lane.old.relay.state lane.old.relay.control
         lane.old.relay.settings lane.old.relay.counts }
     ensures { (k : Control) → lane.old.relay.control ≡ Some k → IsSomeAnd lane.new.relay.control (λ k'. (ws : List ℕ)
-        (us : List ℕ) (z : Opening) (v : DriverView) (w : DeviceView) (sv : DriverView) (sw : DeviceView) → P.port.plain guest_port.old ws
+        (us : List ℕ) (x : ControlStart) (begun : List Begun) (now : Settings) (v : DriverView) (w : DeviceView) (sv : DriverView) (sw : DeviceView) → P.port.plain guest_port.old ws
         → Q.port.plain shadow_port.old us
-        → IsControlLane L.layout L.Device.device L.Driver.driver z ws us v w sv sw lane.old.relay.state k lane.old.relay.settings
-        lane.old.relay.counts → ControlOn P.port Q.port L.layout L.Device.device L.Driver.driver z guest_port.old guest_port.new
+        → IsControlLane L.layout L.Device.device L.Driver.driver x begun now ws us v w sv sw lane.old.relay.state k lane.old.relay.settings
+        lane.old.relay.counts → ControlOn P.port Q.port L.layout L.Device.device L.Driver.driver x begun now guest_port.old guest_port.new
         shadow_port.old shadow_port.new v w sv sw lane.old.relay.state lane.new.relay.state k k' lane.old.relay.settings
         lane.new.relay.settings lane.old.relay.counts lane.new.relay.counts result) }
 {

@@ -112,6 +112,19 @@ done_held words s rs f o stage.Collecting b (hand.Ack n k g) e h = absurd (cc e)
 done_held words s rs f o stage.Arming b (hand.Ack n k g) e h = absurd (cc e)
 done_held words s rs f o stage.Hearing b (hand.Ack n k g) e h = absurd (cc e)
 
+-- and where it is armed it has none to be loaded
+armed_held : (words : ControlWords) (s : Script) (rs : List Return) (f : Frame) (o : List DriverDone) (st : GuestStage) (b : DriverOp)
+    (h : Pending) (d : DriverNow) (t : ℕ) (armed : Option ℕ) → armed ≡ Some t → ArmedIs st b d armed → HandIs words s rs f o st b h
+    → length rs ≡ length (collects o)
+armed_held words s rs f o st b hand.Free d t armed is a h = h.0
+armed_held words s rs f o st b hand.First d t armed is a h = h.0.back
+armed_held words s rs f o st b hand.Both d t armed is a h = h.0.back
+armed_held words s rs f o stage.Offering b (hand.Ack n k g) d t armed is a h = absurd (cc (is, a))
+armed_held words s rs f o stage.Collecting b (hand.Ack n k g) d t armed is a h = absurd (cc (is, a))
+armed_held words s rs f o stage.Arming b (hand.Ack n k g) d t armed is a h = absurd h.0.stage
+armed_held words s rs f o stage.Hearing b (hand.Ack n k g) d t armed is a h = absurd h.0.stage
+armed_held words s rs f o stage.Done b (hand.Ack n k g) d t armed is a h = absurd h.0.stage
+
 stuck_next : (words : ControlWords) (f : Frame) (o : List DriverDone) (next : Option (List ℕ)) (bytes : List ℕ) → next ≡ Some bytes
     → IsStuck (option_map (command_chain words f (next_head f o)) next) f o
     → HasRoom f o (command_chain words f (next_head f o) bytes) → ⊥
@@ -298,3 +311,11 @@ module _ {D : Type 0} (d : DriverModel D) (l : LayoutModel) where
   sleeps_law p c v s t h is some = held p c v
       (λ z. script_of (loaded_of z) ≡ Some s → v.armed ≡ Some t → CannotSend d.words s v.frame v.done) h
       (λ b x is armed. cannot_of b c v s t x (same_script b.loaded.script s is) some armed) is
+
+  pub listed_law : (p : GuestPhase D) (c : Counts) (v : DriverView) (s : Script) (t : ℕ) → GuestHolds d l p c v
+      → script_of (loaded_of p) ≡ Some s → HasCommands s → v.armed ≡ Some t
+      → length (returned_of (loaded_of p)) ≡ length (collects v.done)
+  listed_law p c v s t h is some = held p c v
+      (λ z. script_of (loaded_of z) ≡ Some s → v.armed ≡ Some t → length (returned_of (loaded_of z)) ≡ length (collects v.done)) h
+      (λ b x is armed. armed_held d.words b.loaded.script b.loaded.returned.items v.frame v.done b.loaded.stage (d.begun b.end)
+      b.loaded.hand v.doing t v.armed armed x.drives.armed x.drives.held) is

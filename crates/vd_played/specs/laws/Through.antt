@@ -28,6 +28,7 @@ module _ {D X Y : Type 0} (d : DriverModel D) (f : Y → X) (m : GuestParty X) w
     acked = λ y. law.acked (f y);
     sent_all = λ y. law.sent_all (f y);
     sleeps = λ y. law.sleeps (f y);
+    listed = λ y. law.listed (f y);
     pace = λ y. law.pace (f y);
   }
 
