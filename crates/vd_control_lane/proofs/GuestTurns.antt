@@ -12,7 +12,7 @@ use Rattle.vd_layout.specs.Driver.{DriverModel}
 use Rattle.vd_layout.specs.Device.{DeviceModel}
 use Rattle.vd_layout.specs.Layout.{LayoutModel, IsLawfulLayout}
 use Rattle.vd_bus.specs.Guest.{GuestParty, IsLawfulGuestParty}
-use Rattle.vd_bus.specs.GuestCommands.{HasCommands, HasSent, commands}
+use Rattle.vd_bus.specs.GuestCommands.{HasSent, commands}
 use Rattle.vd_control.specs.declared.settings.Settings.{Settings}
 use Rattle.vd_commands.specs.Words.{ack_byte}
 use Rattle.vd_relay.specs.declared.control.Control.{Control}
@@ -31,7 +31,9 @@ module _ {E D G : Type 0} (l : LayoutModel) (e : DeviceModel E) (d : DriverModel
     (mlaw : IsLawfulGuestParty d m) (x : ControlStart) (r : State E D) (k : Control) (s : Settings) (c : Counts) (begun : List Begun)
     (now : Settings) (words words' shadow_words : List ℕ) (v : DriverView) (w : DeviceView) (sv : DriverView) (sw : DeviceView)
     (script : Script) (y z : G) (made : ℕ) (h : IsControlling l e d x r k s c begun now words shadow_words v w sv sw)
-    (holds : m.holds y v) (has : m.script y ≡ Some script) (some : HasCommands script) (can : AreSendable (commands script))
+    (holds : m.holds y v) (has : m.script y ≡ Some script)
+    (sends : (g : G) (u : DriverView) → m.holds g u → m.script g ≡ Some script → HasSent d.words script u.frame u.done)
+    (can : AreSendable (commands script))
     (t : GuestRun l m words' v w y z made) where
   abbrev pub n : ℕ
   n = length x.opening.gives
@@ -55,10 +57,10 @@ module _ {E D G : Type 0} (l : LayoutModel) (e : DeviceModel E) (d : DriverModel
   )
 
   was : HasSent d.words script v.frame v.done
-  was = mlaw.sent y v script holds has some
+  was = sends y v holds has
 
   is : HasSent d.words script t.view.frame t.view.done
-  is = mlaw.sent z t.view script t.holds (t.script ∙ has) some
+  is = sends z t.view t.holds (t.script ∙ has)
 
   -- the first commands are the script's, as they were
   stay : take n (guest_commands t.view) ≡ take n (guest_commands v)
