@@ -1,6 +1,6 @@
 -- What the bus of a machine answers as it is set up.
 use Rattle.std.proofs.Common.{◌≡◌, ℕ, ◌<◌, ◌==◌, Bool, true, false, not, ◌&&◌, nat_le, bit_and, if◌then◌else◌, List, length, slice_index_or, slice_set, Some, None, refl, sym, ◌∙◌, ap, subst, inl, inr, arith}
-use Rattle.std.proofs.lemmas.Bool.{lt-ltb, le-leb, cases_eq}
+use Rattle.std.proofs.lemmas.Bool.{le-leb, cases_eq}
 use Rattle.std.proofs.lemmas.List.{get_or-set_same, get_or-set_other}
 use Rattle.vd_model.specs.declared.features.Features.{Features}
 use Rattle.vd_model.specs.declared.map.Mapping.{Mapping}

@@ -1,5 +1,5 @@
 -- How many commands a machine has, and where each epoch of the control queue begins and ends.
-use Rattle.std.proofs.Common.{◌≡◌, ℕ, suc, add-one, ◌+◌, ◌*◌, ◌<◌, ◌≤◌, List, [], ◌∷◌, ◌++◌, length, take, flat_map, length-append, ◌∙◌, ap, arith}
+use Rattle.std.proofs.Common.{◌≡◌, ℕ, suc, ◌+◌, ◌*◌, ◌<◌, ◌≤◌, List, [], ◌∷◌, ◌++◌, length, flat_map, length-append, ap, arith}
 use Rattle.vd_layout.specs.Layout.{LayoutModel}
 use Rattle.vd_machine.specs.File.{Plan}
 use Rattle.vd_play.specs.AllWork.{replayed_count, command_work}

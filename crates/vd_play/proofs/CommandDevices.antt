@@ -1,6 +1,6 @@
 -- The device's turn in a round of the control queue's lane.
-use Rattle.std.proofs.Common.{◌≡◌, ◌⊎◌, inl, inr, ℕ, ◌+◌, ◌*◌, ◌≤◌, Bool, true, false, if◌then◌else◌, List, [], ◌∷◌, ◌++◌, length, length-append, sym, ◌∙◌, ap, subst, arith}
-use Rattle.std.proofs.lemmas.Bool.{cases_lt, false≢true}
+use Rattle.std.proofs.Common.{◌≡◌, ◌⊎◌, inl, inr, ℕ, ◌+◌, ◌*◌, ◌≤◌, true, false, List, [], ◌∷◌, ◌++◌, length, length-append, sym, ◌∙◌, ap, subst, arith}
+use Rattle.std.proofs.lemmas.Bool.{cases_lt}
 use Rattle.vd_model.specs.declared.record.Begun.{Begun}
 use Rattle.vd_words.specs.Plain.{RingWords}
 use Rattle.vd_ring.specs.declared.driver.DriverView.{DriverView}
@@ -17,8 +17,7 @@ use Rattle.vd_relay.specs.declared.counts.Counts.{Counts}
 use Rattle.vd_relay.specs.declared.state.State.{State}
 use Rattle.vd_relay.specs.Modes.{Opening, ControlHolds}
 use Rattle.vd_relay.specs.Stages.{is_rested}
-use Rattle.vd_switch.specs.Controlling.{ControlStart, IsControlling}
-use Rattle.vd_switch.specs.ShadowingLanes as switch
+use Rattle.vd_switch.specs.Controlling.{ControlStart, IsControlling, replay_list}
 use Rattle.vd_switch.proofs.ControllingBegins.{control_winds}
 use Rattle.vd_turns.specs.RelayTurns.{HalfWaits, reached}
 use Rattle.vd_turns.specs.Turns.{DeviceTurn}
@@ -38,6 +37,7 @@ use Rattle.vd_play.proofs.CommandKeep.{keeps_device}
 use Rattle.vd_play.proofs.CommandPace.{bounds_of}
 use Rattle.vd_play.proofs.CommandPaces.{paces_device}
 use Rattle.vd_play.proofs.CommandQuiet.{replay_wakes, no_sleep}
+use Rattle.vd_play.proofs.CommandReplays.{replays_many}
 use Rattle.vd_play.proofs.Pace.{attaches_more}
 use Rattle.vd_play.proofs.ShadowStops.{chosen}
 
@@ -148,6 +148,26 @@ module _ {D E G X C : Type 0} (s : Setting D E G X C) (law : IsLawful s) (plan :
     every = (law.party.done device1 t.run.view p.start.by t.run.holds (t.run.served.attached ∙ p.serves.attached) done).all
         ∙ p.kept.start.to
 
+    -- it gave as many as are replayed, and the epoch's own
+    covers : length (replay_list p.start) ≤ length (gives t.run.view.done)
+    covers =
+        let queue = p.kept.driven.queue in
+        let ep = epoch_of s.layout plan queue k p.kept.epoch in
+        let at = queue.numbered.at k ep.bound.epoch ep.bound.is in
+        let sw : DeviceView = t.run.view in
+        let all = law.party.done device1 sw p.start.by t.run.holds (t.run.served.attached ∙ p.serves.attached) done in
+        let b = bounds_of s law plan k words shadow_words1 r control settings c guest device1 p.start p.view p.device_view p.shadow_view sw
+        turned.kept in
+        omega (
+          arith,
+          all.as_many,
+          b.begun,
+          every,
+          ep.many,
+          length-append (replayed_commands plan ep.bound.epoch) (own_commands plan ep.bound.epoch),
+          replays_many plan k p.start p.kept.start ep.bound.epoch at.0 at.2,
+        )
+
     served : HasServedCommands s plan k device2
     served =
         let queue = p.kept.driven.queue in
@@ -247,7 +267,12 @@ module _ {D E G X C : Type 0} (s : Setting D E G X C) (law : IsLawful s) (plan :
               };
               framed = y.kept.framed;
               start = y.kept.start;
-              lane = record { controlling = lane2; answers = y.kept.lane.answers; acks = y.kept.lane.acks };
+              lane = record {
+                controlling = lane2;
+                answers = y.kept.lane.answers;
+                acks = y.kept.lane.acks;
+                covered = λ on. covers;
+              };
             };
             served = served;
             winds = (winding, live);

@@ -1,14 +1,12 @@
 -- An epoch's last round of the control queue's lane: its relay rests, and hands back the end of the guest's ring and the settings.
-use Rattle.std.proofs.Common.{◌≡◌, ◌⊎◌, inl, inr, ℕ, suc, ◌+◌, ◌-◌, ◌*◌, ◌<◌, ◌≤◌, Bool, true, false, if◌then◌else◌, List, [], ◌∷◌, ◌++◌, length, map, take, drop, refl, sym, ◌∙◌, ap, subst, arith, length-append}
-use Rattle.std.proofs.lemmas.Bool.{false≢true}
+use Rattle.std.proofs.Common.{◌≡◌, inl, inr, ℕ, suc, ◌+◌, ◌-◌, ◌*◌, ◌≤◌, Bool, true, false, if◌then◌else◌, List, [], ◌∷◌, ◌++◌, length, map, take, drop, refl, sym, ◌∙◌, ap, subst, arith, length-append}
 use Rattle.std.proofs.lemmas.List.{length-map, length-drop, length-take, length-take-le, take_all, take-take, drop-take, take-append-drop, map-append}
 use Rattle.vd_model.specs.declared.record.Begun.{Begun}
 use Rattle.vd_words.specs.Plain.{RingWords}
 use Rattle.vd_ring.specs.declared.driver.DriverView.{DriverView}
 use Rattle.vd_ring.specs.declared.device.DeviceView.{DeviceView}
 use Rattle.vd_ring.specs.declared.frame.Frame.{Frame}
-use Rattle.vd_ring.specs.declared.frame.Used.{Used}
-use Rattle.vd_ring.specs.History.{offers, collects, takes, gives, open_at}
+use Rattle.vd_ring.specs.History.{offers, takes, gives}
 use Rattle.vd_ring.proofs.HeldPlaces.{few_open}
 use Rattle.vd_layout.specs.Driver.{DriverModel}
 use Rattle.vd_layout.specs.Device.{DeviceModel}
@@ -34,10 +32,11 @@ use Rattle.vd_switch.proofs.ControllingBegins.{control_keeps, control_leaves}
 use Rattle.vd_switch.proofs.ControllingSettings.{control_settled}
 use Rattle.vd_turns.specs.RelayTurns.{reached}
 use Rattle.vd_control_lane.proofs.Sent.{script_sent}
+use Rattle.vd_control_lane.proofs.AnyScripts.{any_sent}
 use Rattle.vd_machine.specs.File.{Plan}
-use Rattle.vd_play.specs.Commands.{control_queue, control_commands, control_epochs, sent_at, settings_at, own_commands, replayed_commands}
+use Rattle.vd_play.specs.Commands.{control_queue, control_commands, sent_at, settings_at, own_commands, replayed_commands}
 use Rattle.vd_play.specs.CommandLane.{IsCommandAccount, CommandRests}
-use Rattle.vd_play.specs.CommandProgress.{AreCommandsHeard, HasCommandRelayHeard, command_bells_before, command_relays_bound}
+use Rattle.vd_play.specs.CommandProgress.{AreCommandsHeard, HasCommandRelayHeard}
 use Rattle.vd_play.specs.CommandShadowed.{AreCommandsRelayed, HasServedCommands}
 use Rattle.vd_play.specs.CommandsPlayed.{bytes_of}
 use Rattle.vd_play.specs.ControlJournal.{epoch_commands, commands_before, journalled_at}
@@ -152,7 +151,7 @@ module _ {D E G X C : Type 0} (s : Setting D E G X C) (law : IsLawful s) (plan :
 
   sent : guest_commands v ≡ take (length (offers v.done)) (control_commands plan)
   sent = script_sent s.driver.words (control_queue plan) v
-      (law.guest.sent guest v (control_queue plan) p.driven.part.holds p.driven.part.script p.driven.queue.some) p.driven.queue.sendable
+      (any_sent s.driver s.guest law.guest guest v (control_queue plan) p.driven.part.holds p.driven.part.script p.driven.queue.plain) p.driven.queue.sendable
 
   offered : sent_at plan (k + 1) ≤ length (offers v.done)
   offered = omega (arith, taken, (law.layout.lists words.words v w p.driven.ring).some)

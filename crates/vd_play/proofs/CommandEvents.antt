@@ -1,6 +1,6 @@
 -- The events of the control queue's device as an epoch ends: its suspension stands behind those before, by the base that the shadow ring
 -- has then.
-use Rattle.std.proofs.Common.{◌≡◌, ◌⊎◌, inl, inr, ℕ, zero, suc, ◌+◌, ◌<◌, ◌≤◌, ◌*◌, ◌==◌, Bool, true, false, cond, if◌then◌else◌, Some, List, [], ◌∷◌, ◌++◌, length, take, flat_map, slice_get, slice_index_or, refl, sym, ◌∙◌, ap, subst, arith}
+use Rattle.std.proofs.Common.{◌≡◌, inl, inr, ℕ, zero, suc, ◌+◌, ◌<◌, ◌*◌, ◌==◌, Bool, true, false, cond, if◌then◌else◌, Some, List, [], ◌∷◌, ◌++◌, length, take, flat_map, slice_get, slice_index_or, refl, sym, ◌∙◌, ap, subst, arith}
 use Rattle.std.specs.List.{All}
 use Rattle.std.proofs.lemmas.List.{append-nil, append_assoc, length-take, get_or-take}
 use Rattle.std.proofs.lemmas.Bool.{cases_lt, eq-eqb, ne_eqb}
@@ -11,21 +11,20 @@ use Rattle.vd_model.specs.declared.base.Mode.TheVariants.{Shadow}
 use Rattle.vd_model.specs.declared.chain.Piece.{Piece}
 use Rattle.vd_ring.specs.declared.driver.DriverView.{DriverView}
 use Rattle.vd_ring.specs.declared.device.DeviceView.{DeviceView}
-use Rattle.vd_ring.specs.declared.frame.Frame.{Frame}
 use Rattle.vd_ring.specs.History.{offers, takes, chain, chain_at, head}
 use Rattle.vd_ring.specs.Control as ring
 use Rattle.vd_layout.specs.Driver.{DriverModel}
-use Rattle.vd_layout.specs.Device.{DeviceModel, IsStill}
+use Rattle.vd_layout.specs.Device.{DeviceModel}
 use Rattle.vd_layout.specs.Layout.{LayoutModel, IsLawfulLayout}
 use Rattle.vd_control.specs.Settings.{default}
 use Rattle.vd_bus.specs.declared.event.Event.{Event}
 use Rattle.vd_bus.specs.declared.event.Event.TheVariants.{Attach, Suspend, Reset}
 use Rattle.vd_switch.proofs.Controlling.{taken_whole}
 use Rattle.vd_machine.specs.File.{Plan}
-use Rattle.vd_play.specs.CommandLane.{AreBasesBefore, AreCommandEvents, command_events_before, command_attached}
-use Rattle.vd_play.specs.Commands.{control_commands, control_epochs}
-use Rattle.vd_play.specs.ControlJournal.{epoch_commands, journalled_at, command_attach, command_suspend, command_events, IsControlChain, IsCommandBase}
-use Rattle.vd_play.specs.ControlRings.{control_ring, control_shadow_frame}
+use Rattle.vd_play.specs.CommandLane.{AreCommandEvents, command_events_before, command_attached}
+use Rattle.vd_play.specs.Commands.{control_epochs}
+use Rattle.vd_play.specs.ControlJournal.{epoch_commands, journalled_at, command_attach, command_events, IsControlChain, IsCommandBase}
+use Rattle.vd_play.specs.ControlRings.{control_ring}
 use Rattle.vd_play.specs.Epochs.{Epoch, AreNumbered, mode_at, renewed_at}
 use Rattle.vd_play.specs.Journal.{map_in}
 use Rattle.vd_play.specs.Setting.{Setting}
@@ -44,7 +43,7 @@ base_here bases k b = ap (λ (x : Bool). cond x b (bases k)) (eq-eqb k k refl)
 base_other : (bases : ℕ → Base) (k : ℕ) (b : Base) (j : ℕ) → j < k → with_base bases k b j ≡ bases j
 base_other bases k b j low = ap (λ (x : Bool). cond x b (bases j)) (ne_eqb j k (λ e. absurd (omega (arith, e, low))))
 
-flat_same : {A B : Type 0} (f g : A → List B) (xs : List A) → ((i : ℕ) (x : A) → slice_get xs i ≡ Some x → f x ≡ g x)
+pub flat_same : {A B : Type 0} (f g : A → List B) (xs : List A) → ((i : ℕ) (x : A) → slice_get xs i ≡ Some x → f x ≡ g x)
     → flat_map f xs ≡ flat_map g xs
 flat_same f g [] h = refl
 flat_same f g (x ∷ xs) h = ap (λ ys. ys ++ flat_map f xs) (h 0 x refl)

@@ -1,5 +1,5 @@
 -- The guest's turn in a round of the control queue's lane.
-use Rattle.std.proofs.Common.{◌≡◌, ◌⊎◌, inl, inr, ℕ, ◌+◌, ◌*◌, ◌<◌, ◌≤◌, Bool, List, [], length, sym, ◌∙◌, ap, subst, arith}
+use Rattle.std.proofs.Common.{◌≡◌, inl, inr, ℕ, ◌+◌, ◌≤◌, Bool, List, [], length, sym, ◌∙◌, ap, subst, arith}
 use Rattle.std.proofs.lemmas.Bool.{cases_lt}
 use Rattle.std.proofs.lemmas.List.{length-map}
 use Rattle.vd_words.specs.Plain.{RingWords}
@@ -18,6 +18,7 @@ use Rattle.vd_switch.specs.CommandLanes.{AreAnsweredTo}
 use Rattle.vd_turns.specs.RelayTurns.{HalfWaits}
 use Rattle.vd_turns.specs.Turns.{GuestTurn}
 use Rattle.vd_control_lane.proofs.Sent.{carried}
+use Rattle.vd_control_lane.proofs.AnyScripts.{any_listed, any_sent, any_sent_all}
 use Rattle.vd_machine.specs.File.{Plan}
 use Rattle.vd_play.specs.Commands.{control_queue, control_commands, sent_at}
 use Rattle.vd_play.specs.CommandLane.{IsCommandDriven}
@@ -113,8 +114,8 @@ module _ {D E G X C : Type 0} (s : Setting D E G X C) (law : IsLawful s) (plan :
       → AreAnsweredTo m v w → AreAnsweredTo m v' w
   answers_stay m v v' w p p' more early right i low =
       let q = p.queue in
-      let was = law.guest.sent guest v (control_queue plan) p.part.holds p.part.script q.some in
-      let is = law.guest.sent guest1 v' (control_queue plan) p'.part.holds p'.part.script q.some in
+      let was = any_sent s.driver s.guest law.guest guest v (control_queue plan) p.part.holds p.part.script q.plain in
+      let is = any_sent s.driver s.guest law.guest guest1 v' (control_queue plan) p'.part.holds p'.part.script q.plain in
       right i low
       ∙ ap ack_byte (carried s.driver.words (control_queue plan) v was q.sendable i [] (omega (arith, low, early))
       ∙ sym (carried s.driver.words (control_queue plan) v' is q.sendable i [] (omega (arith, low, early, more))))
@@ -133,10 +134,10 @@ module _ {D E G X C : Type 0} (s : Setting D E G X C) (law : IsLawful s) (plan :
       let many : length (control_commands plan) ≡ length script.commands = length-map script.commands (λ b. b.items) in
       let count : length (collects v.done) ≡ length script.commands =
       omega (arith, ap length collected, even, all, lists.some, few_offers, many) in
-      (law.guest.sent_all guest1 v script p.part.holds p.part.script p.queue.some).1 record {
+      (any_sent_all s.driver s.guest law.guest guest1 v script p.part.holds p.part.script p.queue.plain).1 record {
         offers = omega (arith, all, lists.some, few_offers, many);
         collects = count;
-        returned = law.guest.listed guest1 v script waits.at p.part.holds p.part.script p.queue.some waits.armed ∙ count;
+        returned = any_listed s.driver s.guest law.guest guest1 v script p.part.holds p.part.script p.queue.plain waits.at waits.armed ∙ count;
         idle = waits.idle;
       }
 

@@ -1,6 +1,7 @@
 -- What the turns of guest, relay and device keep of the control queue's lane.
-use Rattle.std.proofs.Common.{◌≡◌, ℕ, ◌≤◌, false, Some, List, ◌++◌, length, map, take, drop, sym, ◌∙◌, ap, subst, arith}
+use Rattle.std.proofs.Common.{◌≡◌, ℕ, ◌≤◌, false, Some, List, ◌++◌, length, take, drop, sym, ◌∙◌, ap, arith}
 use Rattle.std.specs.List.{All}
+use Rattle.std.proofs.lemmas.Bool.{false≢true}
 use Rattle.std.proofs.lemmas.List.{take-append-drop}
 use Rattle.std.proofs.lemmas.List.Elements.{All-append, All-take, All-same}
 use mathlib.Core.List.{IsPrefix}
@@ -8,7 +9,6 @@ use Rattle.vd_model.specs.declared.record.Begun.{Begun}
 use Rattle.vd_words.specs.Plain.{RingWords}
 use Rattle.vd_ring.specs.declared.driver.DriverView.{DriverView}
 use Rattle.vd_ring.specs.declared.device.DeviceView.{DeviceView}
-use Rattle.vd_bus.specs.Device.{IsServed}
 use Rattle.vd_bus.specs.Orders.{IsControl}
 use Rattle.vd_control.specs.declared.settings.Settings.{Settings}
 use Rattle.vd_relay.specs.declared.control.Control.{Control}
@@ -16,13 +16,15 @@ use Rattle.vd_relay.specs.declared.counts.Counts.{Counts}
 use Rattle.vd_relay.specs.declared.state.State.{State}
 use Rattle.vd_switch.specs.Controlling.{ControlStart}
 use Rattle.vd_switch.proofs.ControllingBegins.{control_keeps}
+use Rattle.vd_turns.specs.ControlTurns.{IsControlLane}
 use Rattle.vd_turns.specs.Turns.{GuestRun, DeviceRun}
 use Rattle.vd_control_lane.proofs.GuestTurns.{guest_keeps, answers_stay}
 use Rattle.vd_control_lane.proofs.DeviceTurns.{device_keeps}
+use Rattle.vd_control_lane.proofs.AnyScripts.{any_sent}
 use Rattle.vd_machine.specs.File.{Plan}
 use Rattle.vd_play.specs.Commands.{control_queue}
-use Rattle.vd_play.specs.CommandLane.{IsCommandDriven, IsCommandAccount, AreCommandsReserved, AreCommandsKept}
-use Rattle.vd_play.specs.CommandShadowed.{IsControlLane, AreCommandsRelayed}
+use Rattle.vd_play.specs.CommandLane.{IsCommandDriven, IsCommandAccount, AreCommandsKept}
+use Rattle.vd_play.specs.CommandShadowed.{AreCommandsRelayed}
 use Rattle.vd_play.specs.CommandsPlayed.{bytes_of, HasAckLength}
 use Rattle.vd_play.specs.ControlJournal.{journalled_at}
 use Rattle.vd_play.specs.Setting.{Setting, IsLawful}
@@ -97,11 +99,14 @@ module _ {D E G X C : Type 0} (s : Setting D E G X C) (law : IsLawful s) (plan :
           lane = record {
             controlling = guest_keeps s.layout s.device s.driver law.layout s.guest law.guest x r control settings c
                 (s.party.begun device) (s.party.settings device) words.words words'.words shadow_words v w sv sw (control_queue plan)
-                guest guest' made p.lane.controlling part.holds part.script q.some q.sendable t;
+                guest guest' made p.lane.controlling part.holds part.script
+                (λ b u bu bs. any_sent s.driver s.guest law.guest b u (control_queue plan) bu bs q.plain) q.sendable t;
             answers = answers_stay s.layout s.device s.driver law.layout s.guest law.guest x r control settings c
                 (s.party.begun device) (s.party.settings device) words.words words'.words shadow_words v w sv sw (control_queue plan)
-                guest guest' made p.lane.controlling part.holds part.script q.some q.sendable t p.lane.answers;
+                guest guest' made p.lane.controlling part.holds part.script
+                (λ b u bu bs. any_sent s.driver s.guest law.guest b u (control_queue plan) bu bs q.plain) q.sendable t p.lane.answers;
             acks = p.lane.acks;
+            covered = p.lane.covered;
           };
         }
 
@@ -149,5 +154,10 @@ module _ {D E G X C : Type 0} (s : Setting D E G X C) (law : IsLawful s) (plan :
           };
           framed = p.framed;
           start = p.start;
-          lane = record { controlling = lane; answers = p.lane.answers; acks = p.lane.acks };
+          lane = record {
+            controlling = lane;
+            answers = p.lane.answers;
+            acks = p.lane.acks;
+            covered = λ on. absurd (false≢true (sym off ∙ on));
+          };
         }

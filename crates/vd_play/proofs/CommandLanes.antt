@@ -1,5 +1,5 @@
 -- The control queue's lane in a round, by what it holds: what a stop left, or a relay.
-use Rattle.std.proofs.Common.{◌≡◌, ℕ, ◌+◌, ◌≤◌, Bool, true, false, Option, Some, None, List, refl, sym, subst}
+use Rattle.std.proofs.Common.{◌≡◌, ℕ, ◌+◌, ◌≤◌, Bool, true, false, Option, Some, None, is_some, List, refl, subst}
 use Rattle.std.proofs.lemmas.Option.{same_Some}
 use Rattle.vd_words.specs.Plain.{RingWords}
 use Rattle.vd_layout.specs.declared.device.DeviceEnd as device_end
@@ -14,7 +14,8 @@ use Rattle.vd_turns.specs.Turns.{CanDrive, GuestTurns}
 use Rattle.vd_machine.specs.File.{Plan}
 use Rattle.vd_play.specs.declared.floor.Relaying.{Relaying}
 use Rattle.vd_play.specs.CommandProgress.{Next, IsCommandShadowing, CommandRelayingBy, IsCommandRelaying, InCommandRoundWith}
-use Rattle.vd_play.specs.CommandProgress.Next.{guests, relays, devices}
+use Rattle.vd_play.specs.CommandProgress.Next.{guests, relays}
+use Rattle.vd_play.specs.CommandRounds.{is_replayed}
 use Rattle.vd_play.specs.Progress.{steps}
 use Rattle.vd_play.specs.Setting.{Setting, IsLawful}
 use Rattle.vd_play.proofs.CommandGuests.{guest_shadows, guest_winds, guest_stops}
@@ -83,12 +84,20 @@ module _ {L D E G X C : Type 0} {i : layout.Ghosts L D E} {j : driver_end.Ghosts
   round_of next false still x on none p = absurd (cc)
   round_of next true (Some end) x on none p = absurd (cc)
 
+  -- a lane that is still has no relay, so it has nothing to replay
+  pub still_replayed : (next : Next) (on : Bool) (still : Option (Still L D E i j h)) (o : Option (Relaying L D E))
+      → is_some still ≡ true → InCommandRoundWith s plan next on k n words still o relayed guest device → is_replayed o ≡ true
+  still_replayed next on (Some end) None some p = refl
+  still_replayed next on (Some end) (Some x) some p = absurd p
+  still_replayed next on None o some p = absurd (cc)
+
   -- ---- the guest
 
   pub can_drive : (on : Bool) (still : Option (Still L D E i j h)) (o : Option (Relaying L D E))
       → InCommandRoundWith s plan guests on k n words still o relayed guest device → CanDrive s.layout s.guest words.words guest
   can_drive true None (Some x) p =
-      drive_by s plan k n words relayed guest device x.lane.relay.control x.lane.relay.state.winding x.words.words x.lane.relay.state x.lane.relay.settings x.lane.relay.counts p
+      drive_by s plan k n words relayed guest device x.lane.relay.control x.lane.relay.state.winding x.words.words x.lane.relay.state
+      x.lane.relay.settings x.lane.relay.counts p
   can_drive false None (Some x) p = absurd p
   can_drive on (Some y) None p = (p.view, p.device_view, p.kept.driven.ring, p.kept.driven.part.holds)
   can_drive on None None p = absurd p
@@ -101,8 +110,8 @@ module _ {L D E G X C : Type 0} {i : layout.Ghosts L D E} {j : driver_end.Ghosts
         → InCommandRoundWith s plan relays on k n words1 still o relayed guest1 device
         × (steps s relayed guest1 device ≡ steps s relayed guest device + a)
     guest_goes true None (Some x) p =
-        guest_by s plan k n words relayed guest device law a few words1 guest1 same turns x.lane.relay.control x.lane.relay.state.winding x.words.words x.lane.relay.state x.lane.relay.settings
-        x.lane.relay.counts p
+        guest_by s plan k n words relayed guest device law a few words1 guest1 same turns x.lane.relay.control
+        x.lane.relay.state.winding x.words.words x.lane.relay.state x.lane.relay.settings x.lane.relay.counts p
     guest_goes false None (Some x) p = absurd p
     guest_goes on (Some y) None p =
         guest_stops s law plan (k + 1) n a few words words1 guest guest1 device same y.end y.control y.settings relayed p

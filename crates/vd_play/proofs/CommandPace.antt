@@ -1,5 +1,5 @@
 -- The pace of the control queue's lane in an epoch, by what stands on its two rings.
-use Rattle.std.proofs.Common.{◌≡◌, ℕ, ◌+◌, ◌*◌, ◌<◌, ◌≤◌, Bool, true, false, if◌then◌else◌, Some, List, length, drop, ◌∙◌, ap, arith, inl, inr}
+use Rattle.std.proofs.Common.{◌≡◌, ℕ, ◌+◌, ◌*◌, ◌≤◌, List, length, drop, ap, arith, inl, inr}
 use Rattle.std.proofs.lemmas.Bool.{cases_lt}
 use Rattle.std.proofs.lemmas.List.{length-map, length-drop}
 use Rattle.std.proofs.lemmas.Nat.{row_fits}
@@ -19,7 +19,6 @@ use Rattle.vd_layout.specs.Device.{DeviceModel}
 use Rattle.vd_layout.specs.Layout.{LayoutModel, IsLawfulLayout}
 use Rattle.vd_model.specs.declared.record.Begun.{Begun}
 use Rattle.vd_control.specs.declared.settings.Settings.{Settings}
-use Rattle.vd_bus.specs.Pace.{attaches}
 use Rattle.vd_relay.specs.declared.control.Control.{Control}
 use Rattle.vd_relay.specs.declared.counts.Counts.{Counts}
 use Rattle.vd_relay.specs.declared.state.State.{State}
@@ -28,15 +27,16 @@ use Rattle.vd_switch.specs.CommandLanes.{CommandStart, CommandParts}
 use Rattle.vd_switch.specs.Controlling.{ControlStart, start_of}
 use Rattle.vd_switch.proofs.CommandJournal.{begun_taken, was_given}
 use Rattle.vd_turns.specs.RelayTurns.{reached, did}
+use Rattle.vd_control_lane.proofs.AnyScripts.{any_sent}
 use Rattle.vd_machine.specs.File.{Plan}
 use Rattle.vd_play.specs.AllWork.{command_work}
-use Rattle.vd_play.specs.Commands.{control_queue, control_commands, control_epochs, sent_at}
+use Rattle.vd_play.specs.Commands.{control_queue, control_commands}
 use Rattle.vd_play.specs.CommandLane.{IsCommandDriven}
 use Rattle.vd_play.specs.CommandProgress.{HasCommandRelayHeard, command_bells_before}
 use Rattle.vd_play.specs.CommandShadowed.{AreCommandsRelayed}
 use Rattle.vd_play.specs.ControlJournal.{journalled_at}
 use Rattle.vd_play.specs.Setting.{Setting, IsLawful}
-use Rattle.vd_play.proofs.CommandBounds.{IsEpochOf, epoch_of, work_few}
+use Rattle.vd_play.proofs.CommandBounds.{epoch_of, work_few}
 use Rattle.vd_play.proofs.ShadowPace.{one_of}
 
 -- a device of a control ring has given no more than it has begun
@@ -80,7 +80,7 @@ pub offers_few : {D E G X C : Type 0} (s : Setting D E G X C) (law : IsLawful s)
     (v : DriverView) (w : DeviceView) → IsCommandDriven s plan words guest v w → length (offers v.done) ≤ length (control_commands plan)
 offers_few s law plan words guest v w p = omega (
   arith,
-  (law.guest.sent guest v (control_queue plan) p.part.holds p.part.script p.queue.some).some,
+  (any_sent s.driver s.guest law.guest guest v (control_queue plan) p.part.holds p.part.script p.queue.plain).some,
   length-map (control_queue plan).commands (λ b. b.items),
 )
 

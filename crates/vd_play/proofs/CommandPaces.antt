@@ -17,13 +17,13 @@ use Rattle.vd_relay.specs.declared.control.Mode.{Mode}
 use Rattle.vd_relay.specs.declared.control.Mode.TheVariants.{Replaying, Carrying, Leaving}
 use Rattle.vd_relay.specs.declared.counts.Counts.{Counts}
 use Rattle.vd_relay.specs.declared.state.State.{State}
-use Rattle.vd_relay.specs.Modes.{Opening, ControlHolds, Does}
+use Rattle.vd_relay.specs.Modes.{Opening, Does}
 use Rattle.vd_relay.specs.Stages.{is_rested}
 use Rattle.vd_switch.specs.Controlling.{ControlStart}
 use Rattle.vd_turns.specs.RelayTurns.{reached, did}
 use Rattle.vd_turns.specs.Turns.{GuestRun, DeviceRun}
+use Rattle.vd_control_lane.proofs.AnyScripts.{any_acked}
 use Rattle.vd_machine.specs.File.{Plan}
-use Rattle.vd_play.specs.AllWork.{command_work}
 use Rattle.vd_play.specs.Commands.{control_queue, control_commands, sent_at}
 use Rattle.vd_play.specs.CommandLane.{IsCommandDriven}
 use Rattle.vd_play.specs.CommandProgress.{AreCommandsPaced, HasCommandRelayHeard, command_bells_before}
@@ -53,7 +53,8 @@ module _ {D E G X C : Type 0} (s : Setting D E G X C) (law : IsLawful s) (plan :
       let offered : s.guest.offered guest' ≡ length (offers t.view.done) = law.guest.offered guest' t.view t.holds in
       let most : length (offers t.view.done) ≤ n = offers_few s law plan words' guest' t.view w p in
       let returned : length (s.guest.returned guest') ≤ length (collects t.view.done) =
-      (law.guest.acked guest' t.view (control_queue plan) t.holds p.part.script p.queue.some).some in
+      (any_acked s.driver s.guest law.guest guest' t.view (control_queue plan) t.holds p.part.script p.queue.plain
+      (omega (arith, lists.fewer, lists.count, lists.some))).some in
       let short : n ≤ 4096 = p.queue.few in
       let counted : s.guest.accesses guest' ≡ s.guest.accesses guest + made = t.accesses (omega (arith, low, short, few)) in
       let heard : s.guest.heard guest' ≤ driver_hearings t.view = omega (arith, t.heard, before) in

@@ -1,5 +1,5 @@
 -- A quiet lane of the control queue: not all parties sleep for two rounds while the device has commands to begin.
-use Rattle.std.proofs.Common.{◌≡◌, ◌⊎◌, inl, inr, ℕ, ◌+◌, ◌<◌, ◌≤◌, Bool, true, false, if◌then◌else◌, Some, List, [], length, refl, sym, ◌∙◌, ap, subst, arith}
+use Rattle.std.proofs.Common.{◌≡◌, inl, inr, ℕ, ◌+◌, ◌<◌, ◌≤◌, Bool, true, false, if◌then◌else◌, Some, List, [], length, refl, sym, ◌∙◌, ap, subst, arith}
 use Rattle.std.proofs.lemmas.Bool.{false≢true}
 use Rattle.std.proofs.lemmas.List.{length-map}
 use Rattle.vd_model.specs.declared.features.Features.{Features}
@@ -36,6 +36,7 @@ use Rattle.vd_switch.proofs.Asleep.{sleeps}
 use Rattle.vd_switch.proofs.AtRest.{control_at_rest}
 use Rattle.vd_turns.specs.RelayTurns.{HalfWaits}
 use Rattle.vd_control_lane.proofs.Sleeping.{replay_awake}
+use Rattle.vd_control_lane.proofs.AnyScripts.{any_sent_all, any_sleeps}
 use Rattle.vd_machine.specs.File.{Plan}
 use Rattle.vd_play.specs.Commands.{control_queue, control_commands}
 use Rattle.vd_play.specs.CommandLane.{IsCommandDriven}
@@ -66,7 +67,7 @@ module _ {D E G X C : Type 0} (s : Setting D E G X C) (law : IsLawful s) (plan :
   -- a guest that is done or sleeps owes nothing
   pub owes_none : IsQuietGuest s guest v w → driver_owed v.doing ≡ nothing
   owes_none (inl done) =
-      ap driver_owed ((law.guest.sent_all guest v (control_queue plan) p.part.holds p.part.script p.queue.some).0 done).idle
+      ap driver_owed ((any_sent_all s.driver s.guest law.guest guest v (control_queue plan) p.part.holds p.part.script p.queue.plain).0 done).idle
   owes_none (inr waits) = ap driver_owed waits.idle
 
   -- it isn't done, nor does it sleep, while all that it offered was given, and more is left
@@ -76,7 +77,7 @@ module _ {D E G X C : Type 0} (s : Setting D E G X C) (law : IsLawful s) (plan :
     arith,
     more,
     many,
-    ((law.guest.sent_all guest v (control_queue plan) p.part.holds p.part.script p.queue.some).0 done).offers,
+    ((any_sent_all s.driver s.guest law.guest guest v (control_queue plan) p.part.holds p.part.script p.queue.plain).0 done).offers,
   ))
   no_rest (inr waits) none all more =
       let places = law.layout.places words.words v w p.ring in
@@ -87,13 +88,13 @@ module _ {D E G X C : Type 0} (s : Setting D E G X C) (law : IsLawful s) (plan :
       let at : ℕ = s.driver.words.command v.frame (next_head v.frame v.done) in
       let ack : ℕ = s.driver.words.ack v.frame (next_head v.frame v.done) in
       let size : v.frame.size ≡ plan.size = ap (λ (f : Frame). f.size) p.part.framed in
-      law.guest.sleeps guest v (control_queue plan) waits.at p.part.holds p.part.script p.queue.some waits.armed c.0 c.1
+      any_sleeps s.driver s.guest law.guest guest v (control_queue plan) p.part.holds p.part.script p.queue.plain waits.at waits.armed c.0 c.1
       (empty_room v.frame v.done (command_chain s.driver.words v.frame (next_head v.frame v.done) c.0) (open_at v.done) refl empty
       (omega (arith, needs_two v.frame.features at ack (length c.0), size, p.queue.sized.0)))
 
 -- ---- the relay
 
-hears : (st : Stage) (v : DriverView) (w : DeviceView) (sv : DriverView) (sw : DeviceView) → HalfWaits st v w sv sw
+pub hears : (st : Stage) (v : DriverView) (w : DeviceView) (sv : DriverView) (sw : DeviceView) → HalfWaits st v w sv sw
     → is_hearing st ≡ true
 hears stage.HearingShadow v w sv sw h = refl
 hears stage.HearingGuest v w sv sw h = refl
@@ -168,8 +169,8 @@ module _ {D E G X C : Type 0} (s : Setting D E G X C) (law : IsLawful s) (plan :
   pub replay_wakes : control.mode ≡ Replaying → control.replay.stage ≡ Hearing → DriverWaits sv sw → ⊥
   replay_wakes mode hearing shadow = replay_awake s.device s.driver s.layout law.layout control.replay r.shadow shadow_words sv sw
       p.lane.controlling.parts.shadow_ring
-      (replays s.layout s.device s.driver x.opening r control settings c w sv control.mode mode p.lane.controlling.holds.does) hearing shadow
-      waits few.0
+      (replays s.layout s.device s.driver x.opening r control settings c w sv control.mode mode p.lane.controlling.holds.does) hearing
+      shadow waits few.0
 
   -- nor do all others, where the relay carries
   pub no_sleep : HalfWaits r.stage v w sv sw → IsQuietGuest s guest v w → DeviceWaits v w → DriverWaits sv sw → ⊥

@@ -1,6 +1,5 @@
 -- The device's turn in a round of the control queue's lane, by what the calls promise.
-use Rattle.std.proofs.Common.{◌≡◌, ℕ, ◌+◌, ◌≤◌, Bool, true, false, Option, Some, None, IsSomeAnd, List, length, refl, sym, ◌∙◌, subst, arith}
-use Rattle.std.proofs.lemmas.Bool.{false≢true}
+use Rattle.std.proofs.Common.{◌≡◌, ℕ, ◌+◌, ◌≤◌, Bool, true, false, Option, Some, None, IsSomeAnd, length, refl, sym, ap, ◌∙◌, subst}
 use Rattle.vd_words.specs.Plain.{RingWords}
 use Rattle.vd_ring.specs.declared.driver.DriverView.{DriverView}
 use Rattle.vd_ring.specs.declared.device.DeviceView.{DeviceView}
@@ -9,75 +8,35 @@ use Rattle.vd_layout.specs.declared.device.DeviceEnd as device_end
 use Rattle.vd_layout.specs.declared.driver.DriverEnd as driver_end
 use Rattle.vd_layout.specs.declared.layout.Layout as layout
 use Rattle.vd_bus.specs.Device.{IsSuspend}
-use Rattle.vd_control.specs.declared.settings.Settings.{Settings}
 use Rattle.vd_relay.specs.declared.control.Control.{Control}
-use Rattle.vd_relay.specs.declared.counts.Counts.{Counts}
-use Rattle.vd_relay.specs.declared.state.State.{State}
-use Rattle.vd_relay.specs.Modes.{Opening, ControlHolds}
+use Rattle.vd_relay.specs.Modes.{Opening, ControlHolds, has_replayed}
 use Rattle.vd_relay.specs.Stages.{is_rested}
 use Rattle.vd_switch.specs.declared.shadowing.Shadowing.{Shadowing}
 use Rattle.vd_switch.specs.declared.still.Still.{Still}
 use Rattle.vd_turns.specs.Turns.{DeviceTurn, DeviceTurns, CanServe}
 use Rattle.vd_machine.specs.File.{Plan}
 use Rattle.vd_play.specs.declared.floor.Relaying.{Relaying}
-use Rattle.vd_play.specs.CommandProgress.{IsCommandShadowing, IsCommandWinding, CommandRelayingBy, IsCommandRelaying, InCommandRoundWith}
+use Rattle.vd_play.specs.CommandProgress.{IsCommandShadowing, CommandRelayingBy, IsCommandRelaying, InCommandRoundWith}
 use Rattle.vd_play.specs.CommandProgress.Next.{guests, devices}
+use Rattle.vd_play.specs.CommandRounds.{is_replayed}
 use Rattle.vd_play.specs.Progress.{steps}
 use Rattle.vd_play.specs.Setting.{Setting, IsLawful}
 use Rattle.vd_play.proofs.CommandDevices.{device_shadows, device_winds}
 use Rattle.vd_play.proofs.CommandLanes.{relaying_of, round_of, control_of, shadowing_of}
+use Rattle.vd_play.proofs.CommandReplays.{same_done}
 
 -- what a relay's control is after the call, with both facts of it
 both_of : (P Q : Control → Type 0) (o : Option Control) → IsSomeAnd o P → IsSomeAnd o Q → (y : Control) × (o ≡ Some y) × P y × Q y
 both_of P Q None p q = absurd p
 both_of P Q (Some y) p q = (y, refl, p, q)
 
-module _ {D E G X C : Type 0} (s : Setting D E G X C) (plan : Plan) (k n : ℕ) (words : RingWords) (relayed : ℕ) (guest : G)
-    (device : X) where
-  -- a lane that winds up has had its round
-  winds_by : (o : Option Control) (w : Bool) (shadow_words : List ℕ) (r : State E D) (settings : Settings) (c : Counts) → w ≡ true
-      → CommandRelayingBy o w s plan devices k n words shadow_words r settings c relayed guest device
-      → CommandRelayingBy o w s plan guests k (n + 1) words shadow_words r settings c relayed guest device
-  winds_by None w shadow_words r settings c is p = absurd p
-  winds_by (Some y) false shadow_words r settings c is p = absurd (false≢true is)
-  winds_by (Some y) true shadow_words r settings c is p = record {
-    start = p.start;
-    view = p.view;
-    device_view = p.device_view;
-    shadow_view = p.shadow_view;
-    shadow_device_view = p.shadow_device_view;
-    kept = p.kept;
-    served = p.served;
-    winds = p.winds;
-    paced = p.paced;
-    heard = p.heard;
-    rounds = omega (arith, p.rounds);
-  }
-
 module _ {L D E G X C : Type 0} {i : layout.Ghosts L D E} {j : driver_end.Ghosts D} {h : device_end.Ghosts E} (s : Setting D E G X C)
     (plan : Plan) (k n : ℕ) (words : RingWords) (relayed : ℕ) (guest : G) (device : X) (on : Bool)
     (still : Option (Still L D E i j h)) where
-  -- so has a still lane
-  pub stays : (o : Option (Relaying L D E)) → o ≡ None → InCommandRoundWith s plan devices on k n words still o relayed guest device
-      → InCommandRoundWith s plan guests on k (n + 1) words still o relayed guest device
-  stays (Some x) is p = absurd (cc)
-  stays None is p = at still p
-    where
-      at : (y : Option (Still L D E i j h)) → InCommandRoundWith s plan devices on k n words y None relayed guest device
-          → InCommandRoundWith s plan guests on k (n + 1) words y None relayed guest device
-      at None p = absurd p
-      at (Some y) p = p
-
   module _ (x : Relaying L D E) (o : Option (Relaying L D E)) (is : o ≡ Some x)
       (p : InCommandRoundWith s plan devices on k n words still o relayed guest device) where
     at : (on ≡ true) × (still ≡ None) × IsCommandRelaying s plan devices k n words x relayed guest device
     at = relaying_of s plan k n words relayed guest device devices on still o x is p
-
-    pub goes_winding : x.lane.relay.state.winding ≡ true
-        → InCommandRoundWith s plan guests on k (n + 1) words still (Some x) relayed guest device
-    goes_winding winding = round_of s plan k (n + 1) words relayed guest device guests on still x at.0 at.1
-        (winds_by s plan k n words relayed guest device x.lane.relay.control x.lane.relay.state.winding x.words.words x.lane.relay.state x.lane.relay.settings
-        x.lane.relay.counts winding at.2)
 
     pub controls : (y : Control) × (x.lane.relay.control ≡ Some y)
     controls = control_of s plan k n words relayed guest device devices x.lane.relay.control x.lane.relay.state.winding x.words.words
@@ -110,6 +69,20 @@ module _ {L D E G X C : Type 0} {i : layout.Ghosts L D E} {j : driver_end.Ghosts
           x.words.words x.lane.relay.state x.lane.relay.settings x.lane.relay.counts same off at.2 in
           (p.start.opening, p.device_view, p.shadow_view, p.kept.lane.controlling.holds)
 
+      -- a relay that begins to wind up has replayed as much as before
+      pub winds_same : (lane2 : Shadowing L D E) → IsSomeAnd lane2.relay.control (λ y'. (z : Opening) (w : DeviceView) (v : DriverView)
+          → ControlHolds s.layout s.device s.driver z x.lane.relay.state controls.0 x.lane.relay.settings x.lane.relay.counts w v
+          → ControlHolds s.layout s.device s.driver z lane2.relay.state y' lane2.relay.settings lane2.relay.counts w v)
+          → IsSomeAnd lane2.relay.control (λ y'. (y'.mode ≡ controls.0.mode) × (y'.replay.next ≡ controls.0.replay.next))
+          → has_replayed lane2.relay.control ≡ is_replayed o
+      winds_same lane2 holds far =
+          let y = both_of _ _ lane2.relay.control holds far in
+          let p = holds_control controls.0 controls.1 in
+          ap has_replayed y.1
+          ∙ same_done s.layout s.device s.driver p.0 x.lane.relay.state lane2.relay.state controls.0 y.0 x.lane.relay.settings
+          lane2.relay.settings x.lane.relay.counts lane2.relay.counts p.1 p.2 p.3 (y.2 p.0 p.1 p.2 p.3) y.3.1
+          ∙ ap has_replayed (sym controls.1) ∙ ap is_replayed (sym is)
+
       module _ (law : IsLawful s) (shadow2 : RingWords) (device1 : X) (d : ℕ) (few : d ≤ 4)
           (turns : DeviceTurns s.layout s.party x.words.words shadow2.words device device1 d) where
         device_at : DeviceTurn s.layout s.party shadow2.words shadows.shadow_view shadows.shadow_device_view device device1 d
@@ -118,9 +91,6 @@ module _ {L D E G X C : Type 0} {i : layout.Ghosts L D E} {j : driver_end.Ghosts
 
         pub device_holds : (w : DeviceView) × s.party.holds device1 w
         device_holds = (device_at.run.view, device_at.run.holds)
-
-        pub device_carries : (s.party.carried device1 ≡ s.party.carried device) × (s.party.faults device1 ≡ s.party.faults device)
-        device_carries = (device_at.run.served.carried, device_at.run.served.faults)
 
         -- a lane that goes on with a relay
         with_relay : (x2 : Relaying L D E) (y2 : Control) (w : Bool) (device2 : X) → x2.lane.relay.control ≡ Some y2

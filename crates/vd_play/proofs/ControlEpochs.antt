@@ -4,7 +4,6 @@ use Rattle.std.specs.List.{filter_map}
 use Rattle.std.proofs.lemmas.List.{take-append-drop, take-take, drop-take, take_all, length-map, length-drop, length-take-le}
 use Rattle.std.proofs.lemmas.List.Elements.{All-take, filter_map-append}
 use Rattle.std.proofs.lemmas.List.Sums.{fold-append}
-use Rattle.vd_control.specs.declared.command.Command.{Command}
 use Rattle.vd_control.specs.declared.settings.Settings.{Settings}
 use Rattle.vd_control.specs.Commands.{command, spelled}
 use Rattle.vd_control.specs.Settings.{HasPairs, applied, default, folded, replay, has_flag, has_vlan, is_zeros}
@@ -15,9 +14,9 @@ use Rattle.vd_commands.specs.Words.{set_by}
 use Rattle.vd_machine.specs.File.{Plan}
 use Rattle.vd_play.specs.Commands.{control_commands, control_epochs, sent_at, settings_at, settings_of, own_commands, replayed_commands}
 use Rattle.vd_play.specs.ControlJournal.{epoch_commands, journalled_at, journal_commands}
-use Rattle.vd_play.specs.Epochs.{Epoch, AreChained, AreNumbered, begun_before}
+use Rattle.vd_play.specs.Epochs.{Epoch, AreChained, AreNumbered}
 use Rattle.vd_play.specs.Switching.{IsSwitched}
-use Rattle.vd_play.specs.AllWork.{replayed_count, command_work}
+use Rattle.vd_play.specs.AllWork.{command_work}
 use Rattle.vd_play.proofs.Bounds.{Bounded, bounded, flat_more}
 use Rattle.vd_play.proofs.Chained.{chained, numbered}
 

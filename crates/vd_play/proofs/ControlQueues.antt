@@ -1,7 +1,7 @@
 -- What a machine's rules say of its control queue: each command has 3 to 10 bytes, and there are no more of them than there may be.
-use Rattle.std.proofs.Common.{◌≡◌, ℕ, zero, suc, get_or, ◌<◌, ◌≤◌, ◌&&◌, ◌==◌, nat_le, Bool, true, false, Option, Some, None, is_some, unwrap_or, List, [], ◌∷◌, length, map, refl, sym, ◌∙◌, ap, subst, arith}
+use Rattle.std.proofs.Common.{◌≡◌, ℕ, suc, get_or, ◌<◌, ◌≤◌, ◌&&◌, ◌==◌, nat_le, true, Option, Some, None, unwrap_or, List, [], ◌∷◌, length, map, refl, arith}
 use Rattle.std.specs.List.{All, list_all}
-use Rattle.std.proofs.lemmas.Bool.{and_parts, leb-true, eqb-true, false≢true}
+use Rattle.std.proofs.lemmas.Bool.{and_parts, leb-true, eqb-true}
 use Rattle.std.proofs.lemmas.List.{length-map}
 use Rattle.std.proofs.lemmas.List.Elements.{All-nil, All-cons}
 use Rattle.arrayvec.specs.ArrayVec.{ArrayVec}
@@ -9,7 +9,7 @@ use Rattle.vd_model.specs.declared.record.Run.{Run}
 use Rattle.vd_model.specs.declared.record.Script.{Script}
 use Rattle.vd_layout.specs.Layout.{LayoutModel, CanMake}
 use Rattle.vd_text.proofs.CommandTexts.{command_parts}
-use Rattle.vd_bus.specs.GuestCommands.{IsCommandLength, HasCommands}
+use Rattle.vd_bus.specs.GuestCommands.{IsCommandLength}
 use Rattle.vd_control_lane.specs.Scripts.{AreSendable}
 use Rattle.vd_machine.specs.Commands.{is_lawful_command, is_control, is_lawful_control}
 use Rattle.vd_machine.specs.File.{Plan}
@@ -75,17 +75,17 @@ control_lawful plan h = parts_of plan.control h
 pub control_bytes : (plan : Plan) → is_lawful_control plan.control ≡ true → AreBytes plan
 control_bytes plan h = (control_lawful plan h).sendable.bytes
 
--- what a play needs to know of a control queue that has commands
+-- what a play needs to know of a control queue
 pub control_queue_is : (l : LayoutModel) (plan : Plan) → is_lawful_control plan.control ≡ true
     → is_lawful_size plan.packed plan.size ≡ true → are_switches plan.switches ≡ true → CanMake l plan.size plan.features
-    → HasControl plan → HasCommands (control_queue plan) → IsCommandQueue l plan
-control_queue_is l plan lawful sized switches can there some =
+    → HasControl plan → IsCommandQueue l plan
+control_queue_is l plan lawful sized switches can there =
     let parts : ControlParts (control_queue plan) = control_lawful plan lawful in
     let switched : IsSwitched plan = switched_is plan switches in
     let bounds = size_bounds plan.packed plan.size sized in
     record {
       there = there;
-      some = some;
+      plain = parts.runs;
       sendable = parts.sendable;
       few = omega (arith, parts.few, length-map (control_queue plan).commands (λ (c : ArrayVec ℕ). c.items));
       sized = (bounds.0, omega (arith, bounds.1));

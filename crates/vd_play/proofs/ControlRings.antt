@@ -1,18 +1,16 @@
 -- The ring of one queue is brought up, and the control queue's ring is set behind those of the data queues.
-use Rattle.std.proofs.Common.{◌≡◌, ℕ, ◌<◌, ◌≤◌, Bool, true, false, List, [], length, refl, sym, ◌∙◌, ap, subst, arith}
+use Rattle.std.proofs.Common.{◌≡◌, ℕ, ◌<◌, ◌≤◌, false, List, [], length, refl, sym, ◌∙◌, ap, arith}
 use Rattle.std.proofs.lemmas.Bool.{false≢true}
 use Rattle.vd_model.specs.declared.base.Mode.{Mode}
-use Rattle.vd_layout.specs.Device.{DeviceModel}
 use Rattle.vd_bus.specs.declared.bus.vring.Vring.{Vring}
 use Rattle.vd_bus.specs.Bus.{BusState, control_queue}
 use Rattle.vd_bus.specs.BusRings.{after_num, after_base}
 use Rattle.vd_machine.specs.File.{Plan}
-use Rattle.vd_play.specs.declared.floor.Lane.{Lane}
 use Rattle.vd_play.specs.ControlRing.{with_ring, with_addr, with_control_ring, with_control_addr, with_control_base}
 use Rattle.vd_play.specs.Journal.{ring_in}
-use Rattle.vd_play.specs.Places.{HasControl, queue_total, control_place, control_ring}
+use Rattle.vd_play.specs.Places.{queue_total, control_place, control_ring}
 use Rattle.vd_play.specs.Setup.{set_up, with_vrings, vring_at, Stands, IsBrought, IsRing, HasSizes, HasRings, KeepsRings, HasControlBase}
-use Rattle.vd_play.proofs.Buses.{own, own_all, stands_vrings}
+use Rattle.vd_play.proofs.Buses.{own, own_all}
 use Rattle.vd_play.proofs.Places.{IsAt, control_at, where_control}
 use Rattle.vd_play.proofs.RingsSet.{sized_is, sized_many, sized_here, sized_other, addressed_is, addressed_many, addressed_here, addressed_other, based_is, based_keeps, based_here, based_other}
 

@@ -1,5 +1,5 @@
 -- What the commands of the control queue have set as an epoch begins.
-use Rattle.std.proofs.Common.{◌≡◌, ℕ, zero, suc, Option, None, unwrap_or, List, [], take, refl, ◌∙◌, ap}
+use Rattle.std.proofs.Common.{◌≡◌, ℕ, zero, suc, Option, None, unwrap_or, List, [], take, refl, ap}
 use Rattle.vd_model.specs.declared.record.Script.{Script}
 use Rattle.vd_control.specs.Settings.{default, folded}
 use Rattle.vd_bus.specs.GuestCommands.{commands}

@@ -9,8 +9,8 @@ use Rattle.vd_control.proofs.Passing.{kept, passing-none, passing-more}
 use Rattle.vd_model.specs.declared.record.Script.{Script}
 use Rattle.vd_machine.specs.File.{Plan}
 use Rattle.vd_machine.specs.Words.{control_count}
-use Rattle.vd_play.specs.AllWork.{replayed_count, command_work, command_rings, all_work, all_rings, most_steps_of_all}
-use Rattle.vd_play.specs.Commands.{control_commands, control_epochs, settings_at, replayed_commands}
+use Rattle.vd_play.specs.AllWork.{command_work, command_rings, all_work, all_rings, most_steps_of_all}
+use Rattle.vd_play.specs.Commands.{control_epochs, settings_at, replayed_commands}
 use Rattle.vd_play.specs.Epochs.{Epoch}
 use Rattle.vd_play.specs.Progress.{work, rings, most_steps}
 use Rattle.vd_play.proofs.ControlSettings.{commands_none, settings_none}

@@ -1,5 +1,5 @@
 -- One ring of a bus is set, and the others stay.
-use Rattle.std.proofs.Common.{◌≡◌, ℕ, ◌<◌, Bool, true, false, IfSome, List, length, slice_set, Option, Some, None, inl, inr, refl, sym, ◌∙◌, ap, subst, arith}
+use Rattle.std.proofs.Common.{◌≡◌, ℕ, ◌<◌, Bool, true, false, IfSome, List, length, slice_set, Option, Some, None, inl, inr, refl, sym, ◌∙◌, ap, subst}
 use Rattle.std.proofs.lemmas.Bool.{cases_eq}
 use Rattle.std.proofs.lemmas.List.{length-set, get_or-set_same, get_or-set_other}
 use Rattle.vd_model.specs.declared.base.Mode.{Mode}
@@ -12,7 +12,7 @@ use Rattle.vd_bus.specs.BusRings.{after_num, base_fault, after_base, after_addr}
 use Rattle.vd_bus.specs.BusStatus.{is_running, with_suspended}
 use Rattle.vd_machine.specs.File.{Plan}
 use Rattle.vd_play.specs.Journal.{ring_in}
-use Rattle.vd_play.specs.Places.{HasControl, queue_total, control_place, control_ring}
+use Rattle.vd_play.specs.Places.{queue_total, control_place, control_ring}
 use Rattle.vd_play.specs.Setup.{set_up, ring_addr, with_vrings, with_map, vring_at, serving, base_in, HasSizes, IsRing, HasRings, KeepsRings}
 use Rattle.vd_play.proofs.Buses.{ring_put, ring_got, no_base_fault}
 use Rattle.vd_play.proofs.Places.{IsAt, data_within, control_within}

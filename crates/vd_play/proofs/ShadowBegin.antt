@@ -1,5 +1,5 @@
 -- A lane that is still, and its device's attach to a shadow ring.
-use Rattle.std.proofs.Common.{◌≡◌, ℕ, ◌+◌, ◌*◌, ◌-◌, ◌<◌, ◌≤◌, inl, Option, None, false, List, [], ◌∷◌, ◌++◌, length, map, take, slice_index_or, refl, sym, ◌∙◌, ap, subst, arith}
+use Rattle.std.proofs.Common.{◌≡◌, ℕ, ◌+◌, ◌*◌, ◌-◌, ◌<◌, ◌≤◌, inl, Option, false, List, [], ◌∷◌, length, map, take, slice_index_or, refl, sym, ◌∙◌, ap, subst, arith}
 use Rattle.std.specs.List.{All, zip}
 use Rattle.std.proofs.lemmas.Bool.{le-ltb}
 use Rattle.std.proofs.lemmas.List.{length-map, take_all, get_or-map}
@@ -17,7 +17,6 @@ use Rattle.vd_ring.specs.Fresh.{fresh_driver, fresh_device}
 use Rattle.vd_ring.specs.History.{takes, gives, used_at, entry}
 use Rattle.vd_layout.specs.Layout.{IsMadeWith}
 use Rattle.vd_bus.specs.declared.device.Attached.{Attached}
-use Rattle.vd_bus.specs.declared.event.Event.{Event}
 use Rattle.vd_bus.specs.declared.event.Event.TheVariants.{Attach}
 use Rattle.vd_bus.specs.Device.{IsAttach, lens_of, control_settings}
 use Rattle.vd_bus.specs.Orders.{mode_of}

@@ -16,7 +16,7 @@ use Rattle.vd_machine.specs.File.{Plan}
 use Rattle.vd_play.specs.declared.floor.Lane.{Lane}
 use Rattle.vd_play.specs.declared.floor.Relaying.{Relaying}
 use Rattle.vd_play.specs.Journal.{tree_map}
-use Rattle.vd_play.specs.Progress.{steps, IsShadowing, IsStopped, RelayingBy, InEpoch}
+use Rattle.vd_play.specs.Progress.{steps, IsStopped, RelayingBy, InEpoch}
 use Rattle.vd_play.specs.Setting.{Setting, IsLawful}
 use Rattle.vd_turns.specs.RelayTurns.{RelayTurn, RelayTurns, CanRelay}
 use Rattle.vd_turns.specs.Turns.{GuestTurn, GuestTurns, DeviceTurn, DeviceTurns, CanServe}

@@ -1,5 +1,6 @@
 -- What prepare leaves of the parties.
 use Rattle.std.proofs.Common.{◌≡◌, ℕ, zero, suc, ◌<◌, Some, List, [], ◌∷◌, ◌++◌, length, set, slice_get, refl, sym, ◌∙◌, ap, subst, arith}
+use Rattle.std.specs.List.{All}
 use Rattle.std.proofs.lemmas.List.Elements.{All-weaker, All-set, All-same}
 use Rattle.std.proofs.lemmas.Option.{slice_get_within, get_or_from_slice_get}
 use Rattle.vd_layout.specs.Driver.{DriverModel}
@@ -32,6 +33,13 @@ untouched_start d g m gue b e = record {
   guests = All-weaker (IsEmptyGuest g) (IsUnused g)
       (λ x h. record { offered = (gue.unloaded x h.script).0; returned = (gue.unloaded x h.script).1; idle = h.idle }) b.guests.items
       e.guests;
+  devices = λ k x y hx hy. subst (λ z. IsUnchanged m x z) (some_same x y (slice_get b.devices.items k) hx hy) (unchanged_none m x);
+}
+
+pub untouched_none : {G X C : Type 0} (g : GuestParty G) (m : DeviceParty X C) (b : Bench G X) → All (IsUnused g) b.guests.items
+    → IsUntouched g m b b
+untouched_none g m b unused = record {
+  guests = unused;
   devices = λ k x y hx hy. subst (λ z. IsUnchanged m x z) (some_same x y (slice_get b.devices.items k) hx hy) (unchanged_none m x);
 }
 

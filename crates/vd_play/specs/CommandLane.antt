@@ -15,7 +15,6 @@ use Rattle.vd_control.specs.declared.settings.Settings.{Settings}
 use Rattle.vd_control.specs.Settings.{default}
 use Rattle.vd_bus.specs.declared.event.Event.{Event}
 use Rattle.vd_bus.specs.declared.event.Event.TheVariants.{Attach, Reset}
-use Rattle.vd_bus.specs.GuestCommands.{HasCommands}
 use Rattle.vd_switch.specs.CommandLanes.{AreAnsweredTo}
 use Rattle.vd_control_lane.specs.Scripts.{AreSendable}
 use Rattle.vd_machine.specs.File.{Plan}
@@ -36,7 +35,7 @@ most_commands = 4096
 -- what the machine's rules and its ring's size say of the control queue
 pub record IsCommandQueue (l : LayoutModel) (plan : Plan) : Type 0 where
   pub there : HasControl plan
-  pub some : HasCommands (control_queue plan)
+  pub plain : (control_queue plan).runs ≡ []
   pub sendable : AreSendable (control_commands plan)
   pub few : length (control_commands plan) ≤ most_commands
   pub sized : (2 ≤ plan.size) × (plan.size ≤ 32768)

@@ -1,21 +1,16 @@
 -- What holds of the control queue's lane in an epoch: a relay stands between the guest's ring and the epoch's shadow ring.
-use Rattle.std.specs.Prelude.{◌≡◌, ℕ, ◌+◌, ◌<◌, true, false, List, [], length, map, take, Some, None, if◌then◌else◌}
-use Rattle.vd_model.specs.declared.record.Begun.{Begun}
+use Rattle.std.specs.Prelude.{◌≡◌, ℕ, ◌+◌, ◌<◌, List, [], length, map, take, Some, None, if◌then◌else◌}
 use Rattle.vd_words.specs.Plain.{RingWords}
 use Rattle.vd_ring.specs.declared.driver.DriverView.{DriverView}
 use Rattle.vd_ring.specs.declared.device.DeviceView.{DeviceView}
-use Rattle.vd_layout.specs.Driver.{DriverModel}
-use Rattle.vd_layout.specs.Device.{DeviceModel}
-use Rattle.vd_layout.specs.Layout.{LayoutModel}
 use Rattle.vd_control.specs.declared.settings.Settings.{Settings}
 use Rattle.vd_control.specs.Settings.{default}
 use Rattle.vd_bus.specs.Orders.{IsControl}
 use Rattle.vd_relay.specs.declared.control.Control.{Control}
 use Rattle.vd_relay.specs.declared.counts.Counts.{Counts}
 use Rattle.vd_relay.specs.declared.state.State.{State}
-use Rattle.vd_switch.specs.Controlling.{ControlStart, IsControlling}
-use Rattle.vd_switch.specs.CommandLanes.{AreAnsweredTo}
-use Rattle.vd_switch.specs.CommandSettling.{AcksCount}
+use Rattle.vd_switch.specs.Controlling.{ControlStart}
+use Rattle.vd_turns.specs.ControlTurns.{IsControlLane}
 use Rattle.vd_machine.specs.File.{Plan}
 use Rattle.vd_play.specs.CommandLane.{IsCommandDriven, IsCommandAccount, AreCommandsReserved, AreCommandEvents, HasCommandRoom, command_attached}
 use Rattle.vd_play.specs.Commands.{control_commands, control_epochs, sent_at, settings_at}
@@ -23,14 +18,6 @@ use Rattle.vd_play.specs.ControlJournal.{journalled_at}
 use Rattle.vd_play.specs.ControlRings.{control_shadow_frame}
 use Rattle.vd_play.specs.Epochs.{renewed_at}
 use Rattle.vd_play.specs.Setting.{Setting}
-
--- the lane of the control queue between two accesses: what its relay holds, its rings and its journal, and the acks
-pub record IsControlLane {E D : Type 0} (l : LayoutModel) (e : DeviceModel E) (d : DriverModel D) (x : ControlStart) (begun : List Begun)
-    (now : Settings) (words shadow : List ℕ) (v : DriverView) (w : DeviceView) (sv : DriverView) (sw : DeviceView) (r : State E D)
-    (k : Control) (s : Settings) (c : Counts) : Type 0 where
-  pub controlling : IsControlling l e d x r k s c begun now words shadow v w sv sw
-  pub answers : AreAnsweredTo (length x.opening.gives) v w
-  pub acks : AcksCount sv.done
 
 -- where the lane stood as epoch k began: its relay took over where all commands begun before were given back, and replays what they have
 -- set after a renewal, which has reset the device. The device is attached to begin the epoch's commands

@@ -8,9 +8,11 @@ use Rattle.vd_model.specs.declared.record.Return.{Return}
 use Rattle.vd_ring.specs.declared.driver.DriverView.{DriverView}
 use Rattle.vd_ring.specs.History.{occurs}
 use Rattle.vd_machine.specs.File.{Plan}
+use Rattle.vd_play.specs.declared.bench.Bench.{Bench}
 use Rattle.vd_play.specs.Commands.{control_queue, control_commands, control_epochs, sent_at, settings_of, replayed_commands, IsAnswered, AreAnswered}
 use Rattle.vd_play.specs.ControlJournal.{epoch_commands, commands_before, journal_commands, control_events, AreCommandBases}
 use Rattle.vd_play.specs.Epochs.{Epoch}
+use Rattle.vd_play.specs.Places.{HasControl, control_place}
 use Rattle.vd_play.specs.Returned.{returned_numbers}
 use Rattle.vd_play.specs.Setting.{Setting}
 
@@ -70,3 +72,16 @@ pub record AreCommandsCut {D E G X C : Type 0} (s : Setting D E G X C) (plan : P
   pub each : All HasAckLength (s.party.begun device)
   pub once : (k : ℕ) → occurs k (returned_numbers (s.guest.returned guest)) ≤ 1
   pub returned : All (IsAnsweredBegun plan own) (s.guest.returned guest)
+
+-- ---- of a whole bench
+
+-- so it is with the guest and the device of the control queue, where there is one
+abbrev pub AtControl : {G X : Type 0} → (G → X → Type 0) → Plan → Bench G X → Type 0
+AtControl P plan bench = HasControl plan → (guest : _) (device : _) → slice_get bench.guests.items (control_place plan) ≡ Some guest
+    → slice_get bench.devices.items (control_place plan) ≡ Some device → P guest device
+
+abbrev pub AllCommandsPlayed : {D E G X C : Type 0} → Setting D E G X C → Plan → Bench G X → Type 0
+AllCommandsPlayed s plan bench = AtControl (IsCommandsPlayed s plan) plan bench
+
+abbrev pub AllCommandsCut : {D E G X C : Type 0} → Setting D E G X C → Plan → Bench G X → Type 0
+AllCommandsCut s plan bench = AtControl (AreCommandsCut s plan) plan bench

@@ -1,6 +1,5 @@
 -- How the ring of one queue is set on the bus of a machine, that of the control queue among them, and the order to serve that ring.
 use Rattle.std.specs.Prelude.{ℕ, if◌then◌else◌, is_some}
-use Rattle.vd_model.specs.declared.base.Base.{Base}
 use Rattle.vd_model.specs.declared.base.Mode.{Mode}
 use Rattle.vd_layout.specs.Layout.{LayoutModel}
 use Rattle.vd_bus.specs.Bus.{BusState, control_queue}

@@ -1,5 +1,5 @@
 -- The control queue's rings: its guest's, and a shadow ring for every epoch, the closing one too.
-use Rattle.std.specs.Prelude.{◌≡◌, ℕ, ◌+◌, ◌*◌, ◌≤◌, true, None, List, length, replicate, slice_get, Some}
+use Rattle.std.specs.Prelude.{◌≡◌, ℕ, ◌+◌, ◌*◌, true, None, List, length, replicate, slice_get, Some}
 use Rattle.vd_ring.specs.declared.frame.Frame.{Frame}
 use Rattle.vd_layout.specs.Both.{plain_frame}
 use Rattle.vd_layout.specs.Driver.{DriverModel}

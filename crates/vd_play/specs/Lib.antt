@@ -24,10 +24,13 @@ pub mod Prepared
 pub mod Rounds
 pub mod Alone
 pub mod GuestsAlone
+pub mod CommandEpochs
 pub mod Tree
 pub mod Places
+pub mod CommandPrepared
 pub mod Setup
 pub mod ControlRing
 pub mod Attaching
 pub mod Switching
 pub mod Renewing
+pub mod CommandRenewing

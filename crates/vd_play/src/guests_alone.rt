@@ -1,5 +1,5 @@
 //! Rounds of the guests alone: while the settings of the control queue are replayed, no device of a data queue is attached.
-ghost use Rattle.std.specs.Prelude.{◌≡◌, ℕ, ◌≤◌, ◌+◌, List, false, length};
+ghost use Rattle.std.specs.Prelude.{◌≡◌, ℕ, ◌≤◌, ◌+◌, List, false, length, map};
 ghost use Rattle.std.specs.List.{sum_by};
 ghost use Rattle.vd_machine.specs.File.{Plan};
 ghost use Rattle.vd_play.specs.GuestsAlone.{GuestGoes, GuestsGo};
@@ -23,6 +23,7 @@ fn guest_alone<L: Layout, G: Guest<L>, V: Device<L>>(
     requires lane { (plan : Plan) × (q : ℕ) × (k : ℕ) × (n : ℕ) × (x : V)
         × InEpoch (setting_of L.Driver.driver L.Device.device L.layout G.party V.party) plan q false k n lane.old guest.old x }
     ensures few { result ≤ 4 }
+    ensures end { lane.new.still ≡ lane.old.still }
     ensures goes { GuestGoes (setting_of L.Driver.driver L.Device.device L.layout G.party V.party) lane.old lane.new guest.old guest.new
         result }
 {
@@ -45,6 +46,7 @@ pub(crate) fn guests_round<L: Layout, G: Guest<L>, V: Device<L>>(
     ensures few { result ≤ 32 }
     ensures keeps { KeepsBench V.party (length floor.old.lanes.items) bench.old bench.new }
     ensures devices { bench.new.devices ≡ bench.old.devices }
+    ensures ends { map (λ l. l.still) floor.new.lanes.items ≡ map (λ l. l.still) floor.old.lanes.items }
     ensures goes { GuestsGo (setting_of L.Driver.driver L.Device.device L.layout G.party V.party) floor.old.lanes.items
         floor.new.lanes.items bench.old.guests.items bench.new.guests.items result }
 {

@@ -4,9 +4,13 @@
 mod alone;
 mod bench;
 mod calls;
+mod command_attach;
 mod command_count;
+mod command_end;
+mod command_epochs;
 mod command_kits;
 mod command_lane;
+mod command_preparing;
 mod command_rounds;
 mod control_ring;
 mod epoch;

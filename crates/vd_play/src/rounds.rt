@@ -22,7 +22,7 @@ pub(crate) const ROUNDS: u64 = 4_294_967_296;
 
 impl<L: Layout> Floor<L> {
     /// Whether each lane is still.
-    fn is_still(&self) -> bool
+    pub(crate) fn is_still(&self) -> bool
         ensures { result ≡ list_all (λ l. is_some l.still) self.now.lanes.items }
     {
         self.lanes.iter().all(|lane| lane.still.is_some())
@@ -30,7 +30,10 @@ impl<L: Layout> Floor<L> {
 }
 
 /// Whether the guests of the first `queues` queues are done.
-fn all_done<L: Layout, G: Guest<L>, V: Device<L>>(queues: usize, bench: &Bench<G, V>) -> bool
+pub(crate) fn all_done<L: Layout, G: Guest<L>, V: Device<L>>(
+    queues: usize,
+    bench: &Bench<G, V>,
+) -> bool
     requires { queues ≤ length bench.now.guests.items }
     ensures { IsTrue result → AllDone G.party queues bench.now }
 {
@@ -44,7 +47,7 @@ fn all_done<L: Layout, G: Guest<L>, V: Device<L>>(queues: usize, bench: &Bench<G
 
 /// A round of each lane, in the order of the queues. It answers how many steps were no look of a sleeper.
 #[inline(always)]
-fn round<L: Layout, G: Guest<L>, V: Device<L>>(
+pub(crate) fn round<L: Layout, G: Guest<L>, V: Device<L>>(
     floor: &mut Floor<L>,
     bench: &mut Bench<G, V>,
     draws: &mut Draws,

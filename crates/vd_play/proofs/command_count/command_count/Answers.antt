@@ -1,4 +1,4 @@
-use Rattle.std.proofs.Common.{◌≡◌, ◌+◌, arith}
+use Rattle.std.proofs.Common.{arith}
 use Rattle.vd_machine.specs.File.{view, Plan}
 use Rattle.vd_play.proofs.Chained.{switched_is}
 use Rattle.vd_play.proofs.CommandCounts.{epoch_bounded, epoch_many}

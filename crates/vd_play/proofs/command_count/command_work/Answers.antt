@@ -1,4 +1,4 @@
-use Rattle.std.proofs.Common.{◌≡◌, ◌<◌, ◌≤◌, ◌+◌, ℕ, List, length, take, flat_map, ap, arith}
+use Rattle.std.proofs.Common.{◌<◌, ◌≤◌, ◌+◌, ℕ, List, length, flat_map, ap, arith}
 use Rattle.std.proofs.lemmas.List.{take_all}
 use Rattle.vd_machine.specs.File.{view, Plan}
 use Rattle.vd_play.specs.Commands.{control_commands, control_epochs, replayed_commands}

@@ -1,4 +1,4 @@
-use Rattle.std.proofs.Common.{◌≡◌, sym, ◌∙◌}
+use Rattle.std.proofs.Common.{sym, ◌∙◌}
 use Rattle.vd_machine.specs.File.{view}
 use Rattle.vd_play.proofs.CommandCounts.{replayed_many, replayed_no}
 use Rattle.vd_play.proofs.command_count.replay_count.Goals as goal

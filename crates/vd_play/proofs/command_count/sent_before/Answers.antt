@@ -1,6 +1,5 @@
-use Rattle.std.proofs.Common.{◌≡◌, ◌-◌, ap, ◌∙◌, arith, length}
+use Rattle.std.proofs.Common.{◌-◌, ap, ◌∙◌, arith}
 use Rattle.vd_machine.specs.File.{view, Plan}
-use Rattle.vd_play.specs.Commands.{control_commands}
 use Rattle.vd_play.specs.Orders.{stop_of}
 use Rattle.vd_play.proofs.CommandCounts.{sent_stop}
 use Rattle.vd_play.proofs.command_count.sent_before.Goals as goal

@@ -2,7 +2,7 @@ use Rattle.std.proofs.Common.{◌≡◌, ◌∙◌, Some, sym, ap}
 use Rattle.std.proofs.lemmas.Bool.{false≢true}
 use Rattle.std.specs.Option.{option_copied_mut}
 use Rattle.vd_play.specs.Setting.{setting_of, IsLawful}
-use Rattle.vd_play.proofs.CommandTurns.{stays, goes_winding, controls, is_live, can_serve, live_relay, holds_control, device_holds, device_carries, goes_on, goes_done}
+use Rattle.vd_play.proofs.CommandTurns.{winds_same, controls, is_live, can_serve, live_relay, holds_control, device_holds, goes_on, goes_done}
 use Rattle.vd_play.proofs.command_rounds.command_device.Given.{Over}
 use Rattle.vd_play.proofs.command_rounds.command_device.Goals as goal
 use Rattle.vd_play.proofs.command_rounds.command_device.Goals.{In-Some}
@@ -86,3 +86,16 @@ returns-else-done-clause-goes g c = λ plan on k n guest h.
     c.device_turn-made.ensures.few c.device_turn-made.ensures.turn
     (λ d. false≢true (sym c.if-done.false ∙ c.done.ensures.1 d)) in
     (record { held = z.0; kits = h.kits }, z.1)
+
+pub returns-then-done-clause-replayed : goal.returns-then-done-clause-replayed
+returns-then-done-clause-replayed g c =
+    let s = setting_of g.L.Driver.DriverEnd.driver g.L.Device.DeviceEnd.device g.L.Layout.layout g.G.Guest.party g.V.Device.party in
+    let at = (goal.at.returns-then-done-clause-replayed g c).In-Some in
+    let r = c.requires.lane in
+    let lane = c.args.lane.now in
+    let off = sym c.winds.ensures ∙ c.if-winds.false in
+    let x = c.in-Some.relaying.now in
+    let e = c.begin_wind_up.ensures in
+    let y = controls s r.0 r.2 r.3 lane.words lane.relayed r.4 c.args.device.now r.1 lane.still x lane.relaying (relay_is g at) r.5.held in
+    winds_same s r.0 r.2 r.3 lane.words lane.relayed r.4 c.args.device.now r.1 lane.still x lane.relaying (relay_is g at) r.5.held off
+    c.begin_wind_up.new.self (e.commands y.0 y.1) (e.as_far y.0 y.1)

@@ -1,4 +1,3 @@
-use Rattle.std.proofs.Common.{◌≡◌}
 use Rattle.vd_play.specs.Setting.{setting_of}
 use Rattle.vd_play.proofs.CommandLanes.{can_drive, guest_goes}
 use Rattle.vd_play.proofs.command_rounds.command_guest.Goals as goal

@@ -1,4 +1,4 @@
-use Rattle.std.proofs.Common.{◌≡◌, ◌≤◌, false, [], length, arith, sym, ◌∙◌}
+use Rattle.std.proofs.Common.{◌≤◌, false, [], length, arith, sym, ◌∙◌}
 use Rattle.vd_bus.specs.Bus.{control_queue}
 use Rattle.vd_machine.proofs.Facts.{few_queues}
 use Rattle.vd_machine.specs.File.{view, Plan}

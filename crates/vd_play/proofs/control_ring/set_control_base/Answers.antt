@@ -1,4 +1,4 @@
-use Rattle.std.proofs.Common.{◌≡◌, ℕ, ◌≤◌, None, true, length, arith, sym, ◌∙◌, subst}
+use Rattle.std.proofs.Common.{◌≡◌, ℕ, ◌≤◌, None, length, arith, sym, ◌∙◌, subst}
 use Rattle.vd_bus.specs.Bus.{BusState, control_queue}
 use Rattle.vd_bus.specs.BusRings.{base_fault}
 use Rattle.vd_machine.proofs.Facts.{few_queues}

@@ -7,7 +7,7 @@ use Rattle.vd_play.specs.declared.floor.Lane.{Lane}
 use Rattle.vd_play.specs.Played.{KeepsBench}
 use Rattle.vd_play.proofs.Benches.{keeps_none, lanes_kept}
 use Rattle.vd_play.proofs.Bounds.{at_index}
-use Rattle.vd_play.proofs.Each.{stage_start, stage_end, stage_read, stage_guest}
+use Rattle.vd_play.proofs.Each.{map_set, stage_start, stage_end, stage_read, stage_guest}
 use Rattle.vd_play.proofs.GuestsAlone.{keeps_guest}
 use Rattle.vd_play.proofs.Sums.{sum_set}
 use Rattle.vd_play.proofs.guests_alone.guests_round.Goals as goal
@@ -20,6 +20,7 @@ loop-i-init g c = record {
   few = omega arith;
   keeps = keeps_none g.V.Device.party _ c.args.bench.now;
   devices = refl;
+  ends = refl;
   each = λ plan k n xs many start. stage_start _ _ _ _ _ start;
   counted = omega arith;
 }
@@ -59,6 +60,8 @@ loop-i-preserved g c =
       few = omega (arith, c.loop-i.invariant.few, c.guest_alone-made.ensures.few);
       keeps = keeps;
       devices = c.loop-i.invariant.devices;
+      ends = map_set (λ (l : Lane _ _ _). l.still) c.loop-i.floor.lanes.items i _ c.guest_alone-made.new.lane hl
+          c.guest_alone-made.ensures.end ∙ c.loop-i.invariant.ends;
       each = λ plan k r xs many start.
           let e = c.loop-i.invariant.each plan k r xs many start in
           let hx = at_index xs i (omega (arith, many, below)) in

@@ -1,4 +1,4 @@
-use Rattle.std.proofs.Common.{◌≡◌, ◌+◌, ◌*◌, ◌≤◌, ℕ, List, false, length}
+use Rattle.std.proofs.Common.{◌≡◌, ◌+◌, ◌*◌, ◌≤◌, ℕ, List, false, length, map}
 use Rattle.std.specs.List.{sum_by}
 use Rattle.vd_machine.specs.File.{Plan}
 use Rattle.vd_play.specs.declared.floor.Lane.{Lane}
@@ -17,6 +17,7 @@ invariant-loop-i g l = record {
   few : l.made ≤ 4 * l.i;
   keeps : KeepsBench g.V.Device.party (length l.initial.floor.lanes.items) l.initial.bench l.bench;
   devices : l.bench.devices ≡ l.initial.bench.devices;
+  ends : map (λ (z : Lane _ _ _). z.still) l.floor.lanes.items ≡ map (λ (z : Lane _ _ _). z.still) l.initial.floor.lanes.items;
   each : (plan : Plan) (k n : ℕ) (xs : List _) → length l.initial.floor.lanes.items ≤ length xs
       → AllWait (setting_of g.L.Driver.DriverEnd.driver g.L.Device.DeviceEnd.device g.L.Layout.layout g.G.Guest.party
       g.V.Device.party) plan k n l.initial.floor.lanes.items l.initial.bench.guests.items xs

@@ -1,4 +1,4 @@
-use Rattle.std.proofs.Common.{◌<◌, sym, ◌∙◌, arith}
+use Rattle.std.proofs.Common.{sym, ◌∙◌, arith}
 use Rattle.vd_machine.specs.File.{view}
 use Rattle.vd_play.proofs.Setups.{set_anew, set_on}
 use Rattle.vd_play.proofs.renewing.renew.Goals as goal

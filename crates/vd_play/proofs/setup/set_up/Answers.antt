@@ -2,7 +2,6 @@ use Rattle.std.proofs.Common.{◌≡◌, ℕ, ◌+◌, ◌-◌, Bool, true, fals
 use Rattle.std.proofs.lemmas.Bool.{false≢true}
 use Rattle.vd_model.specs.declared.base.Mode.{Mode}
 use Rattle.vd_machine.specs.File.{view, Plan}
-use Rattle.vd_play.specs.Epochs.{renewed_at}
 use Rattle.vd_play.specs.Setup.{IsUp}
 use Rattle.vd_play.proofs.setup.set_up.Goals as goal
 use Rattle.vd_play.proofs.setup.set_up.Goals.{then-epoch-eq0, else-epoch-eq0}
